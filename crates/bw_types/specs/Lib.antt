@@ -1,0 +1,11 @@
+pub mod Tally
+pub mod Fits
+pub mod Meets
+pub mod Integral
+pub mod Mass
+pub mod History
+pub mod Lives
+pub mod Refusals
+pub mod Answers
+pub mod Lawful
+pub mod Worked
