@@ -1,0 +1,11 @@
+pub mod Contents
+mod PlainLines
+mod QuotedParts
+mod CsvReads
+mod GivenValues
+pub mod BufferLemmas
+pub mod CalmLemmas
+pub mod LinesLemmas
+pub mod ReaderLemmas
+pub mod SearchLemmas
+pub mod SkipLemmas

@@ -1,0 +1,12 @@
+pub mod Fields
+pub mod Numbers
+pub mod Words
+pub mod Replies
+pub mod Input
+pub mod Lines
+pub mod Machine
+pub mod Worked
+pub mod WorkedLines
+pub mod Intake
+pub mod Reader
+pub mod Skip

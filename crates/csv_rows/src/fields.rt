@@ -1,0 +1,155 @@
+// A line cut into its fields.
+
+ghost use Rattle.std.specs.Prelude.{◌≡◌, ◌∷◌, [], IfOk, Some, List, ℕ, is_some, length, option_map, slice_get};
+ghost use Rattle.csv.specs.Machine.{next_record};
+ghost use Rattle.csv.specs.Reading.{default_config, strip_bom};
+ghost use Rattle.csv.specs.Records.{fields_of};
+ghost use Rattle.csv.specs.declared.parser.State.TheVariants as st;
+ghost use Rattle.csv_rows.specs.Fields.{content_of, contents_of, field_at, holds_line_end, line_fields, parts_of};
+
+use csv::{ByteRecord, ReaderBuilder};
+use std::alloc::{AllocError, Global};
+use std::io::Read;
+use std::marker::Model;
+
+/// Memory ran out.
+#[derive(Clone, Copy, Debug, PartialEq, Eq)]
+pub struct NoMemory;
+
+impl From<AllocError> for NoMemory {
+    fn from(_error: AllocError) -> NoMemory {
+        NoMemory
+    }
+}
+
+/// The fields of a line, in their order: contracts see the list of their contents.
+#[derive(Drop)]
+pub struct Fields {
+    // An empty field, and then the fields of the line.
+    record: ByteRecord,
+}
+
+impl Model for Fields {
+    ghost use Rattle.std.specs.Prelude.{List, ℕ, drop};
+    ghost use Rattle.csv.specs.Records.{fields_of};
+
+    ghost Value = { List (List ℕ) };
+
+    ghost view = { λ inside. drop 1 (fields_of inside.record) };
+}
+
+impl Fields {
+    /// How many fields there are.
+    pub fn len(&self) -> usize
+        ensures { result ≡ length self.now }
+    {
+        self.record.len().saturating_sub(1)
+    }
+
+    /// The content of the field at a place, counted from 0, without the quotes round it. None
+    /// past the last field.
+    pub fn get(&self, place: usize) -> Option<&[u8]>
+        ensures { option_map (λ field. field.now) result ≡ slice_get self.now place }
+    {
+        if place < self.len() {
+            self.record.get(place + 1)
+        } else {
+            None
+        }
+    }
+
+    /// The content of the field at a place, counted from 0, and no byte past the last field.
+    pub fn at(&self, place: usize) -> &[u8]
+        ensures { result.now ≡ field_at self.now place }
+    {
+        self.get(place).unwrap_or(&[])
+    }
+}
+
+// Whether a part of a line, between two commas, has a content.
+fn is_field(part: &[u8]) -> bool
+    ensures { result ≡ is_some (content_of part.now) }
+{
+    if !part.contains(&b'"') {
+        return true;
+    }
+    match part {
+        [b'"', inner @ .., b'"'] => !inner.contains(&b'"'),
+        _ => false,
+    }
+}
+
+// Whether a line holds a line feed or a carriage return.
+fn has_line_end(line: &[u8]) -> bool
+    ensures { result ≡ holds_line_end line.now }
+{
+    line.iter().any(|byte| *byte == b'\n' || *byte == b'\r')
+}
+
+// Whether each part of a line has a content.
+fn has_only_fields(line: &[u8]) -> bool
+    ensures { result ≡ is_some (contents_of (parts_of line.now)) }
+{
+    line.split(|byte| *byte == b',').all(is_field)
+}
+
+// The parts of a line after an empty field.
+fn plain_record(alloc: Global, line: &[u8]) -> Result<ByteRecord, NoMemory>
+    ensures { IfOk result (λ row. fields_of row ≡ [] ∷ parts_of line.now) }
+{
+    let mut record = ByteRecord::with_capacity(alloc, line.len(), 16)?;
+    record.push_field(&[])?;
+    for part in line.split(|byte| *byte == b',') {
+        record.push_field(part)?;
+    }
+    Ok(record)
+}
+
+// What `csv` reads first of a comma and then the line. The comma keeps it from taking a byte order
+// mark off the line, and makes an empty line a record.
+fn first_record(alloc: Global, line: &[u8]) -> Result<Option<ByteRecord>, csv::Error>
+    ensures { IfOk result (λ found. option_map fields_of found
+        ≡ option_map (λ read. read.0) (next_record default_config st.StartRecord [] [] (strip_bom (44 ∷ line.now)))) }
+{
+    let mut reader = ReaderBuilder::new()
+        .has_headers(false)
+        .from_reader(alloc, b",".as_slice().chain(line));
+    let mut record = ByteRecord::new(alloc);
+    if reader.read_byte_record(&mut record)? {
+        Ok(Some(record))
+    } else {
+        Ok(None)
+    }
+}
+
+// An empty field and then the fields of a line that has fields, as `csv` reads them. It fails for
+// want of memory alone: a slice is read without errors, and no other record is there to differ in
+// length.
+fn quoted_record(alloc: Global, line: &[u8]) -> Result<ByteRecord, NoMemory>
+    ensures { IfOk result (λ row. (contents : List (List ℕ)) → line_fields line.now ≡ Some contents → fields_of row ≡ [] ∷ contents) }
+{
+    match first_record(alloc, line) {
+        Ok(Some(record)) => Ok(record),
+        _ => Err(NoMemory),
+    }
+}
+
+/// Cuts a line into its fields. None exactly where it has none: where it holds a line feed or a
+/// carriage return, or where a part of it holds a double quote and is not in double quotes as a
+/// whole.
+pub fn cut(alloc: Global, line: &[u8]) -> Result<Option<Fields>, NoMemory>
+    ensures { IfOk result (λ fields. fields ≡ line_fields line.now) }
+{
+    if has_line_end(line) {
+        return Ok(None);
+    }
+    if !line.contains(&b'"') {
+        let record = plain_record(alloc, line)?;
+        return Ok(Some(Fields { record }));
+    }
+    if !has_only_fields(line) {
+        return Ok(None);
+    }
+    let record = quoted_record(alloc, line)?;
+    Ok(Some(Fields { record }))
+}
