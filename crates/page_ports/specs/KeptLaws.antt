@@ -1,0 +1,53 @@
+-- What a change of the list does to its map.
+use Rattle.std.specs.Prelude.{◌≡◌, ℕ, ◌+◌, ◌-◌, ◌<◌, ◌≤◌, ◌==◌, nat_le, true, false, List, [], ◌∷◌, ◌++◌, length, Option, Some, None, IsSome, refl}
+use Rattle.std.proofs.Common.{sym, ◌∙◌, subst, inl, inr, arith}
+use Rattle.std.proofs.Math.Path.{fun_ext}
+use Rattle.std.proofs.lemmas.Bool.{cases_lt, cases_eq, eq-eqb, ne_eqb, le-leb, lt-leb}
+use Rattle.std.proofs.lemmas.List.{get_or_past, get_or_append_left, get_or_push, length_push}
+use Rattle.page_ports.specs.Pages.{put_page}
+use Rattle.page_ports.specs.Kept.{map_of}
+
+-- A page that is in the map has a place in the list.
+map_of-place : (kept : List (Option (List ℕ))) (page : ℕ) → IsSome (map_of kept page) → (3 ≤ page) × (page - 3 < length kept)
+map_of-place kept page h = elim (cases_lt page 3) [
+  | inl low ↦ let below : nat_le 3 page ≡ false = lt-leb _ _ low in
+      let none : map_of kept page ≡ None = rw below refl in
+      absurd (let h' : IsSome {T = List ℕ} None = subst (λ o. IsSome o) none h in cc)
+  | inr high ↦ elim (cases_lt (page - 3) (length kept)) [
+    | inl within ↦ (high, within)
+    | inr past ↦ let above : nat_le 3 page ≡ true = le-leb _ _ high in
+        let none : map_of kept page ≡ None = rw above (get_or_past kept (page - 3) None past) in
+        absurd (let h' : IsSome {T = List ℕ} None = subst (λ o. IsSome o) none h in cc)
+  ]
+]
+
+pub map_of-below : (kept : List (Option (List ℕ))) (page : ℕ) (bytes : List ℕ) → map_of kept page ≡ Some bytes → page < 3 + length kept
+map_of-below kept page bytes there =
+    let place = map_of-place kept page (subst (λ o. IsSome o) (sym there) refl) in
+    omega arith
+
+pub map_of-end : (kept : List (Option (List ℕ))) → map_of kept (3 + length kept) ≡ None
+map_of-end kept =
+    let above : nat_le 3 (3 + length kept) ≡ true = le-leb _ _ (omega arith) in
+    rw above (get_or_past kept (3 + length kept - 3) None (omega arith))
+
+-- One more page at the list's end.
+pub map_of-push : (kept : List (Option (List ℕ))) (bytes : List ℕ)
+    → map_of (kept ++ Some bytes ∷ []) ≡ put_page (map_of kept) (3 + length kept) bytes
+map_of-push kept bytes = fun_ext (λ page. elim (cases_lt page 3) [
+  | inl low ↦ let below : nat_le 3 page ≡ false = lt-leb _ _ low in
+      let other : (3 + length kept == page) ≡ false = ne_eqb _ _ (λ e. omega arith) in
+      rw (below, other) refl
+  | inr high ↦ let above : nat_le 3 page ≡ true = le-leb _ _ high in
+      elim (cases_lt (page - 3) (length kept)) [
+        | inl within ↦ let other : (3 + length kept == page) ≡ false = ne_eqb _ _ (λ e. omega arith) in
+            rw (above, other) (get_or_append_left kept (Some bytes ∷ []) None (page - 3) within)
+        | inr past ↦ elim (cases_eq (3 + length kept) page) [
+          | inl same ↦ let named : (3 + length kept == page) ≡ true = eq-eqb _ _ same in
+              rw (above, named) (get_or_push kept (Some bytes) None (page - 3) (omega arith))
+          | inr differs ↦ let other : (3 + length kept == page) ≡ false = ne_eqb _ _ differs in
+              let far : length (kept ++ Some bytes ∷ []) ≤ page - 3 = rw length_push (omega arith) in
+              rw (above, other) (get_or_past _ (page - 3) None far ∙ sym (get_or_past kept (page - 3) None past))
+        ]
+      ]
+])

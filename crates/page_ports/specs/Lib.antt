@@ -1,0 +1,6 @@
+pub mod Frame
+pub mod FrameLaws
+pub mod Kept
+pub mod KeptLaws
+pub mod MemStage
+pub mod Pages

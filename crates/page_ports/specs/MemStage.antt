@@ -1,0 +1,17 @@
+-- What a `MemStage` shows.
+use Rattle.std.specs.Prelude.{ℕ, ◌+◌, length}
+use Rattle.page_ports.specs.Pages.{PageMap}
+use Rattle.page_ports.specs.Kept.{map_of}
+use Rattle.page_ports.specs.declared.mem_stage.MemStage.{MemStage}
+
+abbrev pub page_map : MemStage → PageMap
+page_map stage = map_of stage.pages.items
+
+abbrev pub page_limit : MemStage → ℕ
+page_limit stage = stage.limit
+
+abbrev pub allotted_pages : MemStage → ℕ
+allotted_pages stage = 3 + length stage.pages.items
+
+abbrev pub get_count : MemStage → ℕ
+get_count stage = stage.gets

@@ -1,0 +1,25 @@
+-- Maps of pages, and the counts of a device.
+use Rattle.std.specs.Prelude.{ℕ, ◌+◌, ◌-◌, ◌^◌, ◌≤◌, min, ◌==◌, if◌then◌else◌, Option, Some, None, List, replicate}
+
+-- Which pages are there, and their 4096 bytes.
+abbrev pub PageMap : Type 0
+PageMap = ℕ → Option (List ℕ)
+
+-- the map with these bytes at this page
+abbrev pub put_page : PageMap → ℕ → List ℕ → PageMap
+put_page map page bytes = λ p. if page == p then Some bytes else map p
+
+-- the map without this page
+abbrev pub remove_page : PageMap → ℕ → PageMap
+remove_page map page = λ p. if page == p then None else map p
+
+abbrev pub empty_map : PageMap
+empty_map = λ _. None
+
+-- a page of zeros
+unfoldable pub blank_bytes : List ℕ
+blank_bytes = replicate 4096 0
+
+-- The count rose in this call, or stands at the last value of a `u64`.
+abbrev pub Rose : ℕ → ℕ → Type 0
+Rose old new = min (old + 1) (2 ^ 64 - 1) ≤ new

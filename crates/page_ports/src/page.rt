@@ -1,0 +1,39 @@
+//! The page and the refusals of calls on pages.
+ghost use Rattle.std.specs.Prelude.{◌≡◌};
+ghost use Rattle.page_ports.specs.Pages.{blank_bytes};
+
+/// A page: 4096 bytes.
+pub type Page = [u8; 4096];
+
+/// The first byte of a free page. No page that is in use begins with it.
+pub const FREE_PAGE: u8 = 9;
+
+/// A page of zeros.
+#[tactic(auto, unfolding(crate::specs::Pages::blank_bytes))]
+pub fn blank_page() -> Page
+    ensures { result ≡ blank_bytes }
+{
+    [0; 4096]
+}
+
+/// Why a page could not be read.
+#[derive(Clone, Copy, Debug, PartialEq, Eq)]
+pub enum PageFault {
+    /// The device failed. Comes only where the count of faults rose.
+    Disk,
+    /// This page is not in the map.
+    Damaged(u64),
+}
+
+/// Why a stage of changes refused a call.
+#[derive(Clone, Copy, Debug, PartialEq, Eq)]
+pub enum StageFault {
+    /// The device failed. Comes only where the count of faults rose.
+    Disk,
+    /// This page is not in the map, or is met where the free pages are not in order.
+    Damaged(u64),
+    /// As many pages are allotted as the limit allows: this number.
+    PageLimit(u64),
+    /// There was no memory.
+    NoMemory,
+}

@@ -1,0 +1,3 @@
+mod Powers
+mod Digits
+mod Capped

@@ -1,0 +1,6 @@
+mod Lists
+mod Changes
+mod Standings
+mod Judged
+mod Rows
+mod Lives

@@ -1,0 +1,4 @@
+pub mod Told
+pub mod Staged
+pub mod Standing
+pub mod Batch
