@@ -1,0 +1,141 @@
+-- What a change that was entered leaves, from what the map and the list became.
+use Rattle.std.proofs.Common.{◌≡◌, ℕ, ◌+◌, ◌<◌, ◌≤◌, Bool, true, false, ◌==◌, List, [], ◌∷◌, ◌++◌, Option, Some, length, set, take, drop, get_or, unwrap_or, refl, sym, ◌∙◌, ap, subst, arith, inl, inr, if◌then◌else◌, append_assoc}
+use Rattle.std.proofs.lemmas.Bool.{not-true, and_parts, and_from, cases_lt, le-leb, leb-true}
+use Rattle.std.proofs.lemmas.List.{append-nil, take_more, drop_more, take_all, length_push, take-append-le}
+use Rattle.std.proofs.lemmas.List.Concat.{flat_map-append}
+use Rattle.std.proofs.lemmas.Bool.Decides.{nat_tests}
+use Rattle.std.specs.List.{slice_get}
+use Rattle.std.specs.Ordering.{nat_cmp}
+use Rattle.std.specs.BTreeMap.{BTreeMap, get}
+use Rattle.bw_types.specs.History.{History, changes, last_version, live_of}
+use Rattle.bw_types.specs.declared.object.Object.{Object}
+use Rattle.bw_types.specs.declared.change.Change.{Change}
+use Rattle.bw_types.specs.declared.change.Change.TheVariants as change
+use Rattle.warehouse.specs.declared.life.Life.{Life}
+use Rattle.warehouse.specs.declared.life.State.{State}
+use Rattle.warehouse.specs.declared.life.State.TheVariants.{Never, Live, Withdrawn}
+use Rattle.warehouse.specs.Kept.{state_in, IsLedger, IsTold, may_follow, may_all_follow, are_dated, object_at, objects_at, is_live_at}
+use Rattle.warehouse.proofs.Ledger.{ledger_add, ledger_withdraw, place_of_live, open_at}
+
+unwrap_if : (b : Bool) (s : State) (o : Option State) → unwrap_or (if b then Some s else o) Never ≡ (if b then s else unwrap_or o Never)
+unwrap_if true s o = refl
+unwrap_if false s o = refl
+
+state_after : (m m' : BTreeMap ℕ State) (id : ℕ) (s : State) → ((q : ℕ) → get nat_cmp m' q ≡ (if id == q then Some s else get nat_cmp m q))
+    → (q : ℕ) → state_in m' q ≡ (if id == q then s else state_in m q)
+state_after m m' id s h q = ap (λ (o : Option State). unwrap_or o Never) (h q) ∙ unwrap_if (id == q) s (get nat_cmp m q)
+
+pub add_step : (h : History) (cs : List Change) (w : ℕ) (lives lives' : List Life) (m m' : BTreeMap ℕ State) (x : Change) (o : Object)
+    → x ≡ change.Add o → IsLedger h cs w lives (state_in m) → may_follow cs x ≡ true
+    → lives' ≡ lives ++ record { object = o; added = w; ended = 0 } ∷ []
+    → ((q : ℕ) → get nat_cmp m' q ≡ (if o.id == q then Some (Live (length lives)) else get nat_cmp m q))
+    → IsLedger h (cs ++ x ∷ []) w lives' (state_in m')
+add_step h cs w lives lives' m m' x o is ledger follows entered told =
+    let fresh = not-true _ (subst (λ (y : Change). may_follow cs y ≡ true) is follows) in
+    let after = ledger_add h cs w lives (state_in m) (state_in m') o ledger fresh (state_after m m' o.id (Live (length lives)) told) in
+    subst (λ (y : Change). IsLedger h (cs ++ y ∷ []) w lives' (state_in m')) (sym is)
+    (subst (λ (ls : List Life). IsLedger h (cs ++ change.Add o ∷ []) w ls (state_in m')) (sym entered) after)
+
+pub withdraw_step : (h : History) (cs : List Change) (w : ℕ) (lives lives' : List Life) (m m' : BTreeMap ℕ State) (x : Change) (id : ℕ)
+    → x ≡ change.Withdraw id → 0 < w → IsLedger h cs w lives (state_in m) → may_follow cs x ≡ true
+    → ((place : ℕ) (l : Life) → state_in m id ≡ Live place → slice_get lives place ≡ Some l → lives' ≡ set lives place (record l { ended = w }))
+    → ((place : ℕ) → state_in m id ≡ Live place → (q : ℕ) → get nat_cmp m' q ≡ (if id == q then Some Withdrawn else get nat_cmp m q))
+    → IsLedger h (cs ++ x ∷ []) w lives' (state_in m')
+withdraw_step h cs w lives lives' m m' x id is later ledger follows entered told =
+    let live = subst (λ (y : Change). may_follow cs y ≡ true) is follows in
+    let place = place_of_live h cs w lives (state_in m) ledger id live (state_in m id) refl in
+    let one = open_at h cs w lives (state_in m) ledger id place.0 place.1 in
+    let after = ledger_withdraw h cs w lives (state_in m) (state_in m') id place.0 one.0 (record one.0 { ended = w }) ledger later place.1 one.1.at refl (state_after m m' id Withdrawn (told place.0 place.1)) in
+    subst (λ (y : Change). IsLedger h (cs ++ y ∷ []) w lives' (state_in m')) (sym is)
+    (subst (λ (ls : List Life). IsLedger h (cs ++ change.Withdraw id ∷ []) w ls (state_in m')) (sym (entered place.0 one.0 place.1 one.1.at)) after)
+
+-- the next change may follow, and the others follow then
+pub follow_step : (past batch : List Change) (i : ℕ) (d : Change) → i < length batch → may_all_follow (past ++ take i batch) (drop i batch) ≡ true
+    → (may_follow (past ++ take i batch) (get_or batch i d) ≡ true) × (may_all_follow (past ++ take (i + 1) batch) (drop (i + 1) batch) ≡ true)
+follow_step past batch i d lt h =
+    let both = and_parts _ _ (subst (λ (rest : List Change). may_all_follow (past ++ take i batch) rest ≡ true) (drop_more batch i d lt) h) in
+    let joined : (past ++ take i batch) ++ get_or batch i d ∷ [] ≡ past ++ take (i + 1) batch =
+    append_assoc past (take i batch) (get_or batch i d ∷ []) ∙ ap (λ xs. past ++ xs) (sym (take_more batch i d lt)) in
+    (both.0, subst (λ (xs : List Change). may_all_follow xs (drop (i + 1) batch) ≡ true) joined both.1)
+
+pub ledger_step : (h : History) (past batch : List Change) (i : ℕ) (d : Change) (w : ℕ) (lives : List Life) (m : BTreeMap ℕ State) → i < length batch
+    → IsLedger h ((past ++ take i batch) ++ get_or batch i d ∷ []) w lives (state_in m) → IsLedger h (past ++ take (i + 1) batch) w lives (state_in m)
+ledger_step h past batch i d w lives m lt ledger =
+    let joined : (past ++ take i batch) ++ get_or batch i d ∷ [] ≡ past ++ take (i + 1) batch =
+    append_assoc past (take i batch) (get_or batch i d ∷ []) ∙ ap (λ xs. past ++ xs) (sym (take_more batch i d lt)) in
+    subst (λ (xs : List Change). IsLedger h xs w lives (state_in m)) joined ledger
+
+-- a batch begins: no life sees the next version yet
+later_version : (w : ℕ) (l : Life) → l.added ≤ w → l.ended ≤ w → is_live_at (w + 1) l ≡ is_live_at w l
+later_version w l begun past = grind (arith, nat_tests)
+
+objects_later : (w : ℕ) (lives : List Life) → are_dated w lives ≡ true → (objects_at (w + 1) lives ≡ objects_at w lives) × (are_dated (w + 1) lives ≡ true)
+objects_later w [] d = (refl, refl)
+objects_later w (l ∷ lives) d =
+    let both = and_parts _ _ d in
+    let own = and_parts _ _ both.0 in
+    let begun = leb-true l.added w own.0 in
+    let past = leb-true l.ended w own.1 in
+    let rest = objects_later w lives both.1 in (
+      ap (λ b. (if b then l.object ∷ [] else []) ++ objects_at (w + 1) lives) (later_version w l begun past) ∙ ap (λ os. object_at w l ++ os) rest.0,
+      and_from _ _ (and_from _ _ (le-leb l.added (w + 1) (omega arith)) (le-leb l.ended (w + 1) (omega arith))) rest.1,
+    )
+
+pub ledger_start : (h : History) (lives : List Life) (states : ℕ → State) → IsLedger h (changes h) (last_version h) lives states
+    → IsLedger h (changes h) (last_version h + 1) lives states
+ledger_start h lives states ledger =
+    let later = objects_later (last_version h) lives ledger.dated in
+    record {
+      dated = later.1;
+      now = later.0 ∙ ledger.now;
+      past = λ v before.
+          elim (cases_lt v (last_version h)) [
+            | inl lt ↦ ledger.past v lt
+            | inr ge ↦
+                let last : v ≡ last_version h = omega arith in
+                rw last (ledger.now ∙ ap (λ hs. live_of (changes hs)) (sym (take_all (last_version h) h (omega arith))))
+          ];
+      open_lives = ledger.open_lives;
+      told = ledger.told;
+    }
+
+pub changes-push : (h : History) (batch : List Change) → changes (h ++ batch ∷ []) ≡ changes h ++ batch
+changes-push h batch = flat_map-append (λ b. b) h (batch ∷ []) ∙ ap (λ xs. changes h ++ xs) (append-nil batch)
+
+-- a batch is complete
+pub ledger_end : (h : History) (batch : List Change) (lives : List Life) (states : ℕ → State) → IsLedger h (changes h ++ batch) (last_version h + 1) lives states
+    → IsLedger (h ++ batch ∷ []) (changes (h ++ batch ∷ [])) (last_version (h ++ batch ∷ [])) lives states
+ledger_end h batch lives states ledger =
+    let more : last_version (h ++ batch ∷ []) ≡ last_version h + 1 = length_push h batch in
+    record {
+      dated = subst (λ (w : ℕ). are_dated w lives ≡ true) (sym more) ledger.dated;
+      now = subst (λ (w : ℕ). objects_at w lives ≡ live_of (changes (h ++ batch ∷ []))) (sym more) (ledger.now ∙ ap live_of (sym (changes-push h batch)));
+      past = λ v before. ledger.past v (omega arith) ∙ ap (λ hs. live_of (changes hs)) (sym (take-append-le v h (batch ∷ []) (omega arith)));
+      open_lives = ledger.open_lives;
+      told = λ id. subst (λ (cs : List Change). IsTold (states id) id cs lives) (sym (changes-push h batch)) (ledger.told id);
+    }
+
+-- states that tell the same
+pub ledger_same : (h : History) (cs : List Change) (w : ℕ) (lives : List Life) (states states' : ℕ → State) → ((q : ℕ) → states' q ≡ states q)
+    → IsLedger h cs w lives states → IsLedger h cs w lives states'
+ledger_same h cs w lives states states' same ledger = record {
+  dated = ledger.dated;
+  now = ledger.now;
+  past = ledger.past;
+  open_lives = λ place l at lasts. same l.object.id ∙ ledger.open_lives place l at lasts;
+  told = λ id. subst (λ (s : State). IsTold s id cs lives) (sym (same id)) (ledger.told id);
+}
+
+-- a whole batch, over lives and states that were made ready for it
+pub batch_entered : (h : History) (batch given : List Change) (w : ℕ) (before ready after : List Life) (m n o : BTreeMap ℕ State)
+    → IsLedger h (changes h) (last_version h) before (state_in m) → ready ≡ before → ((q : ℕ) → state_in n q ≡ state_in m q) → w ≡ last_version h + 1 → given ≡ batch
+    → may_all_follow (changes h) batch ≡ true
+    → ((k : History) → IsLedger k (changes k) w ready (state_in n) → may_all_follow (changes k) given ≡ true → IsLedger k (changes k ++ given) w after (state_in o))
+    → IsLedger h (changes h ++ batch) (last_version h + 1) after (state_in o)
+batch_entered h batch given w before ready after m n o ledger same told version is follow enter =
+    let started = ledger_same h (changes h) (last_version h + 1) before (state_in m) (state_in n) told (ledger_start h before (state_in m) ledger) in
+    let at = subst (λ (v : ℕ). IsLedger h (changes h) v before (state_in n)) (sym version) started in
+    let over = subst (λ (ls : List Life). IsLedger h (changes h) w ls (state_in n)) (sym same) at in
+    let done = enter h over (subst (λ (xs : List Change). may_all_follow (changes h) xs ≡ true) (sym is) follow) in
+    subst (λ (xs : List Change). IsLedger h (changes h ++ xs) (last_version h + 1) after (state_in o)) is
+    (subst (λ (v : ℕ). IsLedger h (changes h ++ given) v after (state_in o)) version done)

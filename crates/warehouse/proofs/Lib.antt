@@ -1,0 +1,12 @@
+pub mod Below
+pub mod Digits
+pub mod Sizes
+pub mod Wrapped
+pub mod Sums
+pub mod Bounds
+pub mod StandingLemmas
+pub mod LiveOf
+pub mod Ledger
+pub mod Entered
+pub mod Judged
+pub mod ToldLemmas

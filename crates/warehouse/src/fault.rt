@@ -1,0 +1,29 @@
+ghost use Rattle.std.specs.Prelude.{◌≡◌};
+ghost use Rattle.warehouse.specs.declared.fault.ListFault.TheVariants.{NoMemory};
+
+use bw_types::Refusal;
+use std::alloc::AllocError;
+
+/// Why a batch was not committed. The warehouse is as it was before.
+#[derive(Clone, Copy, PartialEq, Eq, Debug)]
+pub enum ListFault {
+    /// The batch breaks a rule: this is its first refusal.
+    Refused(Refusal),
+    /// Memory ran out.
+    NoMemory,
+}
+
+/// The version that was asked for is above the last one.
+#[derive(Clone, Copy, PartialEq, Eq, Debug)]
+pub struct NoVersion {
+    /// The number of the last version.
+    pub last: u32,
+}
+
+impl From<AllocError> for ListFault {
+    ghost from_gives = { λ _ fault. fault ≡ NoMemory };
+
+    fn from(_: AllocError) -> ListFault {
+        ListFault::NoMemory
+    }
+}

@@ -1,0 +1,152 @@
+use crate::apply::enter_all;
+use crate::life::{Life, State};
+use crate::masses::mass_after;
+use crate::prepare::{flat, prepare};
+use crate::seen::SeenStates;
+use crate::totals::{count_total, integral_total, weight_total};
+use crate::{ListFault, NoVersion};
+use bw_types::{Change, Kind, Params, Query, Refusal, Row};
+use session_book::first_refusal;
+use std::alloc::Global;
+use std::collections::BTreeMap;
+use std::marker::Model;
+
+/// A warehouse in memory.
+#[derive(Drop)]
+pub struct ListHouse {
+    alloc: Global,
+    params: Params,
+    // The history.
+    batches: Vec<Vec<Change>>,
+    // All lives of all ids, in order of adding.
+    lives: Vec<Life>,
+    // An id that is not in the map was never added.
+    states: BTreeMap<u64, State>,
+    // The masses of all objects ever added.
+    mass: u128,
+    // The adds, the withdrawals and the batches.
+    events: u32,
+}
+
+impl Model for ListHouse {
+    ghost use Rattle.warehouse.specs.ListState.{ListState};
+
+    ghost Value = { ListState };
+
+    ghost use Rattle.warehouse.specs.Standing.{state_of, IsStanding};
+
+    ghost view = { state_of };
+
+    ghost invariant = { IsStanding };
+}
+
+impl ListHouse {
+    ghost use Rattle.std.specs.Prelude.{◌≡◌, ◌+◌, ◌<◌, ◌≤◌, None, [], ◌∷◌, ◌++◌, IsTrue, IfOk, IfErr, OnErr, MatchResult};
+    ghost use Rattle.std.specs.List.{list_all};
+    ghost use Rattle.bw_types.specs.Answers.{answer};
+    ghost use Rattle.bw_types.specs.Fits.{IsInRange, row_fits, query_fits};
+    ghost use Rattle.bw_types.specs.History.{flat, last_version};
+    ghost use Rattle.bw_types.specs.Refusals.{first_refusal};
+    ghost use Rattle.warehouse.specs.Accepted.{MayBePut};
+    ghost use Rattle.warehouse.specs.Causes.{IsCausedBy};
+
+    /// An empty warehouse for these params. It takes no memory.
+    pub fn new(alloc: Global, params: &Params) -> ListHouse
+        requires { IsInRange params.now }
+        ensures { result ≡ record { params = params.now; history = [] } }
+    {
+        ListHouse {
+            alloc,
+            params: *params,
+            batches: Vec::new(alloc),
+            lives: Vec::new(alloc),
+            states: BTreeMap::new(alloc),
+            mass: 0,
+            events: 0,
+        }
+    }
+
+    /// The number of the last version; 0 before the first commit.
+    pub fn last(&self) -> u32
+        ensures { result ≡ last_version self.now.history }
+    {
+        self.batches.len() as u32
+    }
+
+    /// Puts the batch of rows last in the history and answers its version, or gives its first refusal.
+    ///
+    /// Rows are taken in order, a move as a withdrawal and then an add. `Refused` comes exactly where
+    /// the batch has a first refusal. After `Refused` and after `NoMemory` all is as before.
+    pub fn commit(&mut self, rows: &[Row]) -> Result<u32, ListFault>
+        requires { IsTrue (list_all (row_fits self.old.params) rows.now) }
+        ensures accepted { IfOk result (λ version. (first_refusal self.old.params self.old.history rows.now ≡ None) × (version ≡ last_version self.old.history + 1)
+            × (self.new ≡ record { params = self.old.params; history = self.old.history ++ flat rows.now ∷ [] })) }
+        ensures refused { IfErr result (IsCausedBy (first_refusal self.old.params self.old.history rows.now)) }
+        ensures unchanged { OnErr result (self.new ≡ self.old) }
+        ensures params { self.new.params ≡ self.old.params }
+    {
+        if let Some(refusal) = self.first_refusal(rows)? {
+            return Err(ListFault::Refused(refusal));
+        }
+        let batch = flat(self.alloc, rows)?;
+        self.put(batch)
+    }
+
+    /// What the query answers at the version, or `NoVersion` exactly where that is above the last one.
+    /// It takes no memory.
+    pub fn query(&self, query: &Query, version: u32) -> Result<i128, NoVersion>
+        requires { IsTrue (query_fits self.now.params query.now) }
+        ensures { MatchResult result (λ x. (version ≤ last_version self.now.history) × (x ≡ answer self.now.params self.now.history version query.now))
+            (λ e. (last_version self.now.history < version) × (e.last ≡ last_version self.now.history)) }
+    {
+        let last = self.last();
+        if last < version {
+            return Err(NoVersion { last });
+        }
+        let dims = self.params.dims;
+        match query.kind {
+            Kind::Sum => Ok(weight_total(&self.lives, dims, query, version)),
+            Kind::Count => Ok(count_total(&self.lives, dims, query, version)),
+            Kind::Integral => Ok(integral_total(&self.lives, &self.params, query, version)),
+        }
+    }
+
+    fn first_refusal(&self, rows: &[Row]) -> Result<Option<Refusal>, ListFault>
+        requires { IsTrue (list_all (row_fits self.now.params) rows.now) }
+        ensures ok { IfOk result (λ refusal. refusal ≡ first_refusal self.now.params self.now.history rows.now) }
+        ensures err { IfErr result (λ e. e ≡ ListFault.NoMemory) }
+    {
+        let mut seen = SeenStates {
+            states: &self.states,
+        };
+        match first_refusal(
+            self.alloc,
+            &mut seen,
+            &self.params,
+            self.events,
+            self.mass,
+            rows,
+        ) {
+            Ok(refusal) => Ok(refusal),
+            Err(_) => Err(ListFault::NoMemory),
+        }
+    }
+
+    // Puts a batch last that no rule refuses. All memory is taken first, so that it is put whole or
+    // not at all.
+    fn put(&mut self, batch: Vec<Change>) -> Result<u32, ListFault>
+        requires { MayBePut self.old.params self.old.history batch.items }
+        ensures ok { IfOk result (λ version. (version ≡ last_version self.old.history + 1)
+            × (self.new ≡ record { params = self.old.params; history = self.old.history ++ batch.items ∷ [] })) }
+        ensures err { IfErr result (λ e. e ≡ ListFault.NoMemory) }
+        ensures unchanged { OnErr result (self.new ≡ self.old) }
+    {
+        prepare(&mut self.batches, &mut self.lives, &mut self.states, &batch)?;
+        let version = self.batches.len() as u32 + 1;
+        self.mass = mass_after(self.mass, &self.params, &batch);
+        self.events += batch.len() as u32 + 1;
+        enter_all(&mut self.lives, &mut self.states, &batch, version);
+        let _ = self.batches.push(batch);
+        Ok(version)
+    }
+}
