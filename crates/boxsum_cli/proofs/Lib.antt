@@ -1,0 +1,10 @@
+pub mod Ending
+pub mod Going
+pub mod Parts
+pub mod Replies
+pub mod Scratch
+pub mod Served
+pub mod Staged
+pub mod WordsGathered
+pub mod WordsLemmas
+pub mod WordsReadBack

@@ -1,0 +1,364 @@
+// Worked runs: whole inputs with what is written for them, and faults in mid-stream.
+
+ghost use Rattle.std.specs.Prelude.{◌<◌};
+
+use crate::run::run;
+use crate::status::Status;
+use byte_ports::{MemSink, MemSource};
+use std::alloc::Global;
+use std::test::Fail;
+
+// What a run is tried on: what it shows, the words, the input, and the text that is written.
+struct Case {
+    shows: &'static str,
+    words: &'static str,
+    input: &'static str,
+    text: &'static str,
+}
+
+const CASES: [Case; 26] = [
+    Case {
+        shows: "touching boxes",
+        words: "scratch 1",
+        input: "add,1,1,2,5,10\nadd,1,2,5,9,7\ncommit,1\nsum,1,5,5\n",
+        text: "version,1\nsum,1,17\n",
+    },
+    Case {
+        shows: "one box alone, none, and a query that begins at 0",
+        words: "scratch 1",
+        input: "add,1,1,2,5,10\nadd,1,2,5,9,7\ncommit,1\nsum,now,6,6\nsum,now,0,1\nsum,now,0,5\n",
+        text: "version,1\nsum,1,7\nsum,1,0\nsum,1,17\n",
+    },
+    Case {
+        shows: "a withdrawal leaves past versions",
+        words: "scratch 1",
+        input: "add,1,1,2,5,10\nadd,1,2,5,9,7\ncommit,1\nwithdraw,1,1\ncommit,1\nsum,1,5,5\nsum,2,5,5\ncount,2,0,9\nsum,0,0,4294967294\nsum,9,0,1\n",
+        text: "version,1\nversion,2\nsum,1,17\nsum,2,7\ncount,2,1\nsum,0,0\nnoversion,10\n",
+    },
+    Case {
+        shows: "an empty input",
+        words: "scratch 1",
+        input: "",
+        text: "",
+    },
+    Case {
+        shows: "an empty batch",
+        words: "scratch 1",
+        input: "commit,1\n",
+        text: "version,1\n",
+    },
+    Case {
+        shows: "bad lines, and none of them counts",
+        words: "scratch 1",
+        input: "add,1,1,6,5,1\nadd,1,1,0,4294967295,1\n\ntotal,1\nadd,17,1,0,1,1\nintegral,now,0,1\ncommit,1\ncount,now,0,4294967294\n",
+        text: "bad,1\nbad,2\nbad,3\nbad,4\nbad,5\nbad,6\nversion,1\ncount,1,0\n",
+    },
+    Case {
+        shows: "an integral of a square",
+        words: "scratch 1 --degree 2",
+        input: "add,1,1,0,3,1,0,0,1\ncommit,1\nintegral,now,1,2\n",
+        text: "version,1\nintegral,1,14\n",
+    },
+    Case {
+        shows: "an integral in two dimensions",
+        words: "scratch 2 --degree=1",
+        input: "add,1,1,0,2,0,2,1,0,0,0,1\ncommit,1\nintegral,now,1,2,0,1\n",
+        text: "version,1\nintegral,1,27\n",
+    },
+    Case {
+        shows: "terms past 128 bits that cancel",
+        words: "scratch 3 --degree 2",
+        input: "add,1,1,0,1,0,1,0,1,1,0,0,0,0,0,0,0,0,0,0,0,0,0,0,0,0,0,0,0,0,0,0,0,0,0,0,1\ncommit,1\nintegral,now,0,4294967294,0,4294967294,0,4294967294\n",
+        text: "version,1\nintegral,1,8\n",
+    },
+    Case {
+        shows: "a mass of one object that is too great",
+        words: "scratch 3 --degree 2",
+        input: "add,1,1,0,4294967294,0,4294967294,0,4294967294,1,0,0,0,0,0,0,0,0,0,0,0,0,0,0,0,0,0,0,0,0,0,0,0,0,0,0,1\ncommit,1\n",
+        text: "refused,1,mass\n",
+    },
+    Case {
+        shows: "masses up to the limit",
+        words: "scratch 1 --degree 2",
+        input: "add,1,1,0,2147483648,0,0,0,4294967295\nadd,1,2,0,1048576,0,0,0,8589934591\nadd,1,3,0,1,0,0,1,1152921504606846974\ncommit,1\nadd,1,4,0,1,0,0,0,1\ncommit,1\n",
+        text: "version,1\nrefused,1,mass\n",
+    },
+    Case {
+        shows: "masses that reach the limit exactly",
+        words: "scratch 1 --degree 2",
+        input: "add,1,1,0,2147483648,0,0,0,4294967295\nadd,1,2,0,1048576,0,0,0,8589934591\nadd,1,3,0,1,0,0,0,1152921504606846975\ncommit,1\nadd,1,4,0,1,0,0,0,1\ncommit,1\n",
+        text: "version,1\nrefused,1,mass\n",
+    },
+    Case {
+        shows: "each refusal of ids",
+        words: "scratch 1",
+        input: "add,1,1,0,9,5\ncommit,1\nadd,1,2,0,9,1\nadd,1,1,3,4,1\ncommit,1\nsum,now,0,9\nadd,1,3,0,1,1\nwithdraw,1,3\ncommit,1\nwithdraw,1,8\ncommit,1\nwithdraw,1,1\ncommit,1\nwithdraw,1,1\ncommit,1\nadd,1,1,0,9,5\ncommit,1\n",
+        text: "version,1\nrefused,2,used\nsum,1,5\nrefused,2,fresh\nrefused,1,unknown\nversion,2\nrefused,1,gone\nversion,3\n",
+    },
+    Case {
+        shows: "the limit on events",
+        words: "scratch 1 --events 3",
+        input: "add,1,1,0,1,1\ncommit,1\nadd,1,2,0,1,1\ncommit,1\ncommit,1\ncommit,1\n",
+        text: "version,1\nrefused,0,events\nversion,2\nrefused,0,events\n",
+    },
+    Case {
+        shows: "a move is two events",
+        words: "scratch 1 --events 4",
+        input: "add,1,1,0,1,1\ncommit,1\nmove,1,1,0,1,1\ncommit,1\n",
+        text: "version,1\nrefused,0,events\n",
+    },
+    Case {
+        shows: "sessions do not see each other",
+        words: "scratch 1",
+        input: "add,1,1,0,9,5\nadd,2,1,0,9,6\nsum,now,0,9\ncommit,1\nsum,now,0,9\ncommit,2\nsum,now,0,9\n",
+        text: "sum,0,0\nversion,1\nsum,1,5\nrefused,1,used\nsum,1,5\n",
+    },
+    Case {
+        shows: "quotes and carriage returns",
+        words: "scratch 2 --degree 0",
+        input: "\"add\",1,\"501\",100,149,200,259,1,7\r\n\"commit\",1\r\n\"integral\",now,120,139,190,209\r\nsum,now,120,139,190,209",
+        text: "version,1\nintegral,1,43092\nsum,1,1\n",
+    },
+    Case {
+        shows: "a drop forgets",
+        words: "scratch 1",
+        input: "add,2,1,0,1,1\ndrop,2\ncommit,2\ndrop,0016\n",
+        text: "dropped,2\nversion,1\ndropped,16\n",
+    },
+    Case {
+        shows: "an id twice in one batch",
+        words: "scratch 1",
+        input: "add,1,7,0,1,1\nadd,1,7,0,1,1\ncommit,1\nsum,now,0,9\n",
+        text: "refused,2,used\nsum,0,0\n",
+    },
+    Case {
+        shows: "signed coordinates",
+        words: "scratch 1 --degree 2 --signed 1",
+        input: "add,1,1,-3,2,5,0,1,0\ncommit,1\nintegral,now,-2,1\nsum,now,-9,-3\nsum,now,-9,-4\n",
+        text: "version,1\nintegral,1,-9\nsum,1,5\nsum,1,0\n",
+    },
+    Case {
+        shows: "the ends of signed coordinates",
+        words: "scratch 1 --signed 1",
+        input: "add,1,1,-2147483647,2147483646,1\nadd,1,2,-2147483648,0,1\nadd,1,3,0,2147483647,1\ncommit,1\nsum,now,-2147483647,-2147483647\nsum,now,2147483646,2147483646\n",
+        text: "bad,2\nbad,3\nversion,1\nsum,1,1\nsum,1,1\n",
+    },
+    Case {
+        shows: "no sign in a plain warehouse",
+        words: "scratch 1",
+        input: "add,1,1,-1,1,1\n",
+        text: "bad,1\n",
+    },
+    Case {
+        shows: "a move, a withdrawal and a new life",
+        words: "scratch 1",
+        input: "add,1,1,0,9,5\ncommit,1\nmove,1,1,20,29,5\ncommit,1\nwithdraw,1,1\ncommit,1\nadd,1,1,0,9,7\ncommit,1\nsum,1,0,9\nsum,2,0,9\nsum,2,25,25\nsum,3,0,99\nsum,4,0,9\nwithdraw,1,1\nadd,1,1,0,1,3\nwithdraw,1,1\ncommit,1\nmove,1,2,0,1,1\ncommit,1\nwithdraw,1,1\nadd,1,1,0,1,3\ncommit,1\nsum,now,0,9\n",
+        text: "version,1\nversion,2\nversion,3\nversion,4\nsum,1,5\nsum,2,0\nsum,2,5\nsum,3,0\nsum,4,7\nrefused,3,fresh\nrefused,1,unknown\nversion,5\nsum,5,3\n",
+    },
+    Case {
+        shows: "boxes in three dimensions that touch at a corner",
+        words: "scratch 3",
+        input: "add,1,1,0,2,0,2,0,2,4\nadd,1,2,2,4,2,4,2,4,5\ncommit,1\nsum,now,2,2,2,2,2,2\nsum,now,3,9,0,9,0,9\ncount,now,0,1,0,1,3,9\n",
+        text: "version,1\nsum,1,9\nsum,1,5\ncount,1,0\n",
+    },
+    Case {
+        shows: "too few fields and no line end",
+        words: "scratch 1",
+        input: "add,1,1,2",
+        text: "bad,1\n",
+    },
+    Case {
+        shows: "bytes that are no text of the grammar",
+        words: "scratch 1",
+        input: "\u{feff}commit,1\n\0\nadd,1,\u{e9},0,1,1\nadd,1,1,0,1,1\rX\ncommit,1\n\r",
+        text: "bad,1\nbad,2\nbad,3\nbad,4\nversion,1\nbad,6\n",
+    },
+];
+
+// Words that are refused: none, unknown ones, values out of range, and commands that are not built.
+const REFUSED_WORDS: [&str; 13] = [
+    "",
+    "--help",
+    "scratch",
+    "scratch 4",
+    "scratch 1 1",
+    "scratch 2 --degree 3",
+    "scratch 1 --degree",
+    "scratch 1 --pages 8",
+    "create",
+    "create 4",
+    "create 1",
+    "create 2 --degree 3",
+    "run x",
+];
+
+// Runs the words on an input that comes in pieces and may fail at a take, with a sink that may fail
+// at a put, both counted from 1. What is written is left in the sink.
+fn run_on(
+    alloc: Global,
+    words: &str,
+    input: &[u8],
+    piece: usize,
+    failing_take: Option<u64>,
+    failing_put: Option<u64>,
+) -> Result<(Status, MemSink), Fail>
+    requires { 0 < piece }
+{
+    let mut list = Vec::new(alloc);
+    for word in words.split_whitespace() {
+        list.push(String::from_str(alloc, word)?)?;
+    }
+    let mut takes = Vec::new(alloc);
+    if let Some(call) = failing_take {
+        takes.push(call)?;
+    }
+    let mut puts = Vec::new(alloc);
+    if let Some(call) = failing_put {
+        puts.push(call)?;
+    }
+    let mut source = MemSource::new(Vec::from_slice(alloc, input)?, piece, takes);
+    let mut sink = MemSink::new(alloc, puts);
+    let status = run(alloc, list.as_slice(), &mut source, &mut sink);
+    Ok((status, sink))
+}
+
+#[test]
+fn whole_inputs(rt: HostRuntime) -> Result<(), Fail> {
+    for case in CASES.iter() {
+        for piece in [1, 2, 7, 20, 4096] {
+            let (status, sink) = run_on(
+                rt.alloc(),
+                case.words,
+                case.input.as_bytes(),
+                piece,
+                None,
+                None,
+            )?;
+            assert_eq!(rt; status, Status::Fine, "{}", case.shows);
+            assert_eq!(rt; sink.bytes(), case.text.as_bytes(), "{}", case.shows);
+        }
+    }
+    Ok(())
+}
+
+#[test]
+fn refused_words(rt: HostRuntime) -> Result<(), Fail> {
+    for words in REFUSED_WORDS.iter() {
+        let (status, sink) = run_on(rt.alloc(), words, b"commit,1\n", 9, None, None)?;
+        assert_eq!(rt; status, Status::Usage, "{words}");
+        assert_eq!(rt; sink.bytes(), b"".as_slice());
+    }
+    Ok(())
+}
+
+#[test]
+fn a_session_is_full(rt: HostRuntime) -> Result<(), Fail> {
+    let mut input = String::new(rt.alloc());
+    for id in 1..4098u32 {
+        input.push_str(format!(in rt.alloc(); "add,3,{id},0,0,1\n")?.as_str())?;
+    }
+    input.push_str("commit,3\ncount,now,0,0\n")?;
+    let (status, sink) = run_on(rt.alloc(), "scratch 1", input.as_bytes(), 8192, None, None)?;
+    assert_eq!(rt; status, Status::Fine);
+    assert_eq!(rt;
+        sink.bytes(),
+        b"full,4097\nversion,1\ncount,1,4096\n".as_slice()
+    );
+    Ok(())
+}
+
+#[test]
+fn a_long_line_is_bad(rt: HostRuntime) -> Result<(), Fail> {
+    let mut input = String::new(rt.alloc());
+    for _ in 0..500 {
+        input.push_str("1234567890")?;
+    }
+    input.push_str("\nadd,2,1,0,1,1\ndrop,2\ncommit,2\ndrop,2\n")?;
+    let (status, sink) = run_on(rt.alloc(), "scratch 1", input.as_bytes(), 1000, None, None)?;
+    assert_eq!(rt; status, Status::Fine);
+    assert_eq!(rt;
+        sink.bytes(),
+        b"bad,1\ndropped,2\nversion,1\ndropped,2\n".as_slice()
+    );
+    Ok(())
+}
+
+#[test]
+fn bytes_that_are_no_text(rt: HostRuntime) -> Result<(), Fail> {
+    let input = b"\xff\xfe\nadd,1,1,0,1,\x80\n\"\xc3\",1\ncommit,1";
+    let (status, sink) = run_on(rt.alloc(), "scratch 1", input, 3, None, None)?;
+    assert_eq!(rt; status, Status::Fine);
+    assert_eq!(rt;
+        sink.bytes(),
+        b"bad,1\nbad,2\nbad,3\nversion,1\n".as_slice()
+    );
+    Ok(())
+}
+
+#[test]
+fn the_input_fails(rt: HostRuntime) -> Result<(), Fail> {
+    let input = b"add,1,1,2,5,10\nadd,1,2,5,9,7\ncommit,1\nsum,1,5,5\n";
+    let (status, sink) = run_on(rt.alloc(), "scratch 1", input, 20, Some(1), None)?;
+    assert_eq!(rt; status, Status::ReadFault);
+    assert_eq!(rt; sink.bytes(), b"".as_slice());
+    let (status, sink) = run_on(rt.alloc(), "scratch 1", input, 20, Some(2), None)?;
+    assert_eq!(rt; status, Status::ReadFault);
+    assert_eq!(rt; sink.bytes(), b"".as_slice());
+    let (status, sink) = run_on(rt.alloc(), "scratch 1", input, 20, Some(3), None)?;
+    assert_eq!(rt; status, Status::ReadFault);
+    assert_eq!(rt; sink.bytes(), b"version,1\n".as_slice());
+    Ok(())
+}
+
+#[test]
+fn the_output_fails(rt: HostRuntime) -> Result<(), Fail> {
+    let input =
+        b"add,1,1,0,9,5\nadd,2,1,0,9,6\nsum,now,0,9\ncommit,1\nsum,now,0,9\ncommit,2\nsum,now,0,9\n";
+    let parts = [
+        "",
+        "sum,0,0\n",
+        "sum,0,0\nversion,1\n",
+        "sum,0,0\nversion,1\nsum,1,5\n",
+        "sum,0,0\nversion,1\nsum,1,5\nrefused,1,used\n",
+    ];
+    for (puts, part) in parts.iter().enumerate() {
+        let call = puts as u64 + 1;
+        let (status, sink) = run_on(rt.alloc(), "scratch 1", input, 4096, None, Some(call))?;
+        assert_eq!(rt; status, Status::WriteFault);
+        assert_eq!(rt; sink.bytes(), part.as_bytes());
+        assert_eq!(rt; sink.faults(), 1);
+    }
+    Ok(())
+}
+
+#[test]
+fn many_objects_at_one_point(rt: HostRuntime) -> Result<(), Fail> {
+    let mut input = String::new(rt.alloc());
+    for id in 1..66u32 {
+        input.push_str(format!(in rt.alloc(); "add,1,{id},5,5,5,5,1\n")?.as_str())?;
+    }
+    input.push_str("commit,1\ncount,now,5,5,5,5\n")?;
+    let (status, sink) = run_on(rt.alloc(), "scratch 2", input.as_bytes(), 100, None, None)?;
+    assert_eq!(rt; status, Status::Fine);
+    assert_eq!(rt; sink.bytes(), b"version,1\ncount,1,65\n".as_slice());
+    Ok(())
+}
+
+#[test]
+fn texts_of_statuses(rt: HostRuntime) -> Result<(), Fail> {
+    let usage = "usage: boxsum scratch D [--degree G] [--events N] [--signed S]";
+    let texts = [
+        (Status::Usage, 2, usage),
+        (Status::ReadFault, 5, "input failed"),
+        (Status::WriteFault, 6, "output failed"),
+        (Status::NoMemory, 8, "no memory"),
+        (Status::InputLimit { taken: 7 }, 10, "input too long"),
+    ];
+    assert_eq!(rt; Status::Fine.code(), 0);
+    for (status, code, text) in texts.iter() {
+        assert_eq!(rt; status.code(), *code);
+        let shown = format!(in rt.alloc(); "{status}")?;
+        assert_eq!(rt; shown.as_str(), *text);
+    }
+    Ok(())
+}

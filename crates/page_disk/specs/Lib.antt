@@ -1,0 +1,11 @@
+pub mod Crash
+pub mod Disk
+pub mod FileName
+pub mod History
+pub mod HistoryLaws
+pub mod Image
+pub mod MemDisk
+pub mod Moment
+pub mod PlainDisk
+pub mod Since
+pub mod SinceLaws

@@ -1,0 +1,148 @@
+//! A disk over two files of the operating system.
+ghost use Rattle.std.specs.Prelude.{◌≡◌, ◌≢◌, ◌≤◌, [], false, IsTrue};
+ghost use Rattle.page_ports.specs.Pages.{Rose};
+ghost use Rattle.page_disk.specs.Disk.{CountsFault};
+ghost use Rattle.page_disk.specs.FileName.{is_file_name};
+ghost use Rattle.page_disk.specs.Image.{Image};
+
+use crate::area_file::AreaFile;
+use crate::{Area, Disk, Failed};
+use page_ports::Page;
+use std::fs::{OpenFile, OpenOptions};
+use std::rt::Files;
+
+/// The file of the Pages area, in the working folder.
+const PAGES_FILE: &str = "boxsum.pages";
+
+/// The file of the Journal area, in the working folder.
+const JOURNAL_FILE: &str = "boxsum.journal";
+
+/// A disk over two files, one an area. A last part of a file that is shorter than a page does not
+/// count in its length.
+///
+/// Each file is opened, and made where absent, at the first call on its area; a sync is a call on
+/// both, and makes sure of the folder's entries too, once. What the files hold is not told: that they
+/// keep to the model of a disk is taken from the operating system.
+#[derive(Drop)]
+pub struct FileDisk<R: Files> {
+    rt: R,
+    pages: AreaFile<R>,
+    journal: AreaFile<R>,
+    folder_synced: bool,
+    reads: u64,
+    faults: u64,
+}
+
+// Makes sure of the entries of the working folder.
+fn sync_folder<R: Files>(rt: &R) -> Result<(), Failed> {
+    let mut how = OpenOptions::new();
+    how.read(true);
+    let Ok(folder) = how.open(rt, ".") else {
+        return Err(Failed);
+    };
+    match folder.sync_all() {
+        Ok(()) => Ok(()),
+        Err(_) => Err(Failed),
+    }
+}
+
+impl<R: Files> FileDisk<R> {
+    /// A disk over the files `boxsum.pages` and `boxsum.journal` in the working folder.
+    pub fn new(rt: R) -> FileDisk<R> {
+        FileDisk::named(rt, PAGES_FILE, JOURNAL_FILE)
+    }
+
+    /// A disk over the files of these names in the working folder.
+    pub fn named(rt: R, pages: &'static str, journal: &'static str) -> FileDisk<R>
+        requires differ { pages.now ≢ journal.now }
+        requires pages { IsTrue (is_file_name pages.now) }
+        requires journal { IsTrue (is_file_name journal.now) }
+    {
+        FileDisk {
+            rt,
+            pages: AreaFile {
+                name: pages,
+                file: None,
+            },
+            journal: AreaFile {
+                name: journal,
+                file: None,
+            },
+            folder_synced: false,
+            reads: 0,
+            faults: 0,
+        }
+    }
+
+    // The answer of a call on the files, of which a failure counts as a fault.
+    fn answered<T>(&mut self, answer: Result<T, Failed>) -> Result<T, Failed>
+        ensures answer { result ≡ answer }
+        ensures reads { self.new.reads ≡ self.old.reads }
+        ensures faults { CountsFault result self.old.faults self.new.faults }
+    {
+        if answer.is_err() {
+            self.faults = self.faults.saturating_add(1);
+        }
+        answer
+    }
+
+    fn sync_files(&mut self) -> Result<(), Failed>
+        ensures reads { self.new.reads ≡ self.old.reads }
+        ensures faults { self.new.faults ≡ self.old.faults }
+    {
+        self.pages.sync(&self.rt)?;
+        self.journal.sync(&self.rt)?;
+        if !self.folder_synced {
+            sync_folder(&self.rt)?;
+            self.folder_synced = true;
+        }
+        Ok(())
+    }
+}
+
+impl<R: Files> Disk for FileDisk<R> {
+    ghost tells = { λ _. false };
+
+    ghost image = { λ _. record { pages = []; journal = [] } };
+
+    ghost moments = { λ _. [] };
+
+    ghost reads = { λ disk. disk.reads };
+
+    ghost faults = { λ disk. disk.faults };
+
+    ghost tells_image = { λ _. tt };
+
+    fn len(&mut self, area: Area) -> Result<u64, Failed> {
+        let answer = match area {
+            Area::Pages => self.pages.len(&self.rt),
+            Area::Journal => self.journal.len(&self.rt),
+        };
+        self.answered(answer)
+    }
+
+    fn read(&mut self, area: Area, page: u64, buf: &mut Page) -> Result<bool, Failed> {
+        if self.reads == u64::MAX {
+            return self.answered(Err(Failed));
+        }
+        self.reads += 1;
+        let answer = match area {
+            Area::Pages => self.pages.read(&self.rt, page, buf),
+            Area::Journal => self.journal.read(&self.rt, page, buf),
+        };
+        self.answered(answer)
+    }
+
+    fn write(&mut self, area: Area, page: u64, buf: &Page) -> Result<(), Failed> {
+        let answer = match area {
+            Area::Pages => self.pages.write(&self.rt, page, buf),
+            Area::Journal => self.journal.write(&self.rt, page, buf),
+        };
+        self.answered(answer)
+    }
+
+    fn sync(&mut self) -> Result<(), Failed> {
+        let answer = self.sync_files();
+        self.answered(answer)
+    }
+}

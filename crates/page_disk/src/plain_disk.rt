@@ -1,0 +1,130 @@
+//! A disk in memory that tells its image and its counts, and keeps no record.
+ghost use Rattle.std.specs.Prelude.{◌≡◌, ◌≤◌, [], length, true, OnOk, OnErr};
+ghost use Rattle.page_ports.specs.Pages.{Rose};
+ghost use Rattle.page_disk.specs.Image.{Image, area_of, written_at};
+
+use crate::{Area, Disk, Failed};
+use page_ports::Page;
+use std::alloc::Global;
+
+/// A disk in memory that cannot crash. A write that finds no memory counts as a fault.
+#[derive(Drop)]
+pub struct PlainDisk {
+    pages: Vec<Page>,
+    journal: Vec<Page>,
+    reads: u64,
+    faults: u64,
+}
+
+fn write_page(pages: &mut Vec<Page>, page: u64, buf: &Page) -> Result<(), Failed>
+    requires { page ≤ length pages.old.items }
+    ensures ok { OnOk result (pages.new.items ≡ written_at pages.old.items page buf.now) }
+    ensures err { OnErr result (pages.new.items ≡ pages.old.items) }
+{
+    let place = page as usize;
+    if place == pages.len() {
+        return pages.push(*buf).map_err(|_| Failed);
+    }
+    pages[place] = *buf;
+    Ok(())
+}
+
+impl PlainDisk {
+    ghost use Rattle.page_disk.specs.PlainDisk.{image_of, read_count, fault_count};
+
+    /// A disk with no pages.
+    pub fn blank(alloc: Global) -> PlainDisk
+        ensures image { image_of result ≡ record { pages = []; journal = [] } }
+        ensures reads { read_count result ≡ 0 }
+        ensures faults { fault_count result ≡ 0 }
+    {
+        PlainDisk {
+            pages: Vec::new(alloc),
+            journal: Vec::new(alloc),
+            reads: 0,
+            faults: 0,
+        }
+    }
+
+    /// How often a page was read.
+    pub fn reads(&self) -> u64
+        ensures { result ≡ read_count self.now }
+    {
+        self.reads
+    }
+
+    /// How often a call failed.
+    pub fn faults(&self) -> u64
+        ensures { result ≡ fault_count self.now }
+    {
+        self.faults
+    }
+
+    fn area(&self, area: Area) -> &[Page]
+        ensures { result.now ≡ area_of area (image_of self.now) }
+    {
+        match area {
+            Area::Pages => &self.pages,
+            Area::Journal => &self.journal,
+        }
+    }
+
+    fn failed(&mut self) -> Failed
+        ensures image { image_of self.new ≡ image_of self.old }
+        ensures reads { self.new.reads ≡ self.old.reads }
+        ensures faults { Rose self.old.faults self.new.faults }
+        ensures never_falls { self.old.faults ≤ self.new.faults }
+    {
+        self.faults = self.faults.saturating_add(1);
+        Failed
+    }
+}
+
+impl Disk for PlainDisk {
+    ghost use Rattle.page_disk.specs.PlainDisk.{image_of};
+
+    ghost tells = { λ _. true };
+
+    ghost image = { λ disk. image_of disk };
+
+    ghost moments = { λ _. [] };
+
+    ghost reads = { λ disk. disk.reads };
+
+    ghost faults = { λ disk. disk.faults };
+
+    ghost tells_image = { λ _. tt };
+
+    fn len(&mut self, area: Area) -> Result<u64, Failed> {
+        Ok(self.area(area).len() as u64)
+    }
+
+    fn read(&mut self, area: Area, page: u64, buf: &mut Page) -> Result<bool, Failed> {
+        if self.reads == u64::MAX {
+            return Err(self.failed());
+        }
+        self.reads += 1;
+        match self.area(area).get(page as usize) {
+            Some(kept) => {
+                *buf = *kept;
+                Ok(true)
+            }
+            None => Ok(false),
+        }
+    }
+
+    fn write(&mut self, area: Area, page: u64, buf: &Page) -> Result<(), Failed> {
+        let answer = match area {
+            Area::Pages => write_page(&mut self.pages, page, buf),
+            Area::Journal => write_page(&mut self.journal, page, buf),
+        };
+        match answer {
+            Ok(()) => Ok(()),
+            Err(_) => Err(self.failed()),
+        }
+    }
+
+    fn sync(&mut self) -> Result<(), Failed> {
+        Ok(())
+    }
+}
