@@ -1,0 +1,5 @@
+use Rattle.page_layout.proofs.Heads.{one_spelling}
+use Rattle.page_layout.proofs.journal_head.JournalHead.one_spelling.Goals as goal
+
+pub returns : goal.returns
+returns c = one_spelling

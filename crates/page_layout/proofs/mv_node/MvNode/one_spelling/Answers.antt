@@ -1,0 +1,5 @@
+use Rattle.page_layout.proofs.MvNodes.{one_spelling}
+use Rattle.page_layout.proofs.mv_node.MvNode.one_spelling.Goals as goal
+
+pub returns : goal.returns
+returns c = one_spelling

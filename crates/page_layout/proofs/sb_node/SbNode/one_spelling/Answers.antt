@@ -1,0 +1,5 @@
+use Rattle.page_layout.proofs.SbNodes.{one_spelling}
+use Rattle.page_layout.proofs.sb_node.SbNode.one_spelling.Goals as goal
+
+pub returns : goal.returns
+returns c = one_spelling

@@ -1,0 +1,5 @@
+use Rattle.page_layout.proofs.Supers.{one_spelling}
+use Rattle.page_layout.proofs.super_page.Super.one_spelling.Goals as goal
+
+pub returns : goal.returns
+returns c = one_spelling

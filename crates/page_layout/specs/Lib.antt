@@ -1,0 +1,9 @@
+pub mod Numbers
+pub mod Entries
+pub mod Counted
+pub mod Children
+pub mod Head
+pub mod FreePage
+pub mod SbNode
+pub mod MvNode
+pub mod Super

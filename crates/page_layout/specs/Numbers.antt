@@ -1,0 +1,46 @@
+-- Numbers as bytes, the highest first, and fronts of pages filled up with zeros.
+use Rattle.std.specs.Prelude.{◌≡◌, ℕ, ◌-◌, ◌+◌, ◌<◌, ◌^◌, List, ◌++◌, length, drop, replicate, refl}
+use Rattle.std.proofs.Common.{ap, sym, ◌∙◌}
+use Rattle.std.proofs.lemmas.List.{drop_at, drop-drop, drop-replicate}
+use Rattle.page_ports.specs.Pages.{blank_bytes}
+use Rattle.byteorder.specs.Endian.{big_bytes, big_number}
+use Rattle.byteorder.specs.Numbers.{length-bytes_high_first, big_number-reads_back}
+
+-- the number in n bytes, the highest first
+unfoldable pub spelled : ℕ → ℕ → List ℕ
+spelled n x = big_bytes n x
+
+-- the number in the first n bytes, the highest first
+unfoldable pub number_in : ℕ → List ℕ → ℕ
+number_in n bytes = big_number n bytes
+
+-- n zeros
+unfoldable pub zeros : ℕ → List ℕ
+zeros n = replicate n 0
+
+-- the page that begins with these bytes, and has zeros after them
+abbrev pub padded : List ℕ → List ℕ
+padded front = front ++ zeros (4096 - length front)
+
+pub length-spelled : (n x : ℕ) → length (spelled n x) ≡ n
+unfolding spelled
+length-spelled n x = length-bytes_high_first n x
+
+pub number_in-spelled : (n x : ℕ) (rest : List ℕ) → x < 256 ^ n → number_in n (spelled n x ++ rest) ≡ x
+unfolding spelled number_in
+number_in-spelled n x rest h = big_number-reads_back n x rest h
+
+pub past-spelled : (n x : ℕ) (rest : List ℕ) → drop n (spelled n x ++ rest) ≡ rest
+past-spelled n x rest = drop_at (spelled n x) rest n (length-spelled n x)
+
+-- past the first n bytes, and m more
+pub past_more : (n m x : ℕ) (rest : List ℕ) → drop (n + m) (spelled n x ++ rest) ≡ drop m rest
+past_more n m x rest = sym (drop-drop m n (spelled n x ++ rest)) ∙ ap (λ (bytes : List ℕ). drop m bytes) (past-spelled n x rest)
+
+pub drop-zeros : (m n : ℕ) → drop m (zeros n) ≡ zeros (n - m)
+unfolding zeros
+drop-zeros m n = drop-replicate m n 0
+
+pub blank-zeros : blank_bytes ≡ zeros 4096
+unfolding zeros blank_bytes
+blank-zeros = refl

@@ -1,0 +1,80 @@
+//! Pages of a kind with a level, a count, a word, a double word and as many entries.
+ghost use Rattle.std.specs.Prelude.{◌≡◌, ◌+◌, ◌*◌, ◌<◌, ◌≤◌, ◌^◌, length, drop};
+ghost use Rattle.arrayvec.specs.ArrayVec.{array_vec_len};
+ghost use Rattle.page_layout.specs.Numbers.{number_in};
+ghost use Rattle.page_layout.specs.Counted.{front, counted_page, body_of, word_of, double_of, entries_of};
+
+use crate::entry::{Entry, get_all, put_all};
+use crate::front::{Front, finish, put_u8, put_u16, put_u32, put_u64};
+use crate::number::{after, number_u16, number_u32, number_u64};
+use arrayvec::ArrayVec;
+use page_ports::Page;
+
+/// The common front of 16 bytes: what bytes 0, 1, 2 to 3, 4 to 7 and 8 to 15 spell.
+pub(crate) fn start(kind: u8, level: u8, count: u16, word: u32, double: u64) -> Front
+    ensures items { result.items ≡ front kind level count word double }
+    ensures len { array_vec_len result ≡ 16 }
+{
+    let mut front = Front::new();
+    put_u8(&mut front, kind);
+    put_u8(&mut front, level);
+    put_u16(&mut front, count);
+    put_u32(&mut front, word);
+    put_u64(&mut front, double);
+    front
+}
+
+/// Makes the page the one of this front and these entries.
+pub(crate) fn write_counted<T: Entry>(
+    page: &mut Page,
+    kind: u8,
+    level: u8,
+    word: u32,
+    double: u64,
+    entries: &[T],
+)
+    requires count { length entries.now < 2 ^ 16 }
+    requires room { 16 + length entries.now * T.SIZE ≤ 4096 }
+    ensures { page.new ≡ counted_page T.spelling kind level word double entries.now }
+{
+    let mut front = start(kind, level, entries.len() as u16, word, double);
+    put_all(&mut front, entries);
+    finish(&front, page);
+}
+
+/// The entries that a page may spell, at most this many.
+pub(crate) fn read_entries<T: Entry, const CAP: usize>(page: &Page, most: usize) -> ArrayVec<T, CAP>
+    requires few { most ≤ CAP }
+    requires room { 16 + most * T.SIZE ≤ 4096 }
+    ensures { result.items ≡ entries_of T.value_at T.SIZE most page.now }
+{
+    let count = usize::from(read_count(page));
+    get_all(count.min(most), read_body(page))
+}
+
+fn read_count(page: &Page) -> u16
+    ensures { result ≡ number_in 2 (drop 2 page.now) }
+{
+    number_u16(after(page, 2))
+}
+
+fn read_body(page: &Page) -> &[u8]
+    ensures value { result.now ≡ body_of page.now }
+    ensures len { length result.now ≡ 4080 }
+{
+    after(page, 16)
+}
+
+/// The number in bytes 4 to 7.
+pub(crate) fn read_word(page: &Page) -> u32
+    ensures { result ≡ word_of page.now }
+{
+    number_u32(after(page, 4))
+}
+
+/// The number in bytes 8 to 15.
+pub(crate) fn read_double(page: &Page) -> u64
+    ensures { result ≡ double_of page.now }
+{
+    number_u64(after(page, 8))
+}

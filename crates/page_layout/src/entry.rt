@@ -1,0 +1,143 @@
+//! Entries of one size, and rows of them.
+ghost use Rattle.std.specs.Prelude.{◌≡◌, ℕ, ◌+◌, ◌*◌, ◌<◌, ◌≤◌, ◌^◌, ◌++◌, ◌↔◌, List, length, IsTrue};
+ghost use Rattle.std.specs.List.{flat_map, All, AllAdjacentBelow};
+ghost use Rattle.arrayvec.specs.ArrayVec.{array_vec_len};
+ghost use Rattle.page_layout.specs.Numbers.{spelled, number_in, length-spelled, number_in-spelled};
+ghost use Rattle.page_layout.specs.Entries.{entries_at, AreInOrder};
+
+use crate::front::{Front, put_u64};
+use crate::number::{number_u64, skip};
+use arrayvec::ArrayVec;
+
+/// A value that fills `SIZE` bytes of a page.
+pub(crate) trait Entry: Copy + Default {
+    const SIZE: usize;
+
+    ghost SIZE: { ℕ };
+
+    ghost spelling: { Self → List ℕ };
+
+    ghost value_at: { List ℕ → Self };
+
+    // The numbers are those of their types.
+    ghost is_typed: { Self → Type 0 };
+
+    // The rule of one entry in a node of this level.
+    ghost keeps: { ℕ → Self → Type 0 };
+
+    // The rule of an entry and the next one.
+    ghost precedes: { Self → Self → Type 0 };
+
+    /// Appends the value's bytes.
+    fn put(&self, front: &mut Front)
+        requires { array_vec_len front.old + SIZE ≤ 4096 }
+        ensures items { front.new.items ≡ front.old.items ++ spelling self.now }
+        ensures len { array_vec_len front.new ≡ array_vec_len front.old + SIZE };
+
+    /// The value that the first bytes may spell.
+    fn get(bytes: &[u8]) -> Self
+        requires { SIZE ≤ length bytes.now }
+        ensures { result ≡ value_at bytes.now };
+
+    /// Whether the entry keeps its rule in a node of this level.
+    fn keeps(&self, level: u8) -> bool
+        ensures { IsTrue result ↔ keeps level self.now };
+
+    /// Whether the entry may stand before the next one.
+    fn precedes(&self, next: &Self) -> bool
+        ensures { IsTrue result ↔ precedes self.now next.now };
+
+    ghost has_size: { (x : Self) → length (spelling x) ≡ SIZE };
+
+    ghost reads_back: { (x : Self) (rest : List ℕ) → is_typed x → value_at (spelling x ++ rest) ≡ x };
+}
+
+/// Appends the entries in a row.
+pub(crate) fn put_all<T: Entry>(front: &mut Front, entries: &[T])
+    requires { array_vec_len front.old + length entries.now * T.SIZE ≤ 4096 }
+    ensures { front.new.items ≡ front.old.items ++ flat_map T.spelling entries.now }
+{
+    for entry in entries {
+        entry.put(front);
+    }
+}
+
+/// As many entries as the count says.
+pub(crate) fn get_all<T: Entry, const MOST: usize>(count: usize, bytes: &[u8]) -> ArrayVec<T, MOST>
+    requires few { count ≤ MOST }
+    requires room { count * T.SIZE ≤ length bytes.now }
+    ensures { result.items ≡ entries_at T.value_at T.SIZE count bytes.now }
+{
+    let mut entries = ArrayVec::new();
+    let mut rest = bytes;
+    for _ in 0..count {
+        entries.push(T::get(rest));
+        rest = skip(rest, T::SIZE);
+    }
+    entries
+}
+
+fn each_keeps<T: Entry>(level: u8, entries: &[T]) -> bool
+    ensures { IsTrue result ↔ All (T.keeps level) entries.now }
+{
+    for entry in entries {
+        if !entry.keeps(level) {
+            return false;
+        }
+    }
+    true
+}
+
+fn each_precedes<T: Entry>(entries: &[T]) -> bool
+    ensures { IsTrue result ↔ AllAdjacentBelow T.precedes entries.now (length entries.now) }
+{
+    for i in 1..entries.len() {
+        if !entries[i - 1].precedes(&entries[i]) {
+            return false;
+        }
+    }
+    true
+}
+
+/// Whether each entry keeps its rule in a node of this level, and precedes the next one.
+pub(crate) fn are_in_order<T: Entry>(level: u8, entries: &[T]) -> bool
+    ensures { IsTrue result ↔ AreInOrder (T.keeps level) T.precedes entries.now }
+{
+    each_keeps(level, entries) && each_precedes(entries)
+}
+
+impl Entry for u64 {
+    const SIZE: usize = 8;
+
+    ghost SIZE = { 8 };
+
+    ghost spelling = { spelled 8 };
+
+    ghost value_at = { number_in 8 };
+
+    ghost is_typed = { λ home. home < 2 ^ 64 };
+
+    ghost keeps = { λ _ home. 1 ≤ home };
+
+    ghost precedes = { λ home next. home < next };
+
+    fn put(&self, front: &mut Front) {
+        put_u64(front, *self);
+    }
+
+    fn get(bytes: &[u8]) -> u64 {
+        number_u64(bytes)
+    }
+
+    fn keeps(&self, _level: u8) -> bool {
+        *self >= 1
+    }
+
+    fn precedes(&self, next: &u64) -> bool {
+        *self < *next
+    }
+
+    ghost has_size = { length-spelled 8 };
+
+    ghost reads_back = { λ x rest typed. number_in-spelled 8 x rest typed };
+}

@@ -1,0 +1,130 @@
+//! Nodes of the trees over versions.
+ghost use Rattle.std.specs.Prelude.{◌≡◌, ◌<◌, ◌≤◌, IfSome, Some, ◌↔◌, IsTrue};
+ghost use Rattle.page_layout.specs.Children.{child_fits};
+ghost use Rattle.page_layout.specs.SbNode.{sb_entry_bytes, sb_entry_at, IsSbEntryTyped, length-sb_entry, sb_entry-back, sb_node_in};
+
+use crate::children::child_fits;
+use crate::counted::{read_entries, write_counted};
+use crate::entry::{Entry, are_in_order};
+use crate::front::{Front, put_u32, put_u64, put_u128};
+use crate::number::{number_u32, number_u64, number_u128, skip};
+use crate::same::are_same;
+use arrayvec::ArrayVec;
+use page_ports::{Page, blank_page};
+
+const KIND: u8 = 2;
+
+/// An entry of a node: the version from which it holds, its value, and its child or 0 in a leaf.
+#[derive(Clone, Copy, Debug, Default, PartialEq, Eq)]
+pub struct SbEntry {
+    pub low: u32,
+    pub value: u128,
+    pub child: u64,
+}
+
+/// A node of a tree over versions; a leaf has level 1.
+///
+/// A page spells a node of a level of 1 to 16 with 1 to 64 entries, whose lows ascend strictly. A
+/// leaf's children are 0, and an index node's at least 3. In memory there is room for one more.
+#[derive(Debug, PartialEq, Drop)]
+pub struct SbNode {
+    pub level: u8,
+    pub entries: ArrayVec<SbEntry, 65>,
+}
+
+impl Entry for SbEntry {
+    const SIZE: usize = 28;
+
+    ghost SIZE = { 28 };
+
+    ghost spelling = { sb_entry_bytes };
+
+    ghost value_at = { sb_entry_at };
+
+    ghost is_typed = { IsSbEntryTyped };
+
+    ghost keeps = { λ level e. IsTrue (child_fits level e.child) };
+
+    ghost precedes = { λ e next. e.low < next.low };
+
+    fn put(&self, front: &mut Front) {
+        put_u32(front, self.low);
+        put_u128(front, self.value);
+        put_u64(front, self.child);
+    }
+
+    fn get(bytes: &[u8]) -> SbEntry {
+        SbEntry {
+            low: number_u32(bytes),
+            value: number_u128(skip(bytes, 4)),
+            child: number_u64(skip(bytes, 20)),
+        }
+    }
+
+    fn keeps(&self, level: u8) -> bool {
+        child_fits(level, self.child)
+    }
+
+    fn precedes(&self, next: &SbEntry) -> bool {
+        self.low < next.low
+    }
+
+    ghost has_size = { length-sb_entry };
+
+    ghost reads_back = { sb_entry-back };
+}
+
+impl SbNode {
+    ghost use Rattle.page_layout.specs.SbNode.{IsSbNode, IsTyped, sb_node_page};
+
+    /// Makes the page the node's spelling.
+    pub fn write(&self, page: &mut Page)
+        requires { IsSbNode self.now }
+        ensures { page.new ≡ sb_node_page self.now }
+    {
+        write_counted(page, KIND, self.level, 0, 0, self.entries.as_slice());
+    }
+
+    /// The sb node that the page spells, or `None` exactly where it spells none.
+    pub fn read(page: &Page) -> Option<SbNode>
+        // What is read keeps the rules, and the page is its spelling.
+        ensures found { IfSome result (λ value. IsSbNode value × (page.now ≡ sb_node_page value)) }
+        // Where the page is the spelling of a value, that value is read.
+        ensures only { (value : SbNode) → IsTyped value → IsSbNode value → page.now ≡ sb_node_page value → result ≡ Some value }
+    {
+        let value = guess(page);
+        if !value.keeps_rules() {
+            return None;
+        }
+        let mut again = blank_page();
+        value.write(&mut again);
+        if !are_same(&again, page) {
+            return None;
+        }
+        Some(value)
+    }
+
+    /// Proves that no two values have one spelling; it does nothing when it runs.
+    pub fn one_spelling()
+        ensures { (value other : SbNode) → IsTyped value → IsSbNode value → IsTyped other → IsSbNode other
+            → sb_node_page value ≡ sb_node_page other → value ≡ other }
+    {}
+
+    fn keeps_rules(&self) -> bool
+        ensures { IsTrue result ↔ IsSbNode self.now }
+    {
+        let count = self.entries.len();
+        (1 <= self.level && self.level <= 16)
+            && (1 <= count && count <= 64)
+            && are_in_order(self.level, self.entries.as_slice())
+    }
+}
+
+fn guess(page: &Page) -> SbNode
+    ensures { result ≡ sb_node_in page.now }
+{
+    SbNode {
+        level: page[1],
+        entries: read_entries(page, 64),
+    }
+}
