@@ -1,0 +1,22 @@
+-- Which pages a cache keeps, and how it agrees with a disk.
+use Rattle.std.specs.Prelude.{◌≡◌, ◌⊎◌, ℕ, ◌<◌, ◌==◌, length, nat_eq, if◌then◌else◌, List, Some, option_map}
+use Rattle.std.specs.Map.{lookup}
+use Rattle.page_ports.specs.Pages.{PageMap}
+use Rattle.page_disk.specs.Image.{PageList, page_at}
+use Rattle.page_cache.specs.declared.cache.Cache.{Cache}
+
+-- the pages that it keeps, with their bytes
+abbrev pub kept_pages : Cache → PageMap
+kept_pages cache = λ page. lookup (nat_eq page) cache.pages.entries
+
+-- Each page that is kept is as the area has it.
+abbrev pub Agrees : PageMap → PageList → Type 0
+Agrees kept area = (page : ℕ) (bytes : List ℕ) → kept page ≡ Some bytes → (page < length area) × (page_at area page ≡ bytes)
+
+-- Each page that is kept was kept before with the same bytes, or is this one with these.
+abbrev pub KeepsAtMostAlso : PageMap → PageMap → ℕ → List ℕ → Type 0
+KeepsAtMostAlso old new page bytes = (p : ℕ) (b : List ℕ) → new p ≡ Some b → (old p ≡ Some b) ⊎ ((p ≡ page) × (b ≡ bytes))
+
+-- the same pages, this one with these bytes where it is kept
+abbrev pub renewed : PageMap → ℕ → List ℕ → PageMap
+renewed kept page bytes = λ p. if page == p then option_map (λ _. bytes) (kept p) else kept p

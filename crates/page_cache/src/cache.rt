@@ -1,0 +1,115 @@
+//! The pages that were used last.
+ghost use Rattle.std.specs.Prelude.{◌≡◌, ◌≢◌, ◌⊎◌, ◌+◌, ◌-◌, ◌^◌, ◌<◌, ◌≤◌, ℕ, List, length, min, Some, None, Ok, Err, IsTrue, IfOk, OnOk, OnErr, is_some};
+ghost use Rattle.page_ports.specs.Pages.{Rose};
+ghost use Rattle.page_disk.specs.Image.{PageList, page_at, written_at};
+ghost use Rattle.page_cache.specs.Cache.{Agrees, KeepsAtMostAlso, kept_pages, renewed};
+
+use lru::LruCache;
+use page_disk::{Area, Disk};
+use page_ports::{Page, PageFault};
+use std::alloc::Global;
+use std::num::NonZeroUsize;
+
+/// There was no memory.
+#[derive(Clone, Copy, Debug, PartialEq, Eq)]
+pub struct NoMemory;
+
+/// A cache of pages of a disk's Pages area.
+#[derive(Drop)]
+pub struct Cache {
+    pages: LruCache<u64, Page>,
+}
+
+impl Cache {
+    /// A cache that keeps at most this many pages, which is not 0, and as yet none. It agrees with every disk.
+    pub fn new(alloc: Global, pages: usize) -> Result<Cache, NoMemory>
+        requires { pages ≢ 0 }
+        ensures none { IfOk result (λ cache. (page : ℕ) → kept_pages cache page ≡ None) }
+        ensures agrees { IfOk result (λ cache. (area : PageList) → Agrees (kept_pages cache) area) }
+    {
+        let capacity = NonZeroUsize::new(pages).unwrap();
+        match LruCache::new(alloc, capacity) {
+            Ok(pages) => Ok(Cache { pages }),
+            Err(_) => Err(NoMemory),
+        }
+    }
+
+    // Copies the page into `buf` where it is kept, and answers whether it is.
+    fn recall(&mut self, page: u64, buf: &mut Page) -> bool
+        ensures value { result ≡ is_some (kept_pages self.old page) }
+        ensures hit { (bytes : List ℕ) → kept_pages self.old page ≡ Some bytes → buf.new ≡ bytes }
+        ensures miss { kept_pages self.old page ≡ None → buf.new ≡ buf.old }
+        ensures same { (p : ℕ) → kept_pages self.new p ≡ kept_pages self.old p }
+    {
+        match self.pages.get(&page) {
+            Some(kept) => {
+                *buf = *kept;
+                true
+            }
+            None => false,
+        }
+    }
+
+    // Keeps the page where there is memory for it.
+    fn keep(&mut self, page: u64, buf: &Page)
+        ensures { KeepsAtMostAlso (kept_pages self.old) (kept_pages self.new) page buf.now }
+    {
+        let _ = self.pages.put(page, *buf);
+    }
+
+    /// Reads a page of the Pages area into `buf`, as the disk has it, with no call on the disk where
+    /// the page is kept and one read else. The cache has to agree with the disk, and does afterwards.
+    ///
+    /// `Damaged` carries this page. It comes exactly where the page is at or past the end, save where
+    /// the device failed first, and `buf` is then as before. After `Disk` what `buf` holds is not said.
+    /// After both the cache keeps the pages that it kept.
+    pub fn get<D: Disk>(&mut self, disk: &mut D, page: u64, buf: &mut Page) -> Result<(), PageFault>
+        requires { IsTrue (D.tells disk.old) → Agrees (kept_pages self.old) (D.image disk.old).pages }
+        ensures agrees { IsTrue (D.tells disk.old) → Agrees (kept_pages self.new) (D.image disk.new).pages }
+        ensures ok { OnOk result (IsTrue (D.tells disk.old)
+            → (page < length (D.image disk.old).pages) × (buf.new ≡ page_at (D.image disk.old).pages page)) }
+        ensures disk { result ≡ Err PageFault.Disk → Rose (D.faults disk.old) (D.faults disk.new) }
+        ensures damaged { (p : ℕ) → result ≡ Err (PageFault.Damaged p)
+            → (p ≡ page) × (buf.new ≡ buf.old) × (IsTrue (D.tells disk.old) → length (D.image disk.old).pages ≤ page) }
+
+        ensures hit { (bytes : List ℕ) → kept_pages self.old page ≡ Some bytes
+            → (result ≡ Ok record {}) × (buf.new ≡ bytes)
+            × (D.reads disk.new ≡ D.reads disk.old) × (D.faults disk.new ≡ D.faults disk.old)
+            × ((p : ℕ) → kept_pages self.new p ≡ kept_pages self.old p) }
+        ensures keeps { OnOk result (KeepsAtMostAlso (kept_pages self.old) (kept_pages self.new) page buf.new) }
+        ensures keeps_err { OnErr result ((p : ℕ) → kept_pages self.new p ≡ kept_pages self.old p) }
+
+        ensures at_most_one { D.reads disk.new ≤ D.reads disk.old + 1 }
+        ensures miss { kept_pages self.old page ≡ None → D.reads disk.new ≡ min (D.reads disk.old + 1) (2 ^ 64 - 1) }
+        ensures faults { D.faults disk.old ≤ D.faults disk.new }
+        ensures faults_stay { result ≢ Err PageFault.Disk → D.faults disk.new ≡ D.faults disk.old }
+        ensures tells { D.tells disk.new ≡ D.tells disk.old }
+        ensures image { D.image disk.new ≡ D.image disk.old }
+        ensures moments { D.moments disk.new ≡ D.moments disk.old }
+    {
+        if self.recall(page, buf) {
+            return Ok(());
+        }
+        match disk.read(Area::Pages, page, buf) {
+            Ok(true) => {
+                self.keep(page, buf);
+                Ok(())
+            }
+            Ok(false) => Err(PageFault::Damaged(page)),
+            Err(_) => Err(PageFault::Disk),
+        }
+    }
+
+    /// Overwrites the page where it is kept, and else does nothing. Every other page stays as it is.
+    ///
+    /// So a cache that agreed with the disk before the page was written to it agrees again.
+    pub fn renew(&mut self, page: u64, buf: &Page)
+        ensures pages { (p : ℕ) → kept_pages self.new p ≡ renewed (kept_pages self.old) page buf.now p }
+        ensures agrees { (area : PageList) → Agrees (kept_pages self.old) area
+            → Agrees (kept_pages self.new) (written_at area page buf.now) }
+    {
+        if let Some(kept) = self.pages.peek_mut(&page) {
+            *kept = *buf;
+        }
+    }
+}
