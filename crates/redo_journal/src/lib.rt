@@ -7,8 +7,10 @@
 
 mod creation;
 mod gate;
+mod images;
 #[cfg(test)]
 mod tests;
 
 pub use creation::create;
 pub use gate::{Gate, ready};
+pub use images::{Images, NoMemory};
