@@ -1,4 +1,5 @@
 pub mod Tally
+pub mod Dominance
 pub mod Fits
 pub mod Meets
 pub mod Integral
@@ -9,3 +10,9 @@ pub mod Refusals
 pub mod Answers
 pub mod Lawful
 pub mod Worked
+pub mod Residues
+pub mod ResidueLaws
+pub mod Keys
+pub mod KeyLaws
+pub mod Heights
+pub mod HeightLaws

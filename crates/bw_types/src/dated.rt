@@ -5,7 +5,7 @@ use crate::Object;
 /// `life` counts from 1 and is the number of this add among those of its id. `added` is the version
 /// of the add and `add_event` its event number, counted from 0 over the whole history. `withdrawn`
 /// and `withdraw_event` are those of the withdrawal, and both 0 where there was none.
-#[derive(Clone, Copy, PartialEq, Eq, Debug)]
+#[derive(Clone, Copy, Debug, Default, PartialEq, Eq)]
 pub struct Dated {
     pub object: Object,
     pub life: u32,

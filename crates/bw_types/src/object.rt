@@ -3,7 +3,7 @@
 /// `low` and `high` are stored numbers (coordinate plus origin), both ends inclusive. With degree g
 /// the first `(g + 1)^dims` coefficients are those of the value function, the exponent of the last
 /// dimension running fastest. Ends past the dimensions and coefficients past those are 0.
-#[derive(Clone, Copy, PartialEq, Eq, Debug)]
+#[derive(Clone, Copy, Debug, Default, PartialEq, Eq)]
 pub struct Object {
     pub id: u64,
     pub low: [u32; 3],
