@@ -26,6 +26,9 @@ map_of-below kept page bytes there =
     let place = map_of-place kept page (subst (λ o. IsSome o) (sym there) refl) in
     omega arith
 
+pub map_of-from : (kept : List (Option (List ℕ))) (page : ℕ) (bytes : List ℕ) → map_of kept page ≡ Some bytes → 3 ≤ page
+map_of-from kept page bytes there = (map_of-place kept page (subst (λ o. IsSome o) (sym there) refl)).0
+
 pub map_of-end : (kept : List (Option (List ℕ))) → map_of kept (3 + length kept) ≡ None
 map_of-end kept =
     let above : nat_le 3 (3 + length kept) ≡ true = le-leb _ _ (omega arith) in

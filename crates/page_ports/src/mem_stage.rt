@@ -82,6 +82,10 @@ impl Pages for MemStage {
 
     ghost limit = { λ stage. stage.limit };
 
+    ghost Base = { Unit {0} };
+
+    ghost base = { λ _. tt };
+
     fn get(&mut self, page: u64, buf: &mut Page) -> Result<(), PageFault> {
         self.gets = self.gets.saturating_add(1);
         match page_in(&self.pages, page) {
@@ -95,9 +99,11 @@ impl Pages for MemStage {
 }
 
 impl Stage for MemStage {
-    ghost use Rattle.page_ports.specs.KeptLaws.{map_of-below};
+    ghost use Rattle.page_ports.specs.KeptLaws.{map_of-below, map_of-from};
 
     ghost below_allotted = { λ stage page bytes told there. map_of-below stage.pages.items page bytes there };
+
+    ghost from_three = { λ stage page bytes told there. map_of-from stage.pages.items page bytes there };
 
     ghost within_limit = { λ stage. stage.within };
 

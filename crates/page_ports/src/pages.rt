@@ -28,6 +28,12 @@ pub trait Pages {
     /// The record of the free pages is in order, so that each of them can be given out.
     ghost free_in_order: { Self → Type 0 } = { λ _. Unit {0} };
 
+    /// What no call changes: where the pages came from.
+    ghost Base: { Type 0 };
+
+    /// Of a stage, what stands under it. It stays for as long as the stage does.
+    ghost base: { Self → Base };
+
     /// Reads a page into `buf`, and changes nothing but the two counts.
     ///
     /// `Damaged` carries this page. It comes exactly where the page is not in the map, save where
@@ -44,6 +50,7 @@ pub trait Pages {
 
         ensures tells { tells self.new ≡ tells self.old }
         ensures map { map self.new ≡ map self.old }
+        ensures base { base self.new ≡ base self.old }
         ensures allotted { allotted self.new ≡ allotted self.old }
         ensures limit { limit self.new ≡ limit self.old }
         ensures free_in_order { free_in_order self.old → free_in_order self.new };

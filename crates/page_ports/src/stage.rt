@@ -31,6 +31,7 @@ pub trait Stage: Pages {
         ensures faults { Self.faults self.old ≤ Self.faults self.new }
         ensures tells { Self.tells self.new ≡ Self.tells self.old }
         ensures limit { Self.limit self.new ≡ Self.limit self.old }
+        ensures base { Self.base self.new ≡ Self.base self.old }
         ensures free_in_order { IsTrue (Self.tells self.old) → Self.free_in_order self.old → Self.free_in_order self.new };
 
     /// Overwrites a page that is in the map. Its first byte is not 9, the kind of a free page.
@@ -51,6 +52,7 @@ pub trait Stage: Pages {
         ensures faults { Self.faults self.old ≤ Self.faults self.new }
         ensures tells { Self.tells self.new ≡ Self.tells self.old }
         ensures limit { Self.limit self.new ≡ Self.limit self.old }
+        ensures base { Self.base self.new ≡ Self.base self.old }
         ensures free_in_order { IsTrue (Self.tells self.old) → Self.free_in_order self.old → Self.free_in_order self.new };
 
     /// Takes a page out of the map, so that it may be given out again.
@@ -70,11 +72,16 @@ pub trait Stage: Pages {
         ensures faults { Self.faults self.old ≤ Self.faults self.new }
         ensures tells { Self.tells self.new ≡ Self.tells self.old }
         ensures limit { Self.limit self.new ≡ Self.limit self.old }
+        ensures base { Self.base self.new ≡ Self.base self.old }
         ensures free_in_order { IsTrue (Self.tells self.old) → Self.free_in_order self.old → Self.free_in_order self.new };
 
     /// No page of the map is at or past the number of pages that are given out.
     ghost below_allotted: { (stage : Self) (page : ℕ) (bytes : List ℕ) → IsTrue (Self.tells stage)
         → Self.map stage page ≡ Some bytes → page < Self.allotted stage };
+
+    /// No page of the map is below 3.
+    ghost from_three: { (stage : Self) (page : ℕ) (bytes : List ℕ) → IsTrue (Self.tells stage)
+        → Self.map stage page ≡ Some bytes → 3 ≤ page };
 
     ghost within_limit: { (stage : Self) → Self.allotted stage ≤ Self.limit stage };
 
