@@ -80,6 +80,7 @@ impl Cache {
         ensures keeps_err { OnErr result ((p : ℕ) → kept_pages self.new p ≡ kept_pages self.old p) }
 
         ensures at_most_one { D.reads disk.new ≤ D.reads disk.old + 1 }
+        ensures reads { D.reads disk.old ≤ D.reads disk.new }
         ensures miss { kept_pages self.old page ≡ None → D.reads disk.new ≡ min (D.reads disk.old + 1) (2 ^ 64 - 1) }
         ensures faults { D.faults disk.old ≤ D.faults disk.new }
         ensures faults_stay { result ≢ Err PageFault.Disk → D.faults disk.new ≡ D.faults disk.old }

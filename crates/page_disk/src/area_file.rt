@@ -12,6 +12,8 @@ use std::rt::Files;
 pub(crate) struct AreaFile<R: Files> {
     pub name: &'static str,
     pub file: Option<R::File>,
+    // Whether writes may be pending: since the last sync, or of a program that stopped before.
+    pub pending: bool,
 }
 
 impl<R: Files> AreaFile<R> {
@@ -52,12 +54,20 @@ impl<R: Files> AreaFile<R> {
         if page > page_count(file)? {
             return Err(Failed);
         }
-        write_page(file, page, buf)
+        self.pending = true;
+        write_page(self.opened(rt)?, page, buf)
     }
 
+    /// A call on the file only where writes may be pending, since it is the dearest call there is.
     pub fn sync(&mut self, rt: &R) -> Result<(), Failed> {
+        if !self.pending {
+            return Ok(());
+        }
         match self.opened(rt)?.sync_all() {
-            Ok(()) => Ok(()),
+            Ok(()) => {
+                self.pending = false;
+                Ok(())
+            }
             Err(_) => Err(Failed),
         }
     }

@@ -59,6 +59,7 @@ pub trait Disk {
         ensures absent { result ≡ Ok false → buf.new ≡ buf.old }
         ensures faults { CountsFault result (faults self.old) (faults self.new) }
         ensures reads { reads self.new ≡ min (reads self.old + 1) (2 ^ 64 - 1) }
+        ensures reads_stay_or_rise { reads self.old ≤ reads self.new }
         ensures worn_out { reads self.old ≡ 2 ^ 64 - 1 → IsErr result }
         ensures tells { tells self.new ≡ tells self.old }
         ensures image { image self.new ≡ image self.old }

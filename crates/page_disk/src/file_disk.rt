@@ -20,8 +20,8 @@ const JOURNAL_FILE: &str = "boxsum.journal";
 /// A disk over two files, one an area. A last part of a file that is shorter than a page does not
 /// count in its length.
 ///
-/// Each file is opened, and made where absent, at the first call on its area; a sync is a call on
-/// both, and makes sure of the folder's entries too, once. What the files hold is not told: that they
+/// Each file is opened, and made where absent, at the first call on its area; a sync makes sure of
+/// each file that was written since the last one, and at first of both and of the folder's entries. What the files hold is not told: that they
 /// keep to the model of a disk is taken from the operating system.
 #[derive(Drop)]
 pub struct FileDisk<R: Files> {
@@ -63,10 +63,12 @@ impl<R: Files> FileDisk<R> {
             pages: AreaFile {
                 name: pages,
                 file: None,
+                pending: true,
             },
             journal: AreaFile {
                 name: journal,
                 file: None,
+                pending: true,
             },
             folder_synced: false,
             reads: 0,
