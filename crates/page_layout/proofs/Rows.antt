@@ -1,9 +1,9 @@
 -- Rows of entries, one entry at a time.
-use Rattle.std.proofs.Common.{◌≡◌, ℕ, suc, ◌+◌, ◌-◌, ◌*◌, ◌<◌, ◌≤◌, List, [], ◌∷◌, ◌++◌, length, take, drop, sym, ap, ◌∙◌, subst, append_assoc, length-append, append-nil, arith}
+use Rattle.std.proofs.Common.{◌≡◌, ℕ, suc, ◌+◌, ◌-◌, ◌*◌, ◌<◌, ◌≤◌, List, [], ◌∷◌, ◌++◌, drop, sym, ap, ◌∙◌, subst, append_assoc, append-nil, arith}
 use Rattle.std.proofs.Math.Nat.{suc-mul, mul-le-mul_right}
-use Rattle.std.proofs.lemmas.List.{length-take-le}
-use Rattle.std.specs.List.{flat_map}
-use Rattle.page_layout.specs.Entries.{entries_at, length-entries}
+use Rattle.std.proofs.lemmas.List.Elements.{All-push}
+use Rattle.std.specs.List.{All}
+use Rattle.page_layout.specs.Entries.{entries_at}
 
 pub room_for_one : (size count i n : ℕ) → i < count → (count - i) * size ≤ n → size + (count - (i + 1)) * size ≤ n
 room_for_one size count i n lt h =
@@ -26,6 +26,9 @@ pub next_so_far : {X : Type 0} (f : List ℕ → X) (size n : ℕ) (front new : 
 next_so_far {X} f size n front new x count i bytes rest total lt is_size is_new is_x is_rest h =
     rw (is_new, is_x, is_rest, is_size) (one_more f size front count i bytes total lt h)
 
+pub next_typed : {X : Type 0} (P : X → Type 0) (front new : List X) (x : X) → new ≡ front ++ x ∷ [] → All P front → P x → All P new
+next_typed P front new x is_new each one = rw is_new (All-push P front x each one)
+
 pub next_room : (size n count i before after : ℕ) → i < count → n ≡ size → after + n ≡ before → (count - i) * size ≤ before → (count - (i + 1)) * size ≤ after
 next_room size n count i before after lt is_size is_after h =
     let most = room_for_one size count i before lt h in
@@ -39,12 +42,14 @@ no_more {X} f size front count i bytes total le h =
     let none : entries_at f size (count - i) bytes ≡ [] = ap (λ (n : ℕ). entries_at f size n bytes) k in
     sym (append-nil front) ∙ ap (λ (xs : List X). front ++ xs) (sym none) ∙ h
 
-pub room_to_put : {X : Type 0} (spelling : X → List ℕ) (size : ℕ) → ((x : X) → length (spelling x) ≡ size) → (xs : List X) (i : ℕ) (front start : List ℕ) → i < length xs
-    → front ≡ start ++ flat_map spelling (take i xs) → length start + length xs * size ≤ 4096 → length front + size ≤ 4096
-room_to_put spelling size sized xs i front start lt e h =
-    let taken : length (take i xs) ≡ i = length-take-le i xs (omega arith) in
-    let part : length (flat_map spelling (take i xs)) ≡ i * size = length-entries spelling size sized (take i xs) ∙ ap (λ (n : ℕ). n * size) taken in
-    let whole : length front ≡ length start + i * size = ap (λ (l : List ℕ). length l) e ∙ length-append start (flat_map spelling (take i xs)) ∙ ap (λ (n : ℕ). length start + n) part in
+pub room_to_put : (size count i before start : ℕ) → i < count → before ≡ start + i * size → start + count * size ≤ 4096 → before + size ≤ 4096
+room_to_put size count i before start lt e h =
     let product : suc i * size ≡ i * size + size = suc-mul i size in
-    let most : suc i * size ≤ length xs * size = mul-le-mul_right size (omega arith) in
+    let most : suc i * size ≤ count * size = mul-le-mul_right size (omega arith) in
+    omega arith
+
+pub next_len : (size i before start after : ℕ) → before ≡ start + i * size → after ≡ before + size → after ≡ start + (i + 1) * size
+next_len size i before start after e is_after =
+    let product : suc i * size ≡ i * size + size = suc-mul i size in
+    let same : (i + 1) * size ≡ suc i * size = ap (λ (n : ℕ). n * size) (omega arith) in
     omega arith

@@ -73,7 +73,7 @@ count-counted kind level count word double entries pad h =
     ∙ number_in-spelled 2 count rest fits
 
 pub entries-counted : {X : Type 0} (spelling : X → List ℕ) (f : List ℕ → X) (size : ℕ) (typed : X → Type 0)
-    → ((x : X) → length (spelling x) ≡ size) → ((x : X) (rest : List ℕ) → typed x → f (spelling x ++ rest) ≡ x)
+    → ((x : X) → typed x → length (spelling x) ≡ size) → ((x : X) (rest : List ℕ) → typed x → f (spelling x ++ rest) ≡ x)
     → (kind level word double most : ℕ) (xs : List X) → length xs ≤ most → most < 2 ^ 16 → All typed xs
     → entries_of f size most (counted_page spelling kind level word double xs) ≡ xs
 entries-counted spelling f size typed sized back kind level word double most xs few most_fits all =

@@ -15,14 +15,14 @@ pub record AreInOrder {X : Type 0} (keeps : X → Type 0) (precedes : X → X �
   pub each : All keeps entries
   pub order : AllAdjacentBelow precedes entries (length entries)
 
-pub length-entries : {X : Type 0} (spelling : X → List ℕ) (size : ℕ) → ((x : X) → length (spelling x) ≡ size) → (xs : List X) → length (flat_map spelling xs) ≡ length xs * size
-length-entries spelling size sized [] = sym (zero-mul size)
-length-entries spelling size sized (x ∷ xs) =
+pub length-entries : {X : Type 0} (spelling : X → List ℕ) (size : ℕ) (typed : X → Type 0) → ((x : X) → typed x → length (spelling x) ≡ size) → (xs : List X) → All typed xs → length (flat_map spelling xs) ≡ length xs * size
+length-entries spelling size typed sized [] all = sym (zero-mul size)
+length-entries spelling size typed sized (x ∷ xs) all =
     let product : suc (length xs) * size ≡ length xs * size + size = suc-mul (length xs) size in
-    omega (arith, length-append (spelling x) (flat_map spelling xs), sized x, length-entries spelling size sized xs)
+    omega (arith, length-append (spelling x) (flat_map spelling xs), sized x (all 0 x (omega arith)), length-entries spelling size typed sized xs (λ k d h. all (suc k) d (omega arith)))
 
 pub entries_at-spelled : {X : Type 0} (spelling : X → List ℕ) (f : List ℕ → X) (size : ℕ) (typed : X → Type 0)
-    → ((x : X) → length (spelling x) ≡ size) → ((x : X) (rest : List ℕ) → typed x → f (spelling x ++ rest) ≡ x)
+    → ((x : X) → typed x → length (spelling x) ≡ size) → ((x : X) (rest : List ℕ) → typed x → f (spelling x ++ rest) ≡ x)
     → (xs : List X) (rest : List ℕ) → All typed xs → entries_at f size (length xs) (flat_map spelling xs ++ rest) ≡ xs
 unfolding entries_at
 entries_at-spelled spelling f size typed sized back [] rest all = refl
@@ -30,6 +30,6 @@ entries_at-spelled spelling f size typed sized back (x ∷ xs) rest all =
     let others = flat_map spelling xs ++ rest in
     let regroup : (spelling x ++ flat_map spelling xs) ++ rest ≡ spelling x ++ others = append_assoc (spelling x) (flat_map spelling xs) rest in
     let first : f (spelling x ++ others) ≡ x = back x others (all 0 x (omega arith)) in
-    let after : drop size (spelling x ++ others) ≡ others = drop_at (spelling x) others size (sized x) in
+    let after : drop size (spelling x ++ others) ≡ others = drop_at (spelling x) others size (sized x (all 0 x (omega arith))) in
     let tail : entries_at f size (length xs) others ≡ xs = entries_at-spelled spelling f size typed sized back xs rest (λ k d h. all (suc k) d (omega arith)) in
     rw (regroup, first, after, tail) refl

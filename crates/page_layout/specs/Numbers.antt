@@ -1,7 +1,7 @@
 -- Numbers as bytes, the highest first, and fronts of pages filled up with zeros.
 use Rattle.std.specs.Prelude.{◌≡◌, ℕ, ◌-◌, ◌+◌, ◌<◌, ◌^◌, List, ◌++◌, length, drop, replicate, refl}
 use Rattle.std.proofs.Common.{ap, sym, ◌∙◌}
-use Rattle.std.proofs.lemmas.List.{drop_at, drop-drop, drop-replicate}
+use Rattle.std.proofs.lemmas.List.{drop_at, drop-drop, drop-replicate, length-replicate}
 use Rattle.page_ports.specs.Pages.{blank_bytes}
 use Rattle.byteorder.specs.Endian.{big_bytes, big_number}
 use Rattle.byteorder.specs.Numbers.{length-bytes_high_first, big_number-reads_back}
@@ -36,6 +36,26 @@ past-spelled n x rest = drop_at (spelled n x) rest n (length-spelled n x)
 -- past the first n bytes, and m more
 pub past_more : (n m x : ℕ) (rest : List ℕ) → drop (n + m) (spelled n x ++ rest) ≡ drop m rest
 past_more n m x rest = sym (drop-drop m n (spelled n x ++ rest)) ∙ ap (λ (bytes : List ℕ). drop m bytes) (past-spelled n x rest)
+
+-- past a first part of n bytes, and m more
+pub past_part : (part rest : List ℕ) (n m : ℕ) → length part ≡ n → drop (n + m) (part ++ rest) ≡ drop m rest
+past_part part rest n m sized = sym (drop-drop m n (part ++ rest)) ∙ ap (λ (bytes : List ℕ). drop m bytes) (drop_at part rest n sized)
+
+-- past the part that stands at place k
+pub next_part : (whole part rest : List ℕ) (k n : ℕ) → drop k whole ≡ part ++ rest → length part ≡ n → drop (k + n) whole ≡ rest
+next_part whole part rest k n at sized = sym (drop-drop n k whole) ∙ ap (λ (bytes : List ℕ). drop n bytes) at ∙ drop_at part rest n sized
+
+-- past the number that stands at place k
+pub next_number : (whole : List ℕ) (x : ℕ) (rest : List ℕ) (k n : ℕ) → drop k whole ≡ spelled n x ++ rest → drop (k + n) whole ≡ rest
+next_number whole x rest k n at = next_part whole (spelled n x) rest k n at (length-spelled n x)
+
+-- the number that stands at place k
+pub number_at : (whole : List ℕ) (x : ℕ) (rest : List ℕ) (k n : ℕ) → drop k whole ≡ spelled n x ++ rest → x < 256 ^ n → number_in n (drop k whole) ≡ x
+number_at whole x rest k n at fits = ap (λ (bytes : List ℕ). number_in n bytes) at ∙ number_in-spelled n x rest fits
+
+pub length-zeros : (n : ℕ) → length (zeros n) ≡ n
+unfolding zeros
+length-zeros n = length-replicate n 0
 
 pub drop-zeros : (m n : ℕ) → drop m (zeros n) ≡ zeros (n - m)
 unfolding zeros

@@ -1,10 +1,11 @@
 //! Pages of a kind with a level, a count, a word, a double word and as many entries.
 ghost use Rattle.std.specs.Prelude.{◌≡◌, ◌+◌, ◌*◌, ◌<◌, ◌≤◌, ◌^◌, length, drop};
+ghost use Rattle.std.specs.List.{All};
 ghost use Rattle.arrayvec.specs.ArrayVec.{array_vec_len};
 ghost use Rattle.page_layout.specs.Numbers.{number_in};
 ghost use Rattle.page_layout.specs.Counted.{front, counted_page, body_of, word_of, double_of, entries_of};
 
-use crate::entry::{Entry, get_all, put_all};
+use crate::entry::{Entry, Own, get_all, put_all};
 use crate::front::{Front, finish, put_u8, put_u16, put_u32, put_u64};
 use crate::number::{after, number_u16, number_u32, number_u64};
 use arrayvec::ArrayVec;
@@ -25,7 +26,7 @@ pub(crate) fn start(kind: u8, level: u8, count: u16, word: u32, double: u64) -> 
 }
 
 /// Makes the page the one of this front and these entries.
-pub(crate) fn write_counted<T: Entry>(
+pub(crate) fn write_counted<F, T: Entry<F>>(
     page: &mut Page,
     kind: u8,
     level: u8,
@@ -43,22 +44,28 @@ pub(crate) fn write_counted<T: Entry>(
 }
 
 /// The entries that a page may spell, at most this many.
-pub(crate) fn read_entries<T: Entry, const CAP: usize>(page: &Page, most: usize) -> ArrayVec<T, CAP>
+pub(crate) fn read_entries<F, T: Entry<F>, const CAP: usize>(
+    page: &Page,
+    most: usize,
+) -> ArrayVec<T, CAP>
     requires few { most ≤ CAP }
     requires room { 16 + most * T.SIZE ≤ 4096 }
-    ensures { result.items ≡ entries_of T.value_at T.SIZE most page.now }
+    ensures items { result.items ≡ entries_of T.value_at T.SIZE most page.now }
+    ensures typed { All T.is_typed result.items }
 {
     let count = usize::from(read_count(page));
     get_all(count.min(most), read_body(page))
 }
 
-fn read_count(page: &Page) -> u16
+/// The number in bytes 2 to 3.
+pub(crate) fn read_count(page: &Page) -> u16
     ensures { result ≡ number_in 2 (drop 2 page.now) }
 {
     number_u16(after(page, 2))
 }
 
-fn read_body(page: &Page) -> &[u8]
+/// The bytes that follow the front.
+pub(crate) fn read_body(page: &Page) -> &[u8]
     ensures value { result.now ≡ body_of page.now }
     ensures len { length result.now ≡ 4080 }
 {

@@ -9,8 +9,11 @@ use crate::front::{Front, put_u64};
 use crate::number::{number_u64, skip};
 use arrayvec::ArrayVec;
 
+/// The form of entries that are spelled in one way alone.
+pub(crate) struct Own;
+
 /// A value that fills `SIZE` bytes of a page.
-pub(crate) trait Entry: Copy + Default {
+pub(crate) trait Entry<F>: Copy + Default {
     const SIZE: usize;
 
     ghost SIZE: { ℕ };
@@ -37,7 +40,8 @@ pub(crate) trait Entry: Copy + Default {
     /// The value that the first bytes may spell.
     fn get(bytes: &[u8]) -> Self
         requires { SIZE ≤ length bytes.now }
-        ensures { result ≡ value_at bytes.now };
+        ensures value { result ≡ value_at bytes.now }
+        ensures typed { is_typed result };
 
     /// Whether the entry keeps its rule in a node of this level.
     fn keeps(&self, level: u8) -> bool
@@ -47,15 +51,16 @@ pub(crate) trait Entry: Copy + Default {
     fn precedes(&self, next: &Self) -> bool
         ensures { IsTrue result ↔ precedes self.now next.now };
 
-    ghost has_size: { (x : Self) → length (spelling x) ≡ SIZE };
+    ghost has_size: { (x : Self) → is_typed x → length (spelling x) ≡ SIZE };
 
-    ghost reads_back: { (x : Self) (rest : List ℕ) → is_typed x → value_at (spelling x ++ rest) ≡ x };
+    ghost reads_back: { (level : ℕ) (x : Self) (rest : List ℕ) → is_typed x → keeps level x → value_at (spelling x ++ rest) ≡ x };
 }
 
 /// Appends the entries in a row.
-pub(crate) fn put_all<T: Entry>(front: &mut Front, entries: &[T])
+pub(crate) fn put_all<F, T: Entry<F>>(front: &mut Front, entries: &[T])
     requires { array_vec_len front.old + length entries.now * T.SIZE ≤ 4096 }
-    ensures { front.new.items ≡ front.old.items ++ flat_map T.spelling entries.now }
+    ensures items { front.new.items ≡ front.old.items ++ flat_map T.spelling entries.now }
+    ensures len { array_vec_len front.new ≡ array_vec_len front.old + length entries.now * T.SIZE }
 {
     for entry in entries {
         entry.put(front);
@@ -63,10 +68,15 @@ pub(crate) fn put_all<T: Entry>(front: &mut Front, entries: &[T])
 }
 
 /// As many entries as the count says.
-pub(crate) fn get_all<T: Entry, const MOST: usize>(count: usize, bytes: &[u8]) -> ArrayVec<T, MOST>
+pub(crate) fn get_all<F, T: Entry<F>, const MOST: usize>(
+    count: usize,
+    bytes: &[u8],
+) -> ArrayVec<T, MOST>
     requires few { count ≤ MOST }
     requires room { count * T.SIZE ≤ length bytes.now }
-    ensures { result.items ≡ entries_at T.value_at T.SIZE count bytes.now }
+    ensures items { result.items ≡ entries_at T.value_at T.SIZE count bytes.now }
+    ensures typed { All T.is_typed result.items }
+    ensures len { array_vec_len result ≡ count }
 {
     let mut entries = ArrayVec::new();
     let mut rest = bytes;
@@ -77,7 +87,8 @@ pub(crate) fn get_all<T: Entry, const MOST: usize>(count: usize, bytes: &[u8]) -
     entries
 }
 
-fn each_keeps<T: Entry>(level: u8, entries: &[T]) -> bool
+/// Whether each entry keeps its rule in a node of this level.
+pub(crate) fn each_keeps<F, T: Entry<F>>(level: u8, entries: &[T]) -> bool
     ensures { IsTrue result ↔ All (T.keeps level) entries.now }
 {
     for entry in entries {
@@ -88,7 +99,7 @@ fn each_keeps<T: Entry>(level: u8, entries: &[T]) -> bool
     true
 }
 
-fn each_precedes<T: Entry>(entries: &[T]) -> bool
+fn each_precedes<F, T: Entry<F>>(entries: &[T]) -> bool
     ensures { IsTrue result ↔ AllAdjacentBelow T.precedes entries.now (length entries.now) }
 {
     for i in 1..entries.len() {
@@ -100,13 +111,13 @@ fn each_precedes<T: Entry>(entries: &[T]) -> bool
 }
 
 /// Whether each entry keeps its rule in a node of this level, and precedes the next one.
-pub(crate) fn are_in_order<T: Entry>(level: u8, entries: &[T]) -> bool
+pub(crate) fn are_in_order<F, T: Entry<F>>(level: u8, entries: &[T]) -> bool
     ensures { IsTrue result ↔ AreInOrder (T.keeps level) T.precedes entries.now }
 {
     each_keeps(level, entries) && each_precedes(entries)
 }
 
-impl Entry for u64 {
+impl Entry<Own> for u64 {
     const SIZE: usize = 8;
 
     ghost SIZE = { 8 };
@@ -137,7 +148,7 @@ impl Entry for u64 {
         *self < *next
     }
 
-    ghost has_size = { length-spelled 8 };
+    ghost has_size = { λ x _. length-spelled 8 x };
 
-    ghost reads_back = { λ x rest typed. number_in-spelled 8 x rest typed };
+    ghost reads_back = { λ _ x rest typed _. number_in-spelled 8 x rest typed };
 }

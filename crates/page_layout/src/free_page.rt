@@ -1,6 +1,6 @@
 //! Free pages.
 ghost use Rattle.std.specs.Prelude.{◌≡◌, ◌<◌, ◌≤◌, IfSome, Some, ◌↔◌, IsTrue};
-ghost use Rattle.page_layout.specs.FreePage.{free_page_in, next_fits};
+ghost use Rattle.page_layout.specs.FreePage.{IsTyped, free_page_in, next_fits};
 
 use crate::counted::{read_double, start};
 use crate::front::finish;
@@ -11,6 +11,13 @@ use page_ports::{FREE_PAGE, Page, blank_page};
 #[derive(Clone, Copy, Debug, PartialEq, Eq)]
 pub struct FreePage {
     pub next: u64,
+}
+
+/// Whether this may be the number of a free page, or 0 for none.
+pub(crate) fn next_fits(next: u64) -> bool
+    ensures { result ≡ next_fits next }
+{
+    next == 0 || next >= 3
 }
 
 impl FreePage {
@@ -26,8 +33,8 @@ impl FreePage {
 
     /// The free page that the page spells, or `None` exactly where it spells none.
     pub fn read(page: &Page) -> Option<FreePage>
-        // What is read keeps the rules, and the page is its spelling.
-        ensures found { IfSome result (λ value. IsFreePage value × (page.now ≡ free_page_page value)) }
+        // What is read keeps the rules, its numbers are those of their types, and the page is its spelling.
+        ensures found { IfSome result (λ value. IsFreePage value × IsTyped value × (page.now ≡ free_page_page value)) }
         // Where the page is the spelling of a value, that value is read.
         ensures only { (value : FreePage) → IsTyped value → IsFreePage value → page.now ≡ free_page_page value → result ≡ Some value }
     {
@@ -52,12 +59,13 @@ impl FreePage {
     fn keeps_rules(&self) -> bool
         ensures { IsTrue result ↔ IsFreePage self.now }
     {
-        self.next == 0 || self.next >= 3
+        next_fits(self.next)
     }
 }
 
 fn guess(page: &Page) -> FreePage
-    ensures { result ≡ free_page_in page.now }
+    ensures value { result ≡ free_page_in page.now }
+    ensures typed { IsTyped result }
 {
     FreePage {
         next: read_double(page),

@@ -1,5 +1,5 @@
 //! The heads of the journal's groups.
-ghost use Rattle.page_layout.specs.Head.{head_in};
+ghost use Rattle.page_layout.specs.Head.{IsTyped, head_in};
 ghost use Rattle.std.specs.Prelude.{◌≡◌, IfSome, Some, ◌↔◌, IsTrue};
 
 use crate::counted::{read_entries, write_counted};
@@ -33,8 +33,8 @@ impl JournalHead {
 
     /// The head that the page spells, or `None` exactly where it spells none.
     pub fn read(page: &Page) -> Option<JournalHead>
-        // What is read keeps the rules, and the page is its spelling.
-        ensures found { IfSome result (λ head. IsHead head × (page.now ≡ head_page head)) }
+        // What is read keeps the rules, its numbers are those of their types, and the page is its spelling.
+        ensures found { IfSome result (λ head. IsHead head × IsTyped head × (page.now ≡ head_page head)) }
         // Where the page is the spelling of a head, that head is read.
         ensures only { (head : JournalHead) → IsTyped head → IsHead head → page.now ≡ head_page head → result ≡ Some head }
     {
@@ -65,7 +65,8 @@ impl JournalHead {
 }
 
 fn guess(page: &Page) -> JournalHead
-    ensures { result ≡ head_in page.now }
+    ensures value { result ≡ head_in page.now }
+    ensures typed { IsTyped result }
 {
     JournalHead {
         more: page[1] == 1,

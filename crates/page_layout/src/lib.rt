@@ -6,22 +6,39 @@
 //! All numbers are spelled with their highest byte first, and bytes that no field names are 0.
 #![tactic(auto)]
 
+mod ba_entry;
 mod children;
 mod counted;
+mod cut_node;
+mod cut_page;
+mod dated;
 mod entry;
 mod free_page;
 mod front;
 mod journal_head;
+mod life_node;
+mod meta;
 mod mv_node;
 mod number;
+mod point_leaf;
 mod same;
 mod sb_node;
+mod signed;
 mod super_page;
+mod table_node;
 #[cfg(test)]
 mod tests;
+mod three;
+mod tree_value;
 
+pub use cut_node::{CutNode, cuts_are_tested};
+pub use cut_page::CutPage;
 pub use free_page::FreePage;
 pub use journal_head::JournalHead;
+pub use life_node::{LifeEntry, LifeNode};
+pub use meta::Meta;
 pub use mv_node::{MvEntry, MvNode};
+pub use point_leaf::PointLeaf;
 pub use sb_node::{SbEntry, SbNode};
 pub use super_page::Super;
+pub use table_node::{TableEntry, TableNode};

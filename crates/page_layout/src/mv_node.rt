@@ -1,10 +1,10 @@
 //! Nodes of the multiversion trees.
 ghost use Rattle.std.specs.Prelude.{◌≡◌, ◌<◌, ◌≤◌, IfSome, Some, ◌↔◌, IsTrue};
-ghost use Rattle.page_layout.specs.MvNode.{mv_entry_bytes, mv_entry_at, IsMvEntryTyped, mv_keeps, mv_precedes, before_fits, length-mv_entry, mv_entry-back, mv_node_in};
+ghost use Rattle.page_layout.specs.MvNode.{IsTyped, mv_entry_bytes, mv_entry_at, IsMvEntryTyped, mv_keeps, mv_precedes, before_fits, length-mv_entry, mv_entry-back, mv_node_in};
 
 use crate::children::child_fits;
 use crate::counted::{read_double, read_entries, read_word, write_counted};
-use crate::entry::{Entry, are_in_order};
+use crate::entry::{Entry, Own, are_in_order};
 use crate::front::{Front, put_u32, put_u64, put_u128};
 use crate::number::{number_u32, number_u64, number_u128, skip};
 use crate::same::are_same;
@@ -38,7 +38,7 @@ pub struct MvNode {
     pub entries: ArrayVec<MvEntry, 100>,
 }
 
-impl Entry for MvEntry {
+impl Entry<Own> for MvEntry {
     const SIZE: usize = 40;
 
     ghost SIZE = { 40 };
@@ -79,9 +79,9 @@ impl Entry for MvEntry {
         self.low < next.low || (self.low == next.low && self.start < next.start)
     }
 
-    ghost has_size = { length-mv_entry };
+    ghost has_size = { λ x _. length-mv_entry x };
 
-    ghost reads_back = { mv_entry-back };
+    ghost reads_back = { λ _ x rest typed _. mv_entry-back x rest typed };
 }
 
 fn before_fits(place: u32, before: u64) -> bool
@@ -110,8 +110,8 @@ impl MvNode {
 
     /// The mv node that the page spells, or `None` exactly where it spells none.
     pub fn read(page: &Page) -> Option<MvNode>
-        // What is read keeps the rules, and the page is its spelling.
-        ensures found { IfSome result (λ value. IsMvNode value × (page.now ≡ mv_node_page value)) }
+        // What is read keeps the rules, its numbers are those of their types, and the page is its spelling.
+        ensures found { IfSome result (λ value. IsMvNode value × IsTyped value × (page.now ≡ mv_node_page value)) }
         // Where the page is the spelling of a value, that value is read.
         ensures only { (value : MvNode) → IsTyped value → IsMvNode value → page.now ≡ mv_node_page value → result ≡ Some value }
     {
@@ -145,7 +145,8 @@ impl MvNode {
 }
 
 fn guess(page: &Page) -> MvNode
-    ensures { result ≡ mv_node_in page.now }
+    ensures value { result ≡ mv_node_in page.now }
+    ensures typed { IsTyped result }
 {
     MvNode {
         level: page[1],

@@ -1,11 +1,11 @@
 //! Nodes of the trees over versions.
 ghost use Rattle.std.specs.Prelude.{◌≡◌, ◌<◌, ◌≤◌, IfSome, Some, ◌↔◌, IsTrue};
 ghost use Rattle.page_layout.specs.Children.{child_fits};
-ghost use Rattle.page_layout.specs.SbNode.{sb_entry_bytes, sb_entry_at, IsSbEntryTyped, length-sb_entry, sb_entry-back, sb_node_in};
+ghost use Rattle.page_layout.specs.SbNode.{IsTyped, sb_entry_bytes, sb_entry_at, IsSbEntryTyped, length-sb_entry, sb_entry-back, sb_node_in};
 
 use crate::children::child_fits;
 use crate::counted::{read_entries, write_counted};
-use crate::entry::{Entry, are_in_order};
+use crate::entry::{Entry, Own, are_in_order};
 use crate::front::{Front, put_u32, put_u64, put_u128};
 use crate::number::{number_u32, number_u64, number_u128, skip};
 use crate::same::are_same;
@@ -32,7 +32,7 @@ pub struct SbNode {
     pub entries: ArrayVec<SbEntry, 65>,
 }
 
-impl Entry for SbEntry {
+impl Entry<Own> for SbEntry {
     const SIZE: usize = 28;
 
     ghost SIZE = { 28 };
@@ -69,9 +69,9 @@ impl Entry for SbEntry {
         self.low < next.low
     }
 
-    ghost has_size = { length-sb_entry };
+    ghost has_size = { λ x _. length-sb_entry x };
 
-    ghost reads_back = { sb_entry-back };
+    ghost reads_back = { λ _ x rest typed _. sb_entry-back x rest typed };
 }
 
 impl SbNode {
@@ -87,8 +87,8 @@ impl SbNode {
 
     /// The sb node that the page spells, or `None` exactly where it spells none.
     pub fn read(page: &Page) -> Option<SbNode>
-        // What is read keeps the rules, and the page is its spelling.
-        ensures found { IfSome result (λ value. IsSbNode value × (page.now ≡ sb_node_page value)) }
+        // What is read keeps the rules, its numbers are those of their types, and the page is its spelling.
+        ensures found { IfSome result (λ value. IsSbNode value × IsTyped value × (page.now ≡ sb_node_page value)) }
         // Where the page is the spelling of a value, that value is read.
         ensures only { (value : SbNode) → IsTyped value → IsSbNode value → page.now ≡ sb_node_page value → result ≡ Some value }
     {
@@ -121,7 +121,8 @@ impl SbNode {
 }
 
 fn guess(page: &Page) -> SbNode
-    ensures { result ≡ sb_node_in page.now }
+    ensures value { result ≡ sb_node_in page.now }
+    ensures typed { IsTyped result }
 {
     SbNode {
         level: page[1],

@@ -2,7 +2,7 @@
 ghost use Rattle.std.specs.Prelude.{◌≡◌, ◌≤◌, IfSome, Some, ◌↔◌, IsTrue};
 ghost use Rattle.bw_types.specs.Fits.{IsInRange};
 ghost use Rattle.arrayvec.specs.ArrayVec.{array_vec_len};
-ghost use Rattle.page_layout.specs.Super.{super_in, format_of, degree_byte, degree_in};
+ghost use Rattle.page_layout.specs.Super.{IsTyped, super_in, format_of, degree_byte, degree_in};
 
 use crate::front::{Front, finish, put, put_u8, put_u32, put_u64};
 use crate::number::{after, number_u32, number_u64};
@@ -84,8 +84,8 @@ impl Super {
 
     /// The superblock that the page spells, or `None` exactly where it spells none.
     pub fn read(page: &Page) -> Option<Super>
-        // What is read keeps the rules, and the page is its spelling.
-        ensures found { IfSome result (λ value. IsSuper value × (page.now ≡ super_page value)) }
+        // What is read keeps the rules, its numbers are those of their types, and the page is its spelling.
+        ensures found { IfSome result (λ value. IsSuper value × IsTyped value × (page.now ≡ super_page value)) }
         // Where the page is the spelling of a value, that value is read.
         ensures only { (value : Super) → IsTyped value → IsSuper value → page.now ≡ super_page value → result ≡ Some value }
     {
@@ -115,7 +115,8 @@ impl Super {
 }
 
 fn guess(page: &Page) -> Super
-    ensures { result ≡ super_in page.now }
+    ensures value { result ≡ super_in page.now }
+    ensures typed { IsTyped result }
 {
     Super {
         params: Params {

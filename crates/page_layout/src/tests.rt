@@ -1,7 +1,8 @@
 //! Pages made byte by byte, read, and written again.
 use super::*;
-use bw_types::Params;
-use page_ports::blank_page;
+use bw_types::{Params, Tree};
+use page_ports::{Page, blank_page};
+use std::process::Abort;
 use std::test::Fail;
 
 #[test]
@@ -111,5 +112,171 @@ fn the_superblock_byte_by_byte(rt: HostRuntime) -> Result<(), Fail> {
     page[4095] = 1;
     assert!(rt; Super::read(&page).is_none());
     Super::one_spelling();
+    Ok(())
+}
+
+// What the meta page that the page spells is spelled by, after a look at its numbers.
+fn meta_again(rt: &impl Abort, page: &Page) -> Page {
+    let mut again = blank_page();
+    match Meta::read(page) {
+        Some(meta) => {
+            assert!(rt; meta.lives == 1 && meta.version == 0 && meta.events == 0 && meta.rows == 0);
+            assert!(rt; meta.allotted == 3 && meta.free == 0 && meta.mass == 0);
+            assert!(rt; meta.table == Tree::default() && meta.roots.len() == 8);
+            meta.write(&mut again);
+        }
+        None => assert!(rt; false),
+    }
+    again
+}
+
+#[test]
+fn the_first_meta_page_byte_by_byte(rt: HostRuntime) -> Result<(), Fail> {
+    let mut page = blank_page();
+    page[0] = 7;
+    page[1] = 1;
+    page[23] = 3;
+    page[79] = 8;
+    let again = meta_again(&rt, &page);
+    let start = [
+        0x07u8, 1, 0, 0, 0, 0, 0, 0, 0, 0, 0, 0, 0, 0, 0, 0, 0, 0, 0, 0, 0, 0, 0, 3, 0, 0, 0, 0, 0,
+        0, 0, 0,
+    ];
+    for i in 0..32usize {
+        assert!(rt; again[i] == start[i]);
+    }
+    assert!(rt; again == page);
+    Meta::one_spelling();
+    Ok(())
+}
+
+#[test]
+fn a_full_page_of_points(rt: HostRuntime) -> Result<(), Fail> {
+    let mut page = blank_page();
+    page[0] = 5;
+    page[1] = 1;
+    page[3] = 64;
+    page[14] = 1;
+    for i in 0..64u8 {
+        page[16 + 44 * usize::from(i) + 22] = 1;
+        page[16 + 44 * usize::from(i) + 27] = i;
+        page[16 + 44 * usize::from(i) + 43] = 9;
+    }
+    let mut again = blank_page();
+    match PointLeaf::read(&page) {
+        Some(leaf) => {
+            assert_eq!(rt; leaf.points.len(), 64);
+            assert!(rt; leaf.next == 256 && leaf.points.as_slice()[5].keys == [0, 0, 256]);
+            assert!(rt;
+                leaf.points.as_slice()[5].version == 5 && leaf.points.as_slice()[5].weight == 9
+            );
+            leaf.write(&mut again);
+        }
+        None => assert!(rt; false),
+    }
+    assert!(rt; again == page);
+    PointLeaf::one_spelling();
+    Ok(())
+}
+
+#[test]
+fn a_full_page_of_cuts(rt: HostRuntime) -> Result<(), Fail> {
+    let mut page = blank_page();
+    page[0] = 4;
+    page[1] = 2;
+    page[3] = 16;
+    for i in 0..15usize {
+        page[16 + 32 * i] = 1;
+        page[16 + 32 * i + 1] = 2;
+        page[16 + 32 * i + 15] = 7;
+    }
+    for i in 0..16usize {
+        page[512 + 120 * i + 7] = 3;
+        page[512 + 120 * i + 15] = 4;
+        page[512 + 120 * i + 16] = 255;
+        page[512 + 120 * i + 23] = 60;
+    }
+    let mut again = blank_page();
+    match CutPage::read(&page) {
+        Some(cut_page) => cut_page.write(&mut again),
+        None => assert!(rt; false),
+    }
+    assert!(rt; again == page);
+    // The last two nodes change places, so that a cut has no sides.
+    page[16 + 32 * 14] = 0;
+    page[16 + 32 * 14 + 1] = 0;
+    page[16 + 32 * 14 + 15] = 0;
+    page[16 + 32 * 15] = 1;
+    assert!(rt; CutPage::read(&page).is_none());
+    CutPage::one_spelling();
+    cuts_are_tested();
+    Ok(())
+}
+
+#[test]
+fn full_nodes_by_id_and_life(rt: HostRuntime) -> Result<(), Fail> {
+    let mut page = blank_page();
+    page[0] = 10;
+    page[1] = 1;
+    page[3] = 14;
+    for i in 0..14u8 {
+        page[16 + 276 * usize::from(i) + 32] = 255;
+        page[16 + 276 * usize::from(i) + 259] = 1;
+        page[16 + 276 * usize::from(i) + 275] = i + 1;
+    }
+    let mut again = blank_page();
+    match LifeNode::read(&page) {
+        Some(leaf) => leaf.write(&mut again),
+        None => assert!(rt; false),
+    }
+    assert!(rt; again == page);
+    page = blank_page();
+    page[0] = 10;
+    page[1] = 2;
+    page[3] = 200;
+    for i in 0..200u8 {
+        page[16 + 20 * usize::from(i) + 11] = i;
+        page[16 + 20 * usize::from(i) + 19] = 3;
+    }
+    match LifeNode::read(&page) {
+        Some(index) => index.write(&mut again),
+        None => assert!(rt; false),
+    }
+    assert!(rt; again == page);
+    LifeNode::one_spelling();
+    Ok(())
+}
+
+#[test]
+fn full_nodes_by_id(rt: HostRuntime) -> Result<(), Fail> {
+    let mut page = blank_page();
+    page[0] = 6;
+    page[1] = 1;
+    page[3] = 15;
+    for i in 0..15u8 {
+        page[16 + 272 * usize::from(i) + 7] = i;
+        page[16 + 272 * usize::from(i) + 259] = 1;
+        page[16 + 272 * usize::from(i) + 267] = 2;
+    }
+    let mut again = blank_page();
+    match TableNode::read(&page) {
+        Some(leaf) => leaf.write(&mut again),
+        None => assert!(rt; false),
+    }
+    assert!(rt; again == page);
+    page = blank_page();
+    page[0] = 6;
+    page[1] = 2;
+    page[3] = 200;
+    for i in 0..200u8 {
+        page[16 + 16 * usize::from(i) + 7] = i;
+        page[16 + 16 * usize::from(i) + 15] = 3;
+    }
+    match TableNode::read(&page) {
+        Some(index) => index.write(&mut again),
+        None => assert!(rt; false),
+    }
+    assert!(rt; again == page);
+    TableNode::one_spelling();
     Ok(())
 }

@@ -1,4 +1,4 @@
-use Rattle.page_layout.proofs.SbNodes.{one_spelling}
+use Rattle.page_layout.specs.SbNodeLaws.{one_spelling}
 use Rattle.page_layout.proofs.sb_node.SbNode.one_spelling.Goals as goal
 
 pub returns : goal.returns

@@ -14,7 +14,7 @@ mv_node_in-page node typed is_node =
     let place : word_of (mv_node_page node) ≡ node.place = word-counted 3 node.level (length node.entries.items) node.place node.before row pad typed.place in
     let before : double_of (mv_node_page node) ≡ node.before = double-counted 3 node.level (length node.entries.items) node.place node.before row pad typed.before in
     let entries : entries_of mv_entry_at 40 96 (mv_node_page node) ≡ node.entries.items =
-    entries-counted mv_entry_bytes mv_entry_at 40 IsMvEntryTyped length-mv_entry mv_entry-back 3 node.level node.place node.before 96 node.entries.items few (omega arith) typed.entries in
+    entries-counted mv_entry_bytes mv_entry_at 40 IsMvEntryTyped (λ x _. length-mv_entry x) mv_entry-back 3 node.level node.place node.before 96 node.entries.items few (omega arith) typed.entries in
     λ i. record { level = node.level; place = place i; before = before i; entries = record { items = entries i } }
 
 pub one_spelling : (value other : MvNode) → IsTyped value → IsMvNode value → IsTyped other → IsMvNode other → mv_node_page value ≡ mv_node_page other → value ≡ other

@@ -8,7 +8,7 @@ pub sb_node_in-page : (node : SbNode) → IsTyped node → IsSbNode node → sb_
 sb_node_in-page node typed is_node =
     let few : length node.entries.items ≤ 64 = is_node.few in
     let entries : entries_of sb_entry_at 28 64 (sb_node_page node) ≡ node.entries.items =
-    entries-counted sb_entry_bytes sb_entry_at 28 IsSbEntryTyped length-sb_entry sb_entry-back 2 node.level 0 0 64 node.entries.items few (omega arith) typed in
+    entries-counted sb_entry_bytes sb_entry_at 28 IsSbEntryTyped (λ x _. length-sb_entry x) sb_entry-back 2 node.level 0 0 64 node.entries.items few (omega arith) typed in
     λ i. record { level = node.level; entries = record { items = entries i } }
 
 pub one_spelling : (value other : SbNode) → IsTyped value → IsSbNode value → IsTyped other → IsSbNode other → sb_node_page value ≡ sb_node_page other → value ≡ other

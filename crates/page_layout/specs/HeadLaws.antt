@@ -14,7 +14,7 @@ pub head_in-page : (head : JournalHead) → IsTyped head → IsHead head → hea
 head_in-page head typed is_head =
     let few : length head.homes.items ≤ 500 = is_head.few in
     let homes : entries_of (number_in 8) 8 500 (head_page head) ≡ head.homes.items =
-    entries-counted (spelled 8) (number_in 8) 8 (λ (x : ℕ). x < 2 ^ 64) (length-spelled 8) (λ (x : ℕ) (rest : List ℕ) h. number_in-spelled 8 x rest h) 8 (if head.more then 1 else 0) 0 0 500 head.homes.items few (omega arith) typed in
+    entries-counted (spelled 8) (number_in 8) 8 (λ (x : ℕ). x < 2 ^ 64) (λ (x : ℕ) h. length-spelled 8 x) (λ (x : ℕ) (rest : List ℕ) h. number_in-spelled 8 x rest h) 8 (if head.more then 1 else 0) 0 0 500 head.homes.items few (omega arith) typed in
     λ i. record { more = more-is head.more i; homes = record { items = homes i } }
 
 pub one_spelling : (head other : JournalHead) → IsTyped head → IsHead head → IsTyped other → IsHead other → head_page head ≡ head_page other → head ≡ other

@@ -1,0 +1,13 @@
+use Rattle.page_layout.specs.Meta.{IsMeta, IsTyped, meta_page, meta_in}
+use Rattle.page_layout.specs.MetaLaws.{meta_in-page}
+use Rattle.page_layout.proofs.Readings.{is_found, breaks_rules, differs}
+use Rattle.page_layout.proofs.meta.Meta.read.Goals as goal
+
+pub returns-then-not-keeps_rules-clause-only : goal.returns-then-not-keeps_rules-clause-only
+returns-then-not-keeps_rules-clause-only c = breaks_rules meta_in meta_page IsTyped IsMeta meta_in-page c.args.page.now c.guess-value.result c.keeps_rules.result c.guess-value.ensures.value c.keeps_rules.ensures.1 c.if-not-keeps_rules.true
+
+pub returns-then-not-are_same-clause-only : goal.returns-then-not-are_same-clause-only
+returns-then-not-are_same-clause-only c = differs meta_in meta_page IsTyped IsMeta meta_in-page c.args.page.now c.write.new.page c.guess-value.result c.are_same.result c.guess-value.ensures.value c.write.ensures c.are_same.ensures.1 c.if-not-are_same.true
+
+pub returns-clause-only : goal.returns-clause-only
+returns-clause-only c = is_found meta_in meta_page IsTyped IsMeta meta_in-page c.args.page.now c.guess-value.result c.guess-value.ensures.value

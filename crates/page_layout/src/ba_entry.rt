@@ -1,0 +1,153 @@
+//! The entries of pages of cuts.
+ghost use Rattle.std.specs.Prelude.{◌≡◌, ◌+◌, ◌≤◌, ◌++◌, length, IsTrue};
+ghost use Rattle.std.specs.List.{All, flat_map, list_all};
+ghost use Rattle.arrayvec.specs.ArrayVec.{array_vec_len};
+ghost use Rattle.page_layout.specs.Entries.{entries_at};
+ghost use Rattle.page_layout.specs.TreeValue.{IsTreeTyped, tree_at, tree_fits};
+ghost use Rattle.page_layout.specs.BaEntry.{outside_bytes, outside_at, pocket_at, trees_at, IsOutsideTyped, outside_fits, ba_entry_bytes, ba_entry_at, IsBaEntryTyped, ba_entry_fits, length-ba_entry, ba_entry-back};
+
+use crate::entry::{Entry, Own, put_all};
+use crate::front::{Front, put, put_u32, put_u64};
+use crate::number::{number_u32, number_u64, skip};
+use crate::tree_value::{plain_tree_fits, tree_fits};
+use bw_types::{BaEntry, Outside, Tree};
+
+// Stands where trees have the number of levels of the first one, which is at most 16.
+const POCKET: u8 = 255;
+
+const MOST_IN_POCKET: u32 = 60;
+
+#[tactic(auto, unfolding(crate::specs::Numbers::zeros))]
+fn put_pocket(front: &mut Front, page: u64, count: u32)
+    requires { array_vec_len front.old + 112 ≤ 4096 }
+    ensures items { front.new.items ≡ front.old.items ++ outside_bytes (Outside.Pocket page count) }
+    ensures len { array_vec_len front.new ≡ array_vec_len front.old + 112 }
+{
+    put_u64(front, page);
+    put(front, &[POCKET, 0, 0, 0]);
+    put_u32(front, count);
+    put(front, &[0; 96]);
+}
+
+fn put_trees(front: &mut Front, subtotal: &Tree, borders: &[Tree; 3])
+    requires { array_vec_len front.old + 112 ≤ 4096 }
+    ensures items { front.new.items ≡ front.old.items ++ outside_bytes (Outside.Trees subtotal.now borders.now) }
+    ensures len { array_vec_len front.new ≡ array_vec_len front.old + 112 }
+{
+    subtotal.put(front);
+    put_all(front, borders);
+}
+
+fn put_outside(front: &mut Front, outside: &Outside)
+    requires { array_vec_len front.old + 112 ≤ 4096 }
+    ensures items { front.new.items ≡ front.old.items ++ outside_bytes outside.now }
+    ensures len { array_vec_len front.new ≡ array_vec_len front.old + 112 }
+{
+    match outside {
+        Outside::Pocket { page, count } => put_pocket(front, *page, *count),
+        Outside::Trees { subtotal, borders } => put_trees(front, subtotal, borders),
+    }
+}
+
+fn get_pocket(bytes: &[u8]) -> Outside
+    requires { 112 ≤ length bytes.now }
+    ensures value { result ≡ pocket_at bytes.now }
+    ensures typed { IsOutsideTyped result }
+{
+    Outside::Pocket {
+        page: number_u64(bytes),
+        count: number_u32(skip(bytes, 12)),
+    }
+}
+
+#[tactic(auto, unfolding(crate::specs::Entries::entries_at))]
+fn get_borders(bytes: &[u8]) -> [Tree; 3]
+    requires { 84 ≤ length bytes.now }
+    ensures value { result ≡ entries_at tree_at 28 3 bytes.now }
+    ensures typed { All IsTreeTyped result }
+{
+    let second = skip(bytes, 28);
+    let third = skip(second, 28);
+    [Tree::get(bytes), Tree::get(second), Tree::get(third)]
+}
+
+fn get_trees(bytes: &[u8]) -> Outside
+    requires { 112 ≤ length bytes.now }
+    ensures value { result ≡ trees_at bytes.now }
+    ensures typed { IsOutsideTyped result }
+{
+    Outside::Trees {
+        subtotal: Tree::get(bytes),
+        borders: get_borders(skip(bytes, 28)),
+    }
+}
+
+fn get_outside(bytes: &[u8]) -> Outside
+    requires { 112 ≤ length bytes.now }
+    ensures value { result ≡ outside_at bytes.now }
+    ensures typed { IsOutsideTyped result }
+{
+    if bytes[8] == POCKET {
+        get_pocket(bytes)
+    } else {
+        get_trees(bytes)
+    }
+}
+
+fn borders_fit(borders: &[Tree; 3]) -> bool
+    ensures { result ≡ list_all tree_fits borders.now }
+{
+    borders.iter().all(|border| tree_fits(border))
+}
+
+fn outside_fits(outside: &Outside) -> bool
+    ensures { result ≡ outside_fits outside.now }
+{
+    match outside {
+        Outside::Pocket { page, count } => *page >= 3 && (1 <= *count && *count <= MOST_IN_POCKET),
+        Outside::Trees { subtotal, borders } => {
+            plain_tree_fits(subtotal) && borders_fit(borders)
+        }
+    }
+}
+
+impl Entry<Own> for BaEntry {
+    const SIZE: usize = 120;
+
+    ghost SIZE = { 120 };
+
+    ghost spelling = { ba_entry_bytes };
+
+    ghost value_at = { ba_entry_at };
+
+    ghost is_typed = { IsBaEntryTyped };
+
+    // The rule is that of each level, and the order of entries is that of the cuts.
+    ghost keeps = { λ _ e. IsTrue (ba_entry_fits e) };
+
+    ghost precedes = { λ _ _. Unit {0} };
+
+    fn put(&self, front: &mut Front) {
+        put_u64(front, self.child);
+        put_outside(front, &self.outside);
+    }
+
+    fn get(bytes: &[u8]) -> BaEntry {
+        BaEntry {
+            child: number_u64(bytes),
+            outside: get_outside(skip(bytes, 8)),
+        }
+    }
+
+    fn keeps(&self, _level: u8) -> bool {
+        self.child >= 3 && outside_fits(&self.outside)
+    }
+
+    fn precedes(&self, _next: &BaEntry) -> bool {
+        true
+    }
+
+    ghost has_size = { length-ba_entry };
+
+    ghost reads_back = { λ _ x rest typed fits. ba_entry-back x rest typed fits };
+}

@@ -1,0 +1,117 @@
+//! Pages of cuts: the index pages of trees in two and three dimensions.
+ghost use Rattle.std.specs.Prelude.{◌≡◌, ◌≤◌, IfSome, Some, ◌↔◌, IsTrue};
+ghost use Rattle.std.specs.List.{All};
+ghost use Rattle.page_layout.specs.CutNode.{IsCutNodeTyped};
+ghost use Rattle.page_layout.specs.BaEntry.{IsBaEntryTyped};
+ghost use Rattle.page_layout.specs.CutPage.{IsTyped, count_in, nodes_in, entries_in, cut_page_in};
+
+use crate::counted::{read_body, read_count, start};
+use crate::cut_node::{CutNode, spell_cuts};
+use crate::entry::{each_keeps, get_all, put_all};
+use crate::front::finish;
+use crate::number::skip;
+use crate::same::are_same;
+use arrayvec::ArrayVec;
+use bw_types::BaEntry;
+use page_ports::{Page, blank_page};
+
+const KIND: u8 = 4;
+
+/// A page that cuts its region into the regions of its entries.
+///
+/// A page spells a level of 2 to 16 and 1 to 16 entries. The cuts are nodes in pre-order, one less than
+/// twice the entries; the i-th node of an entry stands for the i-th entry. Children are at least 3. A
+/// pocket is a page of at least 3 and has 1 to 60 points; a subtotal has no changes and no last page. In
+/// memory there is room for one more entry.
+#[derive(Debug, PartialEq, Drop)]
+pub struct CutPage {
+    pub level: u8,
+    pub cuts: ArrayVec<CutNode, 33>,
+    pub entries: ArrayVec<BaEntry, 17>,
+}
+
+fn count_in(page: &Page) -> usize
+    ensures value { result ≡ count_in page.now }
+    ensures few { result ≤ 16 }
+{
+    usize::from(read_count(page)).min(16)
+}
+
+fn read_nodes(page: &Page, count: usize) -> ArrayVec<CutNode, 33>
+    requires { count ≤ 16 }
+    ensures items { result.items ≡ nodes_in page.now count }
+    ensures typed { All IsCutNodeTyped result.items }
+{
+    get_all((2 * count).saturating_sub(1), read_body(page))
+}
+
+fn read_cut_entries(page: &Page, count: usize) -> ArrayVec<BaEntry, 17>
+    requires { count ≤ 16 }
+    ensures items { result.items ≡ entries_in page.now count }
+    ensures typed { All IsBaEntryTyped result.items }
+{
+    let nodes = (2 * count).saturating_sub(1);
+    get_all(count, skip(read_body(page), nodes * 16))
+}
+
+impl CutPage {
+    ghost use Rattle.page_layout.specs.CutPage.{IsCutPage, IsTyped, cut_page_page};
+
+    /// Makes the page the spelling of this page of cuts.
+    pub fn write(&self, page: &mut Page)
+        requires { IsCutPage self.now }
+        ensures { page.new ≡ cut_page_page self.now }
+    {
+        let mut front = start(KIND, self.level, self.entries.len() as u16, 0, 0);
+        put_all(&mut front, self.cuts.as_slice());
+        put_all(&mut front, self.entries.as_slice());
+        finish(&front, page);
+    }
+
+    /// The page of cuts that the page spells, or `None` exactly where it spells none.
+    pub fn read(page: &Page) -> Option<CutPage>
+        // What is read keeps the rules, its numbers are those of their types, and the page is its spelling.
+        ensures found { IfSome result (λ value. IsCutPage value × IsTyped value × (page.now ≡ cut_page_page value)) }
+        // Where the page is the spelling of a value, that value is read.
+        ensures only { (value : CutPage) → IsTyped value → IsCutPage value → page.now ≡ cut_page_page value → result ≡ Some value }
+    {
+        let value = guess(page);
+        if !value.keeps_rules() {
+            return None;
+        }
+        let mut again = blank_page();
+        value.write(&mut again);
+        if !are_same(&again, page) {
+            return None;
+        }
+        Some(value)
+    }
+
+    /// Proves that no two values have one spelling; it does nothing when it runs.
+    pub fn one_spelling()
+        ensures { (value other : CutPage) → IsTyped value → IsCutPage value → IsTyped other → IsCutPage other
+            → cut_page_page value ≡ cut_page_page other → value ≡ other }
+    {}
+
+    fn keeps_rules(&self) -> bool
+        ensures { IsTrue result ↔ IsCutPage self.now }
+    {
+        let count = self.entries.len();
+        (2 <= self.level && self.level <= 16)
+            && (1 <= count && count <= 16)
+            && spell_cuts(self.cuts.as_slice(), count)
+            && each_keeps(self.level, self.entries.as_slice())
+    }
+}
+
+fn guess(page: &Page) -> CutPage
+    ensures value { result ≡ cut_page_in page.now }
+    ensures typed { IsTyped result }
+{
+    let count = count_in(page);
+    CutPage {
+        level: page[1],
+        cuts: read_nodes(page, count),
+        entries: read_cut_entries(page, count),
+    }
+}

@@ -1,0 +1,185 @@
+//! Nodes of object tables by id and life.
+ghost use Rattle.std.specs.Prelude.{◌≡◌, ◌<◌, ◌≤◌, IfSome, Some, ◌↔◌, IsTrue};
+ghost use Rattle.page_layout.specs.LifeNode.{IsTyped, life_entry_bytes, life_entry_at, IsLifeEntryTyped, IsLifeLeaf, IsLifeIndex, length-life_entry, life_entry-back, life_leaf_in, life_index_in, life_node_in};
+ghost use Rattle.page_layout.specs.Dated.{life_precedes};
+
+use crate::counted::{read_entries, write_counted};
+use crate::dated::{ByLife, life_precedes};
+use crate::entry::{Entry, Own, are_in_order};
+use crate::front::{Front, put_u32, put_u64};
+use crate::number::{number_u32, number_u64, skip};
+use crate::same::are_same;
+use arrayvec::ArrayVec;
+use bw_types::Dated;
+use page_ports::{Page, blank_page};
+
+const KIND: u8 = 10;
+
+/// An entry of an index node: the lowest id and life that may stand under it, and its child.
+#[derive(Clone, Copy, Debug, Default, PartialEq, Eq)]
+pub struct LifeEntry {
+    pub low_id: u64,
+    pub low_life: u32,
+    pub child: u64,
+}
+
+/// A node of an object table by id and life; a leaf has level 1.
+///
+/// A page spells a leaf of 1 to 14 objects, which ascend strictly by id and then life, or an index node
+/// of a level of 2 to 16 with 1 to 200 entries, whose lows ascend so too and whose children are at least
+/// 3. Of an object each low end is at most the high one, and that at most 4294967294; its life and the
+/// version of its add are at least 1; where it is not withdrawn the withdrawal is all 0, and else it was
+/// withdrawn in a later version than it was added in. In memory there is room for one more of each.
+#[derive(Debug, PartialEq, Drop)]
+pub enum LifeNode {
+    /// The objects themselves.
+    Leaf {
+        objects: ArrayVec<Dated, 15>,
+    },
+    /// Where they stand.
+    Index {
+        level: u8,
+        entries: ArrayVec<LifeEntry, 201>,
+    },
+}
+
+impl Entry<Own> for LifeEntry {
+    const SIZE: usize = 20;
+
+    ghost SIZE = { 20 };
+
+    ghost spelling = { life_entry_bytes };
+
+    ghost value_at = { life_entry_at };
+
+    ghost is_typed = { IsLifeEntryTyped };
+
+    ghost keeps = { λ _ e. 3 ≤ e.child };
+
+    ghost precedes = { λ e next. IsTrue (life_precedes e.low_id e.low_life next.low_id next.low_life) };
+
+    fn put(&self, front: &mut Front) {
+        put_u64(front, self.low_id);
+        put_u32(front, self.low_life);
+        put_u64(front, self.child);
+    }
+
+    fn get(bytes: &[u8]) -> LifeEntry {
+        LifeEntry {
+            low_id: number_u64(bytes),
+            low_life: number_u32(skip(bytes, 8)),
+            child: number_u64(skip(bytes, 12)),
+        }
+    }
+
+    fn keeps(&self, _level: u8) -> bool {
+        self.child >= 3
+    }
+
+    fn precedes(&self, next: &LifeEntry) -> bool {
+        life_precedes(self.low_id, self.low_life, next.low_id, next.low_life)
+    }
+
+    ghost has_size = { λ x _. length-life_entry x };
+
+    ghost reads_back = { λ _ x rest typed _. life_entry-back x rest typed };
+}
+
+fn is_leaf(objects: &[Dated]) -> bool
+    ensures { IsTrue result ↔ IsLifeLeaf 14 objects.now }
+{
+    let count = objects.len();
+    1 <= count && count <= 14 && are_in_order::<ByLife, Dated>(1, objects)
+}
+
+fn is_index(level: u8, entries: &[LifeEntry]) -> bool
+    ensures { IsTrue result ↔ IsLifeIndex 200 level entries.now }
+{
+    let count = entries.len();
+    (2 <= level && level <= 16)
+        && (1 <= count && count <= 200)
+        && are_in_order::<Own, LifeEntry>(level, entries)
+}
+
+impl LifeNode {
+    ghost use Rattle.page_layout.specs.LifeNode.{IsLifeNode, IsTyped, life_node_page};
+
+    /// Makes the page the node's spelling.
+    pub fn write(&self, page: &mut Page)
+        requires { IsLifeNode self.now }
+        ensures { page.new ≡ life_node_page self.now }
+    {
+        match self {
+            LifeNode::Leaf { objects } => {
+                write_counted::<ByLife, Dated>(page, KIND, 1, 0, 0, objects.as_slice());
+            }
+            LifeNode::Index { level, entries } => {
+                write_counted::<Own, LifeEntry>(page, KIND, *level, 0, 0, entries.as_slice());
+            }
+        }
+    }
+
+    /// The node that the page spells, or `None` exactly where it spells none.
+    pub fn read(page: &Page) -> Option<LifeNode>
+        // What is read keeps the rules, its numbers are those of their types, and the page is its spelling.
+        ensures found { IfSome result (λ value. IsLifeNode value × IsTyped value × (page.now ≡ life_node_page value)) }
+        // Where the page is the spelling of a value, that value is read.
+        ensures only { (value : LifeNode) → IsTyped value → IsLifeNode value → page.now ≡ life_node_page value → result ≡ Some value }
+    {
+        let value = guess(page);
+        if !value.keeps_rules() {
+            return None;
+        }
+        let mut again = blank_page();
+        value.write(&mut again);
+        if !are_same(&again, page) {
+            return None;
+        }
+        Some(value)
+    }
+
+    /// Proves that no two values have one spelling; it does nothing when it runs.
+    pub fn one_spelling()
+        ensures { (value other : LifeNode) → IsTyped value → IsLifeNode value → IsTyped other → IsLifeNode other
+            → life_node_page value ≡ life_node_page other → value ≡ other }
+    {}
+
+    fn keeps_rules(&self) -> bool
+        ensures { IsTrue result ↔ IsLifeNode self.now }
+    {
+        match self {
+            LifeNode::Leaf { objects } => is_leaf(objects.as_slice()),
+            LifeNode::Index { level, entries } => is_index(*level, entries.as_slice()),
+        }
+    }
+}
+
+fn guess_leaf(page: &Page) -> LifeNode
+    ensures value { result ≡ life_leaf_in page.now }
+    ensures typed { IsTyped result }
+{
+    LifeNode::Leaf {
+        objects: read_entries::<ByLife, Dated, 15>(page, 14),
+    }
+}
+
+fn guess_index(page: &Page) -> LifeNode
+    ensures value { result ≡ life_index_in page.now }
+    ensures typed { IsTyped result }
+{
+    LifeNode::Index {
+        level: page[1],
+        entries: read_entries::<Own, LifeEntry, 201>(page, 200),
+    }
+}
+
+fn guess(page: &Page) -> LifeNode
+    ensures value { result ≡ life_node_in page.now }
+    ensures typed { IsTyped result }
+{
+    if page[1] == 1 {
+        guess_leaf(page)
+    } else {
+        guess_index(page)
+    }
+}
