@@ -1,2 +1,11 @@
+pub mod BodyLemmas
+pub mod CommitLemmas
 pub mod GateLemmas
+pub mod GroupLemmas
+pub mod HomeLemmas
+pub mod ImageLemmas
 pub mod PhaseLemmas
+pub mod PlacingLemmas
+pub mod ReplayLemmas
+pub mod RestLemmas
+pub mod SettledLemmas

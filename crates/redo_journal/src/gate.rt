@@ -35,6 +35,7 @@ fn opened<D: Disk>(disk: &mut D, area: Area) -> Result<bool, Failed>
     ensures ok { IfOk result (λ b. IsTrue (D.tells disk.old) → b ≡ is_open (area_of area (D.image disk.old))) }
     ensures faults { CountsFault result (D.faults disk.old) (D.faults disk.new) }
     ensures reads { D.reads disk.new ≤ D.reads disk.old + 1 }
+    ensures reads_stay_or_rise { D.reads disk.old ≤ D.reads disk.new }
     ensures tells { D.tells disk.new ≡ D.tells disk.old }
     ensures image { D.image disk.new ≡ D.image disk.old }
     ensures moments { D.moments disk.new ≡ D.moments disk.old }
@@ -49,6 +50,7 @@ fn looked<D: Disk>(disk: &mut D) -> Result<Gate, Failed>
     ensures ok { IfOk result (λ gate. IsTrue (D.tells disk.old) → gate ≡ gate_of (D.image disk.old)) }
     ensures faults { CountsFault result (D.faults disk.old) (D.faults disk.new) }
     ensures reads { D.reads disk.new ≤ D.reads disk.old + 2 }
+    ensures reads_stay_or_rise { D.reads disk.old ≤ D.reads disk.new }
     ensures tells { D.tells disk.new ≡ D.tells disk.old }
     ensures image { D.image disk.new ≡ D.image disk.old }
     ensures moments { D.moments disk.new ≡ D.moments disk.old }
@@ -75,6 +77,7 @@ pub fn ready<D: Disk>(disk: &mut D) -> Result<Gate, Failed>
     ensures any_moment { LeavesOnly (λ x. x ≡ D.image disk.old) (D.moments disk.old) (D.moments disk.new) }
     ensures faults { CountsFault result (D.faults disk.old) (D.faults disk.new) }
     ensures reads { D.reads disk.new ≤ D.reads disk.old + 2 }
+    ensures reads_stay_or_rise { D.reads disk.old ≤ D.reads disk.new }
     ensures tells { D.tells disk.new ≡ D.tells disk.old }
     ensures image { D.image disk.new ≡ D.image disk.old }
 {

@@ -1,0 +1,122 @@
+-- The images as a map, and as the list of its entries.
+use Rattle.std.proofs.Common.{◌≡◌, ℕ, ◌+◌, ◌-◌, ◌<◌, ◌≤◌, ◌∙◌, ap, sym, subst, refl, inl, inr, ◌⊎◌, Bool, true, false, cond, Option, Some, None, List, [], ◌∷◌, length, arith}
+use Rattle.std.specs.Prelude.{IsSome, ◌==◌, nat_lt}
+use Rattle.std.specs.List.{AllByRecursion}
+use Rattle.std.specs.List.Sorted.{IsStrictlySortedBy}
+use Rattle.std.specs.Map.{lookup, keys_of}
+use Rattle.std.specs.BTreeMap.{is_at}
+use Rattle.std.specs.Ordering.{nat_cmp}
+use Rattle.std.specs.declared.cmp.Ordering.TheVariants.{Less}
+use Rattle.std.proofs.lemmas.Bool.{cases_Bool, cases_lt, lt-ltb, le-ltb, ne_eqb, eq-eqb, eqb-true, eqb-false}
+use Rattle.std.proofs.lemmas.Map.Keys.{sorted_head, sorted_tail}
+use Rattle.page_ports.specs.Pages.{PageMap}
+use Rattle.redo_journal.specs.declared.images.Images.{Images}
+use Rattle.redo_journal.specs.Images.{image_map, image_list}
+use Rattle.redo_journal.specs.Placing.{ImageList, homes_of, map_of, Ascend, AreInReach}
+use Rattle.redo_journal.proofs.PlacingLemmas.{absent}
+use Rattle.redo_journal.proofs.HomeLemmas.{among_first, among_rest}
+use Rattle.redo_journal.proofs.BodyLemmas.{keys-homes}
+
+at_is : (p q : ℕ) → is_at (nat_cmp p) q ≡ (q == p)
+at_is p q = elim (cases_lt p q) [
+  | inl below ↦ let a : nat_lt p q ≡ true = lt-ltb p q below in
+      let b : (q == p) ≡ false = ne_eqb q p (λ e. omega arith) in rw (a, b) refl
+  | inr above ↦ let a : nat_lt p q ≡ false = le-ltb p q above in
+      elim (cases_Bool (p == q)) [
+        | inl same ↦ let b : (q == p) ≡ true = eq-eqb q p (sym (eqb-true p q same)) in rw (a, same, b) refl
+        | inr other ↦ let b : (q == p) ≡ false = ne_eqb q p (λ e. eqb-false p q other (sym e)) in rw (a, other, b) refl
+      ]
+]
+
+map_at : (images : ImageList) (page : ℕ) → lookup (is_at (nat_cmp page)) images ≡ map_of images page
+map_at [] page = refl
+map_at (image ∷ images) page =
+    ap (λ (b : Bool). cond b (Some image.1) (lookup (is_at (nat_cmp page)) images)) (at_is page image.0)
+    ∙ ap (λ (o : Option (List ℕ)). cond (image.0 == page) (Some image.1) o) (map_at images page)
+
+pub image_map-is : (images : Images) → image_map images ≡ map_of (image_list images)
+image_map-is images = λ i page. map_at (image_list images) page i
+
+below_key : (p q : ℕ) → nat_cmp p q ≡ Less → p < q
+below_key p q h = elim (cases_lt p q) [
+  | inl below ↦ below
+  | inr above ↦ let a : nat_lt p q ≡ false = le-ltb p q above in
+      elim (cases_Bool (p == q)) [
+        | inl same ↦ let e = rw (a, same) at h in absurd cc
+        | inr other ↦ let e = rw (a, other) at h in absurd cc
+      ]
+]
+
+above_all : (home : ℕ) (images : ImageList) (page : ℕ) → AllByRecursion (λ y. nat_cmp home y ≡ Less) (homes_of images) → IsSome (map_of images page) → home < page
+above_all home [] page all some = absurd cc
+above_all home (image ∷ images) page all some = elim (cases_Bool (image.0 == page)) [
+  | inl here ↦ let e : image.0 ≡ page = eqb-true image.0 page here in
+      let low : home < image.0 = below_key home image.0 all.0 in omega arith
+  | inr other ↦ above_all home images page all.1 (rw other at some)
+]
+
+ascend_from : (last : ℕ) (images : ImageList) → IsStrictlySortedBy nat_cmp (homes_of images)
+    → ((page : ℕ) → IsSome (map_of images page) → last < page) → Ascend last (homes_of images)
+ascend_from last [] sorted above = tt
+ascend_from last (image ∷ images) sorted above = (
+  above image.0 (among_first image images),
+  ascend_from image.0 images (sorted_tail nat_cmp image.0 (homes_of images) sorted)
+      (λ page some. above_all image.0 images page (sorted_head nat_cmp image.0 (homes_of images) sorted) some),
+)
+
+-- The keys of a map of images ascend.
+pub images_ascend : (images : Images) → IsStrictlySortedBy nat_cmp (keys_of (image_list images))
+    → ((page : ℕ) → IsSome (image_map images page) → 1 ≤ page) → Ascend 0 (homes_of (image_list images))
+images_ascend images sorted homes =
+    ascend_from 0 (image_list images) (subst (λ (s : List ℕ). IsStrictlySortedBy nat_cmp s) (keys-homes (image_list images)) sorted)
+    (λ page some. homes page (subst (λ (m : PageMap). IsSome (m page)) (sym (image_map-is images)) some))
+
+none_above : (last : ℕ) (images : ImageList) (page : ℕ) → Ascend last (homes_of images) → page ≤ last → map_of images page ≡ None
+none_above last [] page ascend low = refl
+none_above last (image ∷ images) page ascend low =
+    let above : last < image.0 = ascend.0 in
+    let other : (image.0 == page) ≡ false = ne_eqb image.0 page (λ e. omega arith) in
+    rw other (none_above image.0 images page ascend.1 (omega arith))
+
+reach_from : (len : ℕ) (all : PageMap) (last : ℕ) (images : ImageList) → Ascend last (homes_of images)
+    → ((page : ℕ) → IsSome (map_of images page) → len < page → IsSome (all (page - 1)))
+    → ((page : ℕ) → IsSome (all page) → (page ≤ last) ⊎ IsSome (map_of images page)) → AreInReach len last (homes_of images)
+reach_from len all last [] ascend near known = tt
+reach_from len all last (image ∷ images) ascend near known =
+    let above : last < image.0 = ascend.0 in
+    let home : (image.0 ≤ len) ⊎ (image.0 ≡ last + 1) = elim (cases_lt len image.0) [
+      | inl past ↦ elim (known (image.0 - 1) (near image.0 (among_first image images) past)) [
+        | inl low ↦ inr (omega arith)
+        | inr among ↦
+            let other : (image.0 == (image.0 - 1)) ≡ false = ne_eqb image.0 (image.0 - 1) (λ e. omega arith) in
+            absurd (absent (map_of images (image.0 - 1)) (none_above image.0 images (image.0 - 1) ascend.1 (omega arith)) (rw other at among))
+      ]
+      | inr within ↦ inl within
+    ] in (
+      above,
+      home,
+      reach_from len all image.0 images ascend.1 (λ page some past. near page (among_rest image images page some) past)
+          (λ page some. elim (known page some) [
+            | inl low ↦ inl (omega arith)
+            | inr among ↦ elim (cases_Bool (image.0 == page)) [
+              | inl here ↦ let e : image.0 ≡ page = eqb-true image.0 page here in inl (omega arith)
+              | inr other ↦ inr (rw other at among)
+            ]
+          ]),
+    )
+
+-- Each home past the end follows another one, so all are in reach.
+pub images_reach : (images : Images) (len : ℕ) → Ascend 0 (homes_of (image_list images))
+    → ((page : ℕ) → IsSome (image_map images page) → len < page → IsSome (image_map images (page - 1)))
+    → AreInReach len 0 (homes_of (image_list images))
+images_reach images len ascend near =
+    reach_from len (map_of (image_list images)) 0 (image_list images) ascend
+    (subst (λ (m : PageMap). (page : ℕ) → IsSome (m page) → len < page → IsSome (m (page - 1))) (image_map-is images) near)
+    (λ page some. inr some)
+
+some_image : (images : ImageList) (page : ℕ) → IsSome (map_of images page) → 0 < length images
+some_image [] page some = absurd cc
+some_image (image ∷ images) page some = omega arith
+
+pub images_some : (images : Images) → (page : ℕ) × IsSome (image_map images page) → 0 < length (image_list images)
+images_some images some = some_image (image_list images) some.0 (subst (λ (m : PageMap). IsSome (m some.0)) (image_map-is images) some.1)

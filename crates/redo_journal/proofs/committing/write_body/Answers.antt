@@ -1,0 +1,38 @@
+use Rattle.std.proofs.Common.{inl, inr}
+use Rattle.redo_journal.specs.Pending.{BodyPends, KeepsGate}
+use Rattle.redo_journal.proofs.RestLemmas.{body_starts, body_leaves}
+use Rattle.redo_journal.proofs.HomeLemmas.{synced_stretch, settled_by}
+use Rattle.redo_journal.proofs.committing.write_body.Goals as goal
+
+pub returns-in_err-write_groups-clause-any_moment : goal.returns-in_err-write_groups-clause-any_moment
+returns-in_err-write_groups-clause-any_moment g c =
+    let d = c.args.disk.now in
+    (c.write_groups.ensures.pends (g.D.Disk.image d)
+    (body_starts (g.D.Disk.tells d) (g.D.Disk.image d) (g.D.Disk.moments d) (g.met.D.Disk.tells_image d) c.requires.settled c.requires.has_gate)).0
+
+pub returns-in_err-sync-clause-any_moment : goal.returns-in_err-sync-clause-any_moment
+returns-in_err-sync-clause-any_moment g c =
+    let d0 = c.args.disk.now in
+    let d1 = c.write_groups.new.disk in
+    let d2 = c.sync.new.self in
+    let start = g.D.Disk.image d0 in
+    synced_stretch (BodyPends start) (KeepsGate start) (body_leaves start) (g.D.Disk.tells d1) (g.D.Disk.image d1)
+    (g.D.Disk.moments d0) (g.D.Disk.moments d1) (g.D.Disk.moments d2) (g.met.D.Disk.tells_image d1)
+    (c.write_groups.ensures.pends start (body_starts (g.D.Disk.tells d0) start (g.D.Disk.moments d0) (g.met.D.Disk.tells_image d0) c.requires.settled c.requires.has_gate))
+    (inl c.in_err-sync.ensures.err)
+
+pub returns-clause-any_moment : goal.returns-clause-any_moment
+returns-clause-any_moment g c =
+    let d0 = c.args.disk.now in
+    let d1 = c.write_groups.new.disk in
+    let d2 = c.sync.new.self in
+    let start = g.D.Disk.image d0 in
+    synced_stretch (BodyPends start) (KeepsGate start) (body_leaves start) (g.D.Disk.tells d1) (g.D.Disk.image d1)
+    (g.D.Disk.moments d0) (g.D.Disk.moments d1) (g.D.Disk.moments d2) (g.met.D.Disk.tells_image d1)
+    (c.write_groups.ensures.pends start (body_starts (g.D.Disk.tells d0) start (g.D.Disk.moments d0) (g.met.D.Disk.tells_image d0) c.requires.settled c.requires.has_gate))
+    (inr c.in_ok-sync.ensures.ok)
+
+pub returns-clause-settled : goal.returns-clause-settled
+returns-clause-settled g c =
+    settled_by (g.D.Disk.image c.write_groups.new.disk) (g.D.Disk.image c.sync.new.self) (g.D.Disk.moments c.write_groups.new.disk) (g.D.Disk.moments c.sync.new.self)
+    c.in_ok-sync.ensures.ok c.sync.ensures.image

@@ -1,0 +1,29 @@
+use Rattle.std.proofs.Common.{◌≡◌, ◌≤◌, ◌+◌, ◌*◌, IsTrue, length}
+use Rattle.page_disk.specs.Image.{Image}
+use Rattle.page_disk.specs.Since.{LeavesOnly}
+use Rattle.redo_journal.specs.Images.{image_list}
+use Rattle.redo_journal.specs.Pending.{AtNewest, BodyPends, KeepsGate}
+use Rattle.redo_journal.specs.Placing.{homes_of}
+use Rattle.redo_journal.proofs.BodyLemmas.{WritesGroups}
+use Rattle.redo_journal.proofs.committing.write_groups.Given as goal
+
+abbrev pub invariant-loop-left : goal.invariant-loop-left
+invariant-loop-left g l =
+    let disk = g.D.Disk in
+    record {
+      count : l.left ≡ length l.rest;
+      named : l.homes ≡ homes_of l.rest;
+      behind : 1 ≤ l.at;
+      far : l.at + 2 * l.left ≤ 1 + 2 * length (image_list l.fn.images);
+      groups : WritesGroups (disk.tells l.fn.disk) (image_list l.fn.images) (disk.image l.disk).journal l.at l.rest;
+      room : IsTrue (disk.tells l.fn.disk) → l.at ≤ length (disk.image l.disk).journal;
+      kept : IsTrue (disk.tells l.fn.disk) → KeepsGate (disk.image l.fn.disk) (disk.image l.disk);
+      pends : (start : Image) → AtNewest (BodyPends start) (disk.moments l.fn.disk)
+          → LeavesOnly (KeepsGate start) (disk.moments l.fn.disk) (disk.moments l.disk) × AtNewest (BodyPends start) (disk.moments l.disk);
+      faults : disk.faults l.disk ≡ disk.faults l.fn.disk;
+      reads : disk.reads l.disk ≡ disk.reads l.fn.disk;
+      tells : disk.tells l.disk ≡ disk.tells l.fn.disk;
+    }
+
+abbrev pub decreases-loop-left : goal.decreases-loop-left
+decreases-loop-left g l = l.left

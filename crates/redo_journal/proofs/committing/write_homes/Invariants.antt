@@ -1,0 +1,24 @@
+use Rattle.std.proofs.Common.{◌≡◌, ℕ, IsTrue, IsSome, length}
+use Rattle.page_disk.specs.Since.{LeavesOnly}
+use Rattle.redo_journal.specs.Images.{image_list}
+use Rattle.redo_journal.specs.Pending.{AtNewest, HomesPend, IsInPlacing}
+use Rattle.redo_journal.specs.Placing.{homes_of, map_of, with_images, AreWritable}
+use Rattle.redo_journal.proofs.committing.write_homes.Given as goal
+
+abbrev pub invariant-loop-home : goal.invariant-loop-home
+invariant-loop-home g l =
+    let disk = g.D.Disk in
+    let start = disk.image l.fn.disk in
+    let now = disk.image l.disk in
+    let all = image_list l.fn.images in
+    record {
+      placed : IsTrue (disk.tells l.fn.disk) → with_images now.pages l.home-iterator ≡ with_images start.pages all;
+      writable : IsTrue (disk.tells l.fn.disk) → AreWritable (length now.pages) (homes_of l.home-iterator);
+      among : (page : ℕ) → IsSome (map_of l.home-iterator page) → IsSome (map_of all page);
+      journal : IsTrue (disk.tells l.fn.disk) → now.journal ≡ start.journal;
+      goes : LeavesOnly (IsInPlacing (map_of all) start) (disk.moments l.fn.disk) (disk.moments l.disk)
+          × AtNewest (HomesPend (map_of all) start) (disk.moments l.disk);
+      faults : disk.faults l.disk ≡ disk.faults l.fn.disk;
+      reads : disk.reads l.disk ≡ disk.reads l.fn.disk;
+      tells : disk.tells l.disk ≡ disk.tells l.fn.disk;
+    }

@@ -1,0 +1,23 @@
+use Rattle.std.proofs.Common.{◌≡◌, ◌≤◌, ◌+◌, ◌-◌, IsTrue, length, take, drop}
+use Rattle.page_disk.specs.Image.{Image}
+use Rattle.page_disk.specs.Since.{LeavesOnly}
+use Rattle.redo_journal.specs.Pending.{AtNewest, BodyPends, KeepsGate}
+use Rattle.redo_journal.specs.Placing.{bytes_of, with_row}
+use Rattle.redo_journal.proofs.committing.write_images.Given as goal
+
+abbrev pub invariant-loop-i : goal.invariant-loop-i
+invariant-loop-i g l =
+    let disk = g.D.Disk in
+    record {
+      left : l.count ≤ l.i + length l.images;
+      rest : drop (l.count - l.i) l.images ≡ drop l.count l.fn.images;
+      room : IsTrue (disk.tells l.disk) → l.at + l.i ≤ length (disk.image l.disk).journal;
+      pages : IsTrue (disk.tells l.disk) → (disk.image l.disk).pages ≡ (disk.image l.fn.disk).pages;
+      journal : IsTrue (disk.tells l.disk) → with_row (disk.image l.disk).journal (l.at + l.i) (bytes_of (take (l.count - l.i) l.images))
+          ≡ with_row (disk.image l.fn.disk).journal l.at (bytes_of (take l.count l.fn.images));
+      pends : (start : Image) → AtNewest (BodyPends start) (disk.moments l.fn.disk)
+          → LeavesOnly (KeepsGate start) (disk.moments l.fn.disk) (disk.moments l.disk) × AtNewest (BodyPends start) (disk.moments l.disk);
+      faults : disk.faults l.disk ≡ disk.faults l.fn.disk;
+      reads : disk.reads l.disk ≡ disk.reads l.fn.disk;
+      tells : disk.tells l.disk ≡ disk.tells l.fn.disk;
+    }

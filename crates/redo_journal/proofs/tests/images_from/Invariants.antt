@@ -1,0 +1,6 @@
+use Rattle.std.proofs.Common.{ℕ, ◌<◌, ◌≤◌, ◌↔◌, IsSome}
+use Rattle.redo_journal.specs.Images.{image_map}
+use Rattle.redo_journal.proofs.tests.images_from.Given as goal
+
+abbrev pub invariant-loop-page : goal.invariant-loop-page
+invariant-loop-page l = (p : ℕ) → IsSome (image_map l.images p) ↔ ((l.from ≤ p) × (p < l.page))

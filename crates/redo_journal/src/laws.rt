@@ -1,0 +1,20 @@
+//! What follows of the pages that a disk stands for.
+ghost use Rattle.redo_journal.specs.Settled.{ArmedSettles, BreaksAtOne, HoldsOrBreaks, IdleSettles, SettlesToOne};
+
+use page_layout::JournalHead;
+
+/// Proves laws of what a disk stands for; it does nothing when it runs.
+pub fn settling_laws()
+    // A disk stands for one list of pages.
+    ensures one { SettlesToOne }
+    // An idle disk stands for its Pages area.
+    ensures idle { IdleSettles }
+    // A disk whose open journal holds images stands for some pages.
+    ensures armed { ArmedSettles }
+    // No journal both holds images and breaks its rules.
+    ensures apart { HoldsOrBreaks }
+    // A journal first breaks its rules at one page.
+    ensures first { BreaksAtOne }
+{
+    JournalHead::one_spelling();
+}

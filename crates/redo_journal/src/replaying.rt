@@ -1,0 +1,248 @@
+//! A replay: the images of an open journal are written home.
+ghost use Rattle.std.specs.Prelude.{◌≡◌, ◌≤◌, ◌+◌, ◌-◌, ◌*◌, ◌<◌, ◌^◌, ◌↔◌, ℕ, min, IsTrue, IsSome, IfOk, OnOk, length};
+ghost use Rattle.std.specs.List.{All};
+ghost use Rattle.page_layout.specs.declared.journal_head.JournalHead.{JournalHead};
+ghost use Rattle.redo_journal.specs.declared.replaying.JournalFault.TheVariants.{Disk};
+ghost use Rattle.page_ports.specs.Pages.{PageMap};
+ghost use Rattle.page_disk.specs.Image.{Image, PageList};
+ghost use Rattle.page_disk.specs.Since.{LeavesNow, LeavesOnly};
+ghost use Rattle.redo_journal.specs.Gates.{gate_of};
+ghost use Rattle.redo_journal.specs.declared.gate.Gate.TheVariants.{Armed};
+ghost use Rattle.redo_journal.specs.Pending.{AtNewest, HomesPend, IsInPlacing};
+ghost use Rattle.redo_journal.specs.Placing.{AreInReach, AreWritable, ImageList, map_of, with_images};
+ghost use Rattle.redo_journal.specs.Groups.{BreaksAt, BreaksRulesAt, HeadAt, HoldsGroups, homes_in, images_at, last_of};
+ghost use Rattle.redo_journal.specs.Settled.{IsReplayed, SettlesTo};
+ghost use Rattle.redo_journal.specs.Replay.{CountsDisk, OnDamaged};
+
+use crate::laws::settling_laws;
+use crate::writes::{put_home, write_gate};
+use page_disk::{Area, Disk, Failed};
+use page_layout::JournalHead;
+use page_ports::blank_page;
+
+/// Why a replay ended early.
+#[derive(Clone, Copy, Debug, PartialEq, Eq)]
+pub enum JournalFault {
+    /// The device failed. Comes only where the count of faults rose.
+    Disk,
+    /// This page of the journal is the first head that is missing or breaks a rule. Nothing was
+    /// written, if the disk tells its image.
+    Damaged(u64),
+}
+
+impl From<Failed> for JournalFault {
+    ghost from_gives = { λ _ fault. fault ≡ Disk };
+
+    fn from(_failed: Failed) -> JournalFault {
+        JournalFault::Disk
+    }
+}
+
+// Whether the homes ascend from above the last one, each in reach of a Pages area of this length.
+fn are_in_reach(len: u64, last: u64, homes: &[u64]) -> bool
+    ensures reach { IsTrue result ↔ AreInReach len last homes.now }
+    ensures typed { All (λ home. home < 2 ^ 64) homes.now }
+{
+    let mut before = last;
+    for home in homes {
+        if *home <= before || (*home > len && *home - before > 1) {
+            return false;
+        }
+        before = *home;
+    }
+    true
+}
+
+// The last of the homes, or the one before them.
+fn last_home(last: u64, homes: &[u64]) -> u64
+    ensures { result ≡ last_of last homes.now }
+{
+    match homes.last() {
+        Some(home) => *home,
+        None => last,
+    }
+}
+
+// The head at this page of a journal that ends at `end`, if it keeps the rules behind this home and over
+// a Pages area of length `len`. At most one read.
+fn head_at<D: Disk>(
+    disk: &mut D,
+    len: u64,
+    end: u64,
+    at: u64,
+    last: u64,
+) -> Result<JournalHead, JournalFault>
+    requires { IsTrue (D.tells disk.old) → end ≡ length (D.image disk.old).journal }
+    ensures ok { IfOk result (λ head. IsTrue (D.tells disk.old) → HeadAt len (D.image disk.old).journal at last head) }
+    ensures only { IfOk result (λ head. IsTrue (D.tells disk.old)
+        → (other : JournalHead) → HeadAt len (D.image disk.old).journal at last other → other ≡ head) }
+    ensures within { IfOk result (λ head. at + length (homes_in head) < end) }
+    ensures damaged { OnDamaged result (λ page. (page ≡ at) × (IsTrue (D.tells disk.old)
+        → (head : JournalHead) → HeadAt len (D.image disk.old).journal at last head → ⊥)) }
+    ensures faults { CountsDisk result (D.faults disk.old) (D.faults disk.new) }
+    ensures reads { D.reads disk.new ≤ D.reads disk.old + min 1 (end - at) }
+    ensures reads_stay_or_rise { D.reads disk.old ≤ D.reads disk.new }
+    ensures tells { D.tells disk.new ≡ D.tells disk.old }
+    ensures image { D.image disk.new ≡ D.image disk.old }
+    ensures moments { D.moments disk.new ≡ D.moments disk.old }
+{
+    let mut page = blank_page();
+    if at >= end || !disk.read(Area::Journal, at, &mut page)? {
+        return Err(JournalFault::Damaged(at));
+    }
+    let Some(head) = JournalHead::read(&page) else {
+        return Err(JournalFault::Damaged(at));
+    };
+    let homes = head.homes.as_slice();
+    if end - at <= homes.len() as u64 || !are_in_reach(len, last, homes) {
+        return Err(JournalFault::Damaged(at));
+    }
+    Ok(head)
+}
+
+// The number of images in the journal. Reads each head, and writes nothing.
+fn count_images<D: Disk>(disk: &mut D, len: u64, end: u64) -> Result<u64, JournalFault>
+    requires { IsTrue (D.tells disk.old) → end ≡ length (D.image disk.old).journal }
+    ensures ok { IfOk result (λ count. IsTrue (D.tells disk.old) → (images : ImageList)
+        × HoldsGroups len (D.image disk.old).journal 1 0 images × (count ≡ length images)) }
+    ensures damaged { OnDamaged result (λ page. IsTrue (D.tells disk.old) → BreaksAt len (D.image disk.old).journal 1 0 page) }
+    ensures faults { CountsDisk result (D.faults disk.old) (D.faults disk.new) }
+    ensures reads { D.reads disk.new ≤ D.reads disk.old + end }
+    ensures reads_stay_or_rise { D.reads disk.old ≤ D.reads disk.new }
+    ensures tells { D.tells disk.new ≡ D.tells disk.old }
+    ensures image { D.image disk.new ≡ D.image disk.old }
+    ensures moments { D.moments disk.new ≡ D.moments disk.old }
+{
+    let mut at = 1;
+    let mut last = 0;
+    let mut count = 0;
+    'groups: loop {
+        let head = head_at(disk, len, end, at, last)?;
+        let homes = head.homes.as_slice();
+        count += homes.len() as u64;
+        if !head.more {
+            return Ok(count);
+        }
+        at += 1 + homes.len() as u64;
+        last = last_home(last, homes);
+    }
+}
+
+// Writes the images of a group home, which stand in a row from this page of the journal on.
+fn restore_group<D: Disk>(disk: &mut D, at: u64, homes: &[u64]) -> Result<(), JournalFault>
+    requires fits { at + length homes.now < 2 ^ 64 }
+    requires there { IsTrue (D.tells disk.old) → at + length homes.now ≤ length (D.image disk.old).journal }
+    requires writable { IsTrue (D.tells disk.old) → AreWritable (length (D.image disk.old).pages) homes.now }
+    ensures placed { OnOk result (IsTrue (D.tells disk.old)
+        → (D.image disk.new).pages ≡ with_images (D.image disk.old).pages (images_at (D.image disk.old).journal at homes.now)) }
+    ensures journal { OnOk result (IsTrue (D.tells disk.old) → (D.image disk.new).journal ≡ (D.image disk.old).journal) }
+    ensures pends { (images : PageMap) (start : Image) → All (λ home. IsSome (images home)) homes.now
+        → AtNewest (HomesPend images start) (D.moments disk.old)
+        → LeavesOnly (IsInPlacing images start) (D.moments disk.old) (D.moments disk.new) × AtNewest (HomesPend images start) (D.moments disk.new) }
+    ensures damaged { OnDamaged result (λ _. IsTrue (D.tells disk.old) → ⊥) }
+    ensures faults { CountsDisk result (D.faults disk.old) (D.faults disk.new) }
+    ensures reads { D.reads disk.new ≤ D.reads disk.old + length homes.now }
+    ensures reads_stay_or_rise { D.reads disk.old ≤ D.reads disk.new }
+    ensures tells { D.tells disk.new ≡ D.tells disk.old }
+{
+    let mut page = blank_page();
+    for (i, home) in homes.iter().enumerate() {
+        let place = at + i as u64;
+        if !disk.read(Area::Journal, place, &mut page)? {
+            return Err(JournalFault::Damaged(place));
+        }
+        put_home(disk, *home, &page)?;
+    }
+    Ok(())
+}
+
+// Writes the images of all groups home.
+fn restore_groups<D: Disk>(disk: &mut D, len: u64, end: u64) -> Result<(), JournalFault>
+    requires end { IsTrue (D.tells disk.old) → end ≡ length (D.image disk.old).journal }
+    requires len { IsTrue (D.tells disk.old) → len ≡ length (D.image disk.old).pages }
+    requires made { IsTrue (D.tells disk.old) → 1 ≤ length (D.image disk.old).pages }
+    ensures placed { OnOk result (IsTrue (D.tells disk.old) → (all : ImageList) → HoldsGroups len (D.image disk.old).journal 1 0 all
+        → (D.image disk.new).pages ≡ with_images (D.image disk.old).pages all) }
+    ensures journal { OnOk result (IsTrue (D.tells disk.old) → (D.image disk.new).journal ≡ (D.image disk.old).journal) }
+    ensures pends { (all : ImageList) → (IsTrue (D.tells disk.old) → HoldsGroups len (D.image disk.old).journal 1 0 all)
+        → AtNewest (HomesPend (map_of all) (D.image disk.old)) (D.moments disk.old)
+        → LeavesOnly (IsInPlacing (map_of all) (D.image disk.old)) (D.moments disk.old) (D.moments disk.new)
+        × AtNewest (HomesPend (map_of all) (D.image disk.old)) (D.moments disk.new) }
+    ensures damaged { OnDamaged result (λ _. IsTrue (D.tells disk.old) → (all : ImageList)
+        → HoldsGroups len (D.image disk.old).journal 1 0 all → ⊥) }
+    ensures faults { CountsDisk result (D.faults disk.old) (D.faults disk.new) }
+    ensures reads { D.reads disk.new ≤ D.reads disk.old + end }
+    ensures reads_stay_or_rise { D.reads disk.old ≤ D.reads disk.new }
+    ensures tells { D.tells disk.new ≡ D.tells disk.old }
+{
+    let mut at = 1;
+    let mut last = 0;
+    'groups: loop {
+        let head = head_at(disk, len, end, at, last)?;
+        let homes = head.homes.as_slice();
+        restore_group(disk, at + 1, homes)?;
+        if !head.more {
+            return Ok(());
+        }
+        at += 1 + homes.len() as u64;
+        last = last_home(last, homes);
+    }
+}
+
+// Writes the images of all groups home, and makes sure of them.
+fn restore<D: Disk>(disk: &mut D, len: u64, end: u64) -> Result<(), JournalFault>
+    requires end { IsTrue (D.tells disk.old) → end ≡ length (D.image disk.old).journal }
+    requires len { IsTrue (D.tells disk.old) → len ≡ length (D.image disk.old).pages }
+    requires made { IsTrue (D.tells disk.old) → 1 ≤ length (D.image disk.old).pages }
+    requires settled { LeavesNow (D.moments disk.old) (D.image disk.old) }
+    ensures placed { OnOk result (IsTrue (D.tells disk.old) → (all : ImageList) → HoldsGroups len (D.image disk.old).journal 1 0 all
+        → (D.image disk.new).pages ≡ with_images (D.image disk.old).pages all) }
+    ensures journal { OnOk result (IsTrue (D.tells disk.old) → (D.image disk.new).journal ≡ (D.image disk.old).journal) }
+    ensures settled { OnOk result (LeavesNow (D.moments disk.new) (D.image disk.new)) }
+    ensures any_moment { (all : ImageList) → (IsTrue (D.tells disk.old) → HoldsGroups len (D.image disk.old).journal 1 0 all)
+        → LeavesOnly (IsInPlacing (map_of all) (D.image disk.old)) (D.moments disk.old) (D.moments disk.new) }
+    ensures damaged { OnDamaged result (λ _. IsTrue (D.tells disk.old) → (all : ImageList)
+        → HoldsGroups len (D.image disk.old).journal 1 0 all → ⊥) }
+    ensures faults { CountsDisk result (D.faults disk.old) (D.faults disk.new) }
+    ensures reads { D.reads disk.new ≤ D.reads disk.old + end }
+    ensures reads_stay_or_rise { D.reads disk.old ≤ D.reads disk.new }
+    ensures tells { D.tells disk.new ≡ D.tells disk.old }
+{
+    restore_groups(disk, len, end)?;
+    disk.sync()?;
+    Ok(())
+}
+
+/// Writes the images of an open journal to their homes, and closes its gate. Answers their number.
+///
+/// All heads are read and tested before the first write: where one breaks a rule the answer is
+/// `Damaged` with its page. A crash at any moment leaves a disk that stands for the same pages. Takes
+/// no memory, and makes at most two reads for each page of the journal.
+pub fn replay<D: Disk>(disk: &mut D) -> Result<u64, JournalFault>
+    requires armed { IsTrue (D.tells disk.old) → gate_of (D.image disk.old) ≡ Armed }
+    requires settled { LeavesNow (D.moments disk.old) (D.image disk.old) }
+    ensures ok { IfOk result (λ count. IsTrue (D.tells disk.old) → IsReplayed (D.image disk.old) count (D.image disk.new)) }
+    ensures settled { OnOk result (LeavesNow (D.moments disk.new) (D.image disk.new)) }
+    // The page is the first that breaks the rules, and nothing was written.
+    ensures damaged { OnDamaged result (λ page. IsTrue (D.tells disk.old) → BreaksRulesAt (D.image disk.old) page) }
+    ensures untouched { OnDamaged result (λ _. IsTrue (D.tells disk.old)
+        → (D.image disk.new ≡ D.image disk.old) × (D.moments disk.new ≡ D.moments disk.old)) }
+    // Where the journal breaks its rules, nothing was written, whatever the answer.
+    ensures broken { (page : ℕ) → IsTrue (D.tells disk.old) → BreaksRulesAt (D.image disk.old) page
+        → (D.image disk.new ≡ D.image disk.old) × (D.moments disk.new ≡ D.moments disk.old) }
+    ensures any_moment { (pages : PageList) → SettlesTo (D.image disk.old) pages
+        → LeavesOnly (λ x. SettlesTo x pages) (D.moments disk.old) (D.moments disk.new) }
+    ensures faults { CountsDisk result (D.faults disk.old) (D.faults disk.new) }
+    ensures reads { IsTrue (D.tells disk.old) → D.reads disk.new ≤ D.reads disk.old + 2 * length (D.image disk.old).journal }
+    ensures reads_stay_or_rise { D.reads disk.old ≤ D.reads disk.new }
+    ensures tells { D.tells disk.new ≡ D.tells disk.old }
+{
+    // What the first pass finds whole breaks no rule.
+    settling_laws();
+    let len = disk.len(Area::Pages)?;
+    let end = disk.len(Area::Journal)?;
+    let count = count_images(disk, len, end)?;
+    restore(disk, len, end)?;
+    write_gate(disk, false)?;
+    Ok(count)
+}
