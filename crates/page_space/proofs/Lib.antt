@@ -1,0 +1,9 @@
+pub mod Committed
+pub mod Created
+pub mod Giving
+pub mod Opened
+pub mod Renewing
+pub mod Settled
+pub mod Staging
+pub mod Standing
+pub mod Unique

@@ -1,0 +1,47 @@
+-- A space that was opened.
+use Rattle.std.proofs.Common.{◌≡◌, sym, subst, IsTrue}
+use Rattle.std.specs.Prelude.{Result, Ok, Err, IfOk, IfErr}
+use Rattle.page_disk.specs.declared.disk.Disk.{Ghosts}
+use Rattle.page_disk.specs.Image.{PageList, Image}
+use Rattle.redo_journal.specs.Settled.{SettlesTo}
+use Rattle.page_space.specs.declared.space.Space.{Space}
+use Rattle.page_space.specs.declared.refusal.OpenRefused.{OpenRefused}
+use Rattle.page_space.specs.declared.refusal.OpenFault.{OpenFault}
+use Rattle.page_space.specs.declared.refusal.OpenFault.TheVariants.{Disk, Empty, Damaged, NoMemory, BadJournal}
+use Rattle.page_space.specs.Faults.{AtNoMemory}
+use Rattle.page_space.specs.Opening.{IsSomeSpace, StandsWhole}
+use Rattle.page_space.specs.Refused.{opened_disk}
+use Rattle.page_space.specs.Space.{HoldsSpace}
+use Rattle.page_space.specs.Shown.{map_of, IsInOrder}
+use Rattle.page_space.proofs.Standing.{is_space}
+
+module _ {D : Type 0} {g : Ghosts D} where
+  pub opened_holds : (r : Result (Space D g) (OpenRefused D)) (disk : D) (x : Image) (told : Type 0) → (told → IsTrue (g.tells (opened_disk r)))
+      → g.image (opened_disk r) ≡ g.image disk → (told → SettlesTo x (g.image disk).pages)
+      → IfOk r (λ space. told → HoldsSpace x space.params space.meta (map_of space) (IsInOrder space))
+  opened_holds (Ok s) disk x told tells image settles = λ h. record {
+    pages = (g.image s.disk).pages;
+    settled = subst (λ y. SettlesTo x y.pages) (sym image) (settles h);
+    space = is_space s (tells h);
+  }
+  opened_holds (Err r) disk x told tells image settles = tt
+
+  pub opened_settles : (r : Result (Space D g) (OpenRefused D)) (disk : D) (x : Image) (told : Type 0)
+      → g.image (opened_disk r) ≡ g.image disk → (told → SettlesTo x (g.image disk).pages)
+      → IfOk r (λ space. told → SettlesTo x (g.image space.disk).pages)
+  opened_settles (Ok s) disk x told image settles = λ h. subst (λ y. SettlesTo x y.pages) (sym image) (settles h)
+  opened_settles (Err r) disk x told image settles = tt
+
+whole_here : (fault : OpenFault) (x : Image) (pages : PageList) (told told' : Type 0) → (told → told') → (told → SettlesTo x pages)
+    → AtNoMemory fault (told' → IsSomeSpace pages) → AtNoMemory fault (told → StandsWhole x)
+whole_here Disk x pages told told' back settles h = tt
+whole_here Empty x pages told told' back settles h = tt
+whole_here (Damaged n) x pages told told' back settles h = tt
+whole_here NoMemory x pages told told' back settles h = λ t. (pages, (settles t, h (back t)))
+whole_here (BadJournal n) x pages told told' back settles h = tt
+
+pub opened_whole : {T D : Type 0} (r : Result T (OpenRefused D)) (x : Image) (pages : PageList) (told told' : Type 0) → (told → told') → (told → SettlesTo x pages)
+    → IfErr r (λ refused. AtNoMemory refused.fault (told' → IsSomeSpace pages))
+    → IfErr r (λ refused. AtNoMemory refused.fault (told → StandsWhole x))
+opened_whole (Ok s) x pages told told' back settles h = tt
+opened_whole (Err r) x pages told told' back settles h = whole_here r.fault x pages told told' back settles h

@@ -1,0 +1,42 @@
+use Rattle.std.proofs.Common.{◌≡◌, ℕ, ◌≤◌, List, refl, ap, sym, ◌∙◌, subst, arith}
+use Rattle.redo_journal.specs.Images.{image_map}
+use Rattle.page_layout.specs.declared.meta.Meta.{Meta}
+use Rattle.page_space.specs.Bytes.{PageBytes, bytes_with}
+use Rattle.page_space.specs.Chain.{FreeInOrder}
+use Rattle.page_space.specs.Shown.{staged_bytes}
+use Rattle.page_ports.specs.Pages.{blank_bytes}
+use Rattle.page_space.proofs.Giving.{on_ok, blank_kind, given_map, fresh_more, within_more}
+use Rattle.page_space.proofs.staged.Staged.allot_page.Goals as goal
+
+pub invariant_of-self-clause-fresh : goal.invariant_of-self-clause-fresh
+invariant_of-self-clause-fresh g c =
+    let same : c.put_image.new.self.meta.allotted ≡ c.args.self.now.meta.allotted = ap (λ (m : Meta). m.allotted) (c.put_image.ensures.meta ∙ c.next_page.ensures.meta) in
+    fresh_more (image_map c.next_page.new.self.images) (image_map c.put_image.new.self.images) c.in_ok-next.next.page c.blank_page.result
+    c.put_image.new.self.space.meta.allotted c.put_image.new.self.meta.allotted c.args.self.now.meta.allotted c.in_ok-next.next.allotted
+    (on_ok c.put_image.result _ (sym c.is_err.ensures.value ∙ c.if-is_err.false) c.put_image.ensures.ok)
+    c.in_ok-next.ensures.only same c.put_image.new.self.fresh
+
+pub invariant_of-self-clause-within : goal.invariant_of-self-clause-within
+invariant_of-self-clause-within g c =
+    let same : c.put_image.new.self.meta.allotted ≡ c.args.self.now.meta.allotted = ap (λ (m : Meta). m.allotted) (c.put_image.ensures.meta ∙ c.next_page.ensures.meta) in
+    let more : c.args.self.now.meta.allotted ≤ c.in_ok-next.next.allotted = c.in_ok-next.ensures.grows.0 in
+    within_more (image_map c.put_image.new.self.images) c.put_image.new.self.meta.allotted c.in_ok-next.next.allotted (omega arith) c.put_image.new.self.within
+
+-- the bytes with the page of zeros
+changed : (g : _) (c : goal.After-self-3-1 g) → staged_bytes c.put_image.new.self ≡ bytes_with (staged_bytes c.args.self.now) c.in_ok-next.next.page blank_bytes
+changed g c =
+    on_ok c.put_image.result _ (sym c.is_err.ensures.value ∙ c.if-is_err.false) c.put_image.ensures.bytes
+    ∙ ap (λ (b : PageBytes). bytes_with b c.in_ok-next.next.page c.blank_page.result) c.next_page.ensures.bytes
+    ∙ ap (λ (i : List ℕ). bytes_with (staged_bytes c.args.self.now) c.in_ok-next.next.page i) c.blank_page.ensures
+
+pub returns-clause-ok : goal.returns-clause-ok
+returns-clause-ok g c = λ told. (
+  c.in_ok-next.ensures.unused told,
+  given_map (staged_bytes c.args.self.now) (staged_bytes c.put_image.new.self) c.in_ok-next.next.page blank_bytes (changed g c)
+      c.args.self.now.meta.allotted c.in_ok-next.next.allotted c.in_ok-next.ensures.grows.0 c.in_ok-next.ensures.only
+      c.in_ok-next.ensures.ends.0 c.in_ok-next.ensures.ends.1 (blank_kind blank_bytes refl),
+)
+
+pub returns-clause-in_order : goal.returns-clause-in_order
+returns-clause-in_order g c = λ told h.
+    subst (λ (b : PageBytes). FreeInOrder b c.in_ok-next.next.allotted c.in_ok-next.next.free) (sym (changed g c)) (c.in_ok-next.ensures.order told h)

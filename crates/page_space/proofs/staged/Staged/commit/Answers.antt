@@ -1,0 +1,76 @@
+use Rattle.std.proofs.Common.{◌≡◌, false, sym, ◌∙◌, refl, arith, IsTrue}
+use Rattle.std.specs.Prelude.{is_err}
+use Rattle.redo_journal.specs.Images.{image_map}
+use Rattle.page_cache.specs.Cache.{kept_pages}
+use Rattle.page_space.specs.Space.{IsSpace}
+use Rattle.page_space.specs.Shown.{staged_map, IsStagedInOrder}
+use Rattle.page_space.proofs.Giving.{on_ok}
+use Rattle.page_space.proofs.Renewing.{renewed_agrees}
+use Rattle.page_space.proofs.Settled.{idle_settles}
+use Rattle.page_space.proofs.Standing.{next_of, holds_either}
+use Rattle.page_space.proofs.staged.Staged.commit.Goals as goal
+
+pub returns-then-is_err-clause-any_moment : goal.returns-then-is_err-clause-any_moment
+returns-then-is_err-clause-any_moment g c = λ told.
+    holds_either c.args.self _ (g.D.Disk.moments c.commit.new.disk) told c.requires c.commit.ensures.any_moment
+
+pub renew_all-requires : goal.renew_all-requires
+renew_all-requires g c = λ page some. let w = c.args.self.within page some in omega arith
+
+-- The commit was Ok.
+fine : (g : _) (c : goal.After-renew_all g) → is_err c.commit.result ≡ false
+fine g c = sym c.is_err.ensures.value ∙ c.if-is_err.false
+
+before : (g : _) (c : goal.After-renew_all g) → IsTrue (g.D.Disk.tells c.commit.new.disk) → IsTrue (g.D.Disk.tells c.args.self.space.disk)
+before g c told = sym c.commit.ensures.tells ∙ told
+
+next : (g : _) (c : goal.After-renew_all g) → IsTrue (g.D.Disk.tells c.commit.new.disk)
+    → IsSpace (g.D.Disk.image c.commit.new.disk).pages c.args.self.space.params c.args.self.meta (staged_map c.args.self) (IsStagedInOrder c.args.self)
+next g c told = next_of c.args.self c.commit.result _ (fine g c) c.commit.ensures.placed c.requires (before g c told)
+
+pub invariant_of-result-clause-rules : goal.invariant_of-result-clause-rules
+invariant_of-result-clause-rules g c = c.requires.rules
+
+pub invariant_of-result-clause-superblock : goal.invariant_of-result-clause-superblock
+invariant_of-result-clause-superblock g c = λ told. (next g c told).superblock.spelled
+
+pub invariant_of-result-clause-roots : goal.invariant_of-result-clause-roots
+invariant_of-result-clause-roots g c = λ told. (next g c told).roots.spelled
+
+pub invariant_of-result-clause-there : goal.invariant_of-result-clause-there
+invariant_of-result-clause-there g c = λ told. (next g c told).there
+
+pub invariant_of-result-clause-idle : goal.invariant_of-result-clause-idle
+invariant_of-result-clause-idle g c = λ told. on_ok c.commit.result _ (fine g c) c.commit.ensures.idle (before g c told)
+
+pub invariant_of-result-clause-settled : goal.invariant_of-result-clause-settled
+invariant_of-result-clause-settled g c = on_ok c.commit.result _ (fine g c) c.commit.ensures.settled
+
+pub invariant_of-result-clause-agrees : goal.invariant_of-result-clause-agrees
+invariant_of-result-clause-agrees g c = λ told.
+    renewed_agrees (image_map c.args.self.images) (kept_pages c.args.self.space.cache) (kept_pages c.renew_all.new.cache)
+    (g.D.Disk.image c.args.self.space.disk).pages (g.D.Disk.image c.commit.new.disk).pages
+    (on_ok c.commit.result _ (fine g c) c.commit.ensures.placed (before g c told))
+    c.renew_all.ensures (c.args.self.space.agrees (before g c told))
+
+-- the space of the stage, at the return
+made : (g : _) (c : goal.After-drop-images-2 g) → IsTrue (g.D.Disk.tells c.args.self.space.disk)
+    → IsSpace (g.D.Disk.image c.commit.new.disk).pages c.args.self.space.params c.args.self.meta (staged_map c.args.self) (IsStagedInOrder c.args.self)
+made g c told = next_of c.args.self c.commit.result _ (sym c.is_err.ensures.value ∙ c.if-is_err.false) c.commit.ensures.placed c.requires told
+
+pub returns-clause-map : goal.returns-clause-map
+returns-clause-map g c = λ told. sym (made g c told).in_use
+
+pub returns-clause-in_order : goal.returns-clause-in_order
+returns-clause-in_order g c = λ told h. (made g c told).in_order h
+
+pub returns-clause-holds : goal.returns-clause-holds
+returns-clause-holds g c = λ told. let s = made g c told in record {
+  pages = (g.D.Disk.image c.commit.new.disk).pages;
+  settled = idle_settles (g.D.Disk.image c.commit.new.disk) (on_ok c.commit.result _ (sym c.is_err.ensures.value ∙ c.if-is_err.false) c.commit.ensures.idle told);
+  space = record { superblock = s.superblock; roots = s.roots; there = s.there; few = s.few; in_use = refl; in_order = s.in_order };
+}
+
+pub returns-clause-any_moment : goal.returns-clause-any_moment
+returns-clause-any_moment g c = λ told.
+    holds_either c.args.self _ (g.D.Disk.moments c.commit.new.disk) told c.requires c.commit.ensures.any_moment

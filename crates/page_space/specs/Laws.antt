@@ -1,0 +1,28 @@
+-- What is so of every space.
+use Rattle.std.specs.Prelude.{◌≡◌}
+use Rattle.bw_types.specs.declared.params.Params.{Params}
+use Rattle.bw_types.specs.Fits.{IsInRange}
+use Rattle.page_ports.specs.Pages.{PageMap, empty_map}
+use Rattle.page_disk.specs.Image.{PageList, Image, page_at}
+use Rattle.page_layout.specs.Meta.{IsMeta, IsTyped, meta_page}
+use Rattle.page_layout.specs.declared.meta.Meta.{Meta}
+use Rattle.redo_journal.specs.Gates.{IsCreated}
+use Rattle.redo_journal.specs.Settled.{SettlesTo}
+use Rattle.page_space.specs.Chain.{FreeInOrder}
+use Rattle.page_space.specs.Space.{HoldsSpace, params_page}
+
+-- A warehouse that was made with these params and a meta page by which no page was given out yet is a
+-- space with no page in use, whose free pages are in order.
+abbrev pub CreatedHolds : Type 0
+CreatedHolds = (x : Image) (params : Params) (meta : Meta) → IsInRange params → IsMeta meta → IsTyped meta → meta.allotted ≡ 3 → meta.free ≡ 0
+    → IsCreated (params_page params) (meta_page meta) x → HoldsSpace x params meta empty_map (Unit {0})
+
+-- A disk holds one space, whether its free pages are in order or not.
+abbrev pub HoldsOne : Type 0
+HoldsOne = (x : Image) (params params' : Params) (meta meta' : Meta) (map map' : PageMap)
+    → HoldsSpace x params meta map ⊥ → HoldsSpace x params' meta' map' ⊥ → (params ≡ params') × (meta ≡ meta') × (map ≡ map')
+
+-- Where the space that a disk holds has its free pages in order, they are so in the pages that the disk stands for.
+abbrev pub HoldsOrder : Type 0
+HoldsOrder = (x : Image) (pages : PageList) (params : Params) (meta : Meta) (map : PageMap)
+    → HoldsSpace x params meta map (Unit {0}) → SettlesTo x pages → FreeInOrder (page_at pages) meta.allotted meta.free

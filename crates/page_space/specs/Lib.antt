@@ -1,0 +1,16 @@
+pub mod Begun
+pub mod Bytes
+pub mod Chain
+pub mod ChainLaws
+pub mod Faults
+pub mod InUse
+pub mod InUseLaws
+pub mod Laws
+pub mod MetaSet
+pub mod Opening
+pub mod Ranges
+pub mod Refused
+pub mod Renewed
+pub mod Settling
+pub mod Shown
+pub mod Space

@@ -1,0 +1,21 @@
+//! What is so of every space.
+ghost use Rattle.page_space.specs.Laws.{CreatedHolds, HoldsOne, HoldsOrder};
+
+use page_layout::{Meta, Super};
+use redo_journal::settling_laws;
+
+/// Proves that a new warehouse is a space; it does nothing when it runs.
+pub fn created_holds()
+    ensures { CreatedHolds }
+{}
+
+/// Proves that a disk holds one space, and that its free pages are in order or not with it; it does
+/// nothing when it runs.
+pub fn holds_one()
+    ensures one { HoldsOne }
+    ensures order { HoldsOrder }
+{
+    settling_laws();
+    Super::one_spelling();
+    Meta::one_spelling();
+}

@@ -1,0 +1,127 @@
+//! The committed pages of a disk.
+ghost use Rattle.std.specs.Prelude.{◌≡◌, ◌⊎◌, ◌+◌, ◌≤◌, ◌<◌, ℕ, List, length, Some, None, Ok, Err, IsTrue, OnOk};
+ghost use Rattle.bw_types.specs.Fits.{IsInRange};
+ghost use Rattle.page_ports.specs.Pages.{PageMap, Rose};
+ghost use Rattle.page_disk.specs.Image.{Image, page_at};
+ghost use Rattle.page_disk.specs.Since.{LeavesNow};
+ghost use Rattle.page_cache.specs.Cache.{Agrees, kept_pages};
+ghost use Rattle.page_layout.specs.Meta.{IsMeta, IsTyped, meta_page};
+ghost use Rattle.redo_journal.specs.Gates.{gate_of};
+ghost use Rattle.redo_journal.specs.declared.gate.Gate.TheVariants.{Idle};
+ghost use Rattle.std.proofs.Props.{props};
+ghost use Rattle.page_space.specs.Ranges.{IsInRange-prop};
+ghost use Rattle.page_space.specs.Space.{params_page};
+ghost use Rattle.page_space.specs.InUse.{pages_in_use};
+
+use bw_types::Params;
+use page_cache::Cache;
+use page_disk::Disk;
+use page_layout::Meta;
+use page_ports::{FREE_PAGE, Page, PageFault, Pages};
+use std::alloc::Global;
+
+/// The committed pages of a disk, read through a cache of 1024 pages.
+///
+/// Its map has each page in use, as the bytes on the disk say it: from page 3 on, below the number of
+/// pages that were given out, each page that does not begin as a free page.
+#[derive(Drop)]
+pub struct Space<D: Disk> {
+    pub(crate) disk: D,
+    pub(crate) cache: Cache,
+    pub(crate) params: Params,
+    pub(crate) meta: Meta,
+    pub(crate) alloc: Global,
+    ghost in_range: { IsInRange params } by { IsInRange-prop params },
+    ghost most_pages: { params.pages ≤ 4294967295 },
+    ghost rules: { IsMeta meta } by { Prim.hlevel props },
+    ghost typed: { IsTyped meta } by { Prim.hlevel props },
+    ghost least: { 3 ≤ meta.allotted },
+    ghost few: { meta.allotted ≤ params.pages },
+    // Where the disk tells its image, that is the space that is kept here.
+    ghost superblock: { IsTrue (D.tells disk) → page_at (D.image disk).pages 1 ≡ params_page params },
+    ghost roots: { IsTrue (D.tells disk) → page_at (D.image disk).pages 2 ≡ meta_page meta },
+    ghost there: { IsTrue (D.tells disk) → meta.allotted ≤ length (D.image disk).pages },
+    // Nothing is to be replayed and nothing pending, and the cache is as the disk.
+    ghost idle: { IsTrue (D.tells disk) → gate_of (D.image disk) ≡ Idle },
+    ghost settled: { LeavesNow (D.moments disk) (D.image disk) },
+    ghost agrees: { IsTrue (D.tells disk) → Agrees (kept_pages cache) (D.image disk).pages },
+}
+
+impl<D: Disk> Space<D> {
+    ghost use Rattle.page_space.specs.Space.{HoldsSpace};
+    ghost use Rattle.page_space.specs.Shown.{disk_of, params_of, meta_of, begun_of, map_of, IsInOrder};
+
+    /// What the warehouse was made for.
+    pub fn params(&self) -> Params
+        ensures { result ≡ params_of self.now }
+    {
+        self.params
+    }
+
+    /// The meta page.
+    pub fn meta(&self) -> &Meta
+        ensures { result.now ≡ meta_of self.now }
+    {
+        &self.meta
+    }
+
+    /// The disk, with nothing pending.
+    pub fn into_disk(self) -> D
+        ensures { result ≡ disk_of self }
+    {
+        let Space {
+            disk,
+            cache: _,
+            params: _,
+            meta: _,
+            alloc: _,
+        } = self;
+        disk
+    }
+
+    /// Proves that the disk stands for the space; it does nothing when it runs.
+    pub fn is_held(&self)
+        ensures { IsTrue (D.tells (disk_of self.now)) → HoldsSpace (D.image (disk_of self.now)) (params_of self.now) (meta_of self.now)
+            (map_of self.now) (IsInOrder self.now) }
+    {}
+
+    /// Reads a page as the disk has it, in use or not, at most once from the disk.
+    pub(crate) fn read(&mut self, page: u64, buf: &mut Page) -> Result<(), PageFault>
+        ensures ok { OnOk result (IsTrue (D.tells (disk_of self.old))
+            → buf.new ≡ page_at (D.image (disk_of self.old)).pages page) }
+        ensures disk { result ≡ Err PageFault.Disk → Rose (D.faults (disk_of self.old)) (D.faults (disk_of self.new)) }
+        ensures damaged { (p : ℕ) → result ≡ Err (PageFault.Damaged p)
+            → (p ≡ page) × (IsTrue (D.tells (disk_of self.old)) → length (D.image (disk_of self.old)).pages ≤ page) }
+        ensures at_most_one { D.reads (disk_of self.new) ≤ D.reads (disk_of self.old) + 1 }
+        ensures reads { D.reads (disk_of self.old) ≤ D.reads (disk_of self.new) }
+        ensures faults { D.faults (disk_of self.old) ≤ D.faults (disk_of self.new) }
+        ensures same { begun_of self.new ≡ begun_of self.old }
+    {
+        self.cache.get(&mut self.disk, page, buf)
+    }
+}
+
+impl<D: Disk> Pages for Space<D> {
+    ghost tells = { λ space. D.tells space.disk };
+
+    ghost map = { λ space. pages_in_use (page_at (D.image space.disk).pages) space.meta.allotted };
+
+    ghost gets = { λ space. D.reads space.disk };
+
+    ghost faults = { λ space. D.faults space.disk };
+
+    ghost Base = { Unit {0} };
+
+    ghost base = { λ _. tt };
+
+    fn get(&mut self, page: u64, buf: &mut Page) -> Result<(), PageFault> {
+        if page < 3 || page >= self.meta.allotted {
+            return Err(PageFault::Damaged(page));
+        }
+        self.read(page, buf)?;
+        if buf[0] == FREE_PAGE {
+            return Err(PageFault::Damaged(page));
+        }
+        Ok(())
+    }
+}
