@@ -1,0 +1,13 @@
+-- The error at the exit of a `?`.
+use Rattle.std.proofs.Common.{◌≡◌, ℕ, Result, Err}
+use Rattle.page_ports.specs.declared.page.StageFault.{StageFault}
+use Rattle.page_ports.specs.declared.page.StageFault.TheVariants.{Damaged}
+
+pub exit_error : {T E : Type 0} (r : Result T E) (told asked : E) → ((y : E) × (r ≡ Err y) × (y ≡ told)) → r ≡ Err asked → told ≡ asked
+exit_error r told asked p e =
+    let first = p.1 in
+    let second = p.2 in
+    cc
+
+pub same_damaged : {T : Type 0} (a b : ℕ) → ◌≡◌ {A = Result T StageFault} (Err (Damaged a)) (Err (Damaged b)) → a ≡ b
+same_damaged a b e = cc

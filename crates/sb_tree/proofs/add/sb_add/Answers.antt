@@ -1,0 +1,168 @@
+use Rattle.std.proofs.Common.{◌≡◌, ◌≤◌, ◌<◌, ◌^◌, inl, inr, IsTrue, length, ℕ, List, [], ◌∷◌, Err, arith, sym, subst, ap, ◌∙◌, refl}
+use Rattle.std.proofs.lemmas.Result.{err_from_is_err_and}
+use Rattle.bw_types.specs.declared.point.Point.{Point}
+use Rattle.page_ports.specs.declared.page.StageFault.TheVariants.{Damaged, PageLimit}
+use Rattle.page_layout.specs.Damage.{IsDamagedBelow}
+use Rattle.sb_tree.specs.declared.place.Place.{Place}
+use Rattle.sb_tree.specs.Damage.{FitsPlace, LeadsTo, IsFullBelow}
+use Rattle.sb_tree.specs.Stands.{SbStands}
+use Rattle.sb_tree.proofs.Exits.{exit_error, same_damaged}
+use Rattle.sb_tree.proofs.Sound.{tree_undamaged}
+use Rattle.sb_tree.proofs.Growing.{grown_stands, grown_none, grown_some, grown_leaf, raised_of_tree, second_of_tree, root_spelled, few_levels, balanced_whole, balanced_first, balanced_split, full_there, full_root, bytes_of, Grown}
+use Rattle.sb_tree.proofs.add.sb_add.Goals.{then-tree-ge16-via-then-tree-ge16, then-tree-ge16-via-else-tree-ge16+then-tree-lt3}
+use Rattle.sb_tree.proofs.add.sb_add.Given
+use Rattle.sb_tree.proofs.add.sb_add.Goals as goal
+
+pub returns-then-tree-eq0-clause-stands : goal.returns-then-tree-eq0-clause-stands
+returns-then-tree-eq0-clause-stands g c = λ tells points p s few version weight.
+    let grown = grown_leaf c.args.tree.now c.grown.result (g.S.Pages.map c.args.stage.now) (g.S.Pages.map c.first_leaf.new.stage) c.in_ok-root.root c.args.version c.args.value
+    c.if-tree-eq0.true c.grown.ensures.root c.grown.ensures.levels (omega (arith, c.ranges.version.fits)) (omega (arith, c.ranges.value.fits)) (c.in_ok-root.ensures.made tells) in
+    grown_stands (g.S.Pages.map c.args.stage.now) (g.S.Pages.map c.first_leaf.new.stage) c.args.tree.now c.grown.result points p c.args.version c.args.value s few version weight
+    c.grown.ensures.count c.grown.ensures.changes c.grown.ensures.last (omega (arith, c.grown.ensures.levels)) grown
+
+pub returns-then-tree-eq0-clause-balanced : goal.returns-then-tree-eq0-clause-balanced
+returns-then-tree-eq0-clause-balanced g c = λ tells points s few balanced.
+    balanced_first c.args.tree.now c.grown.result c.grown.ensures.levels c.grown.ensures.count
+
+pub returns-in_err-add_below-clause-limit_passed : goal.returns-in_err-add_below-clause-limit_passed
+returns-in_err-add_below-clause-limit_passed g c = λ points n e tells s few balanced.
+    let p = err_from_is_err_and c.from_residual-in_err-add_below.result c.from_residual-in_err-add_below.ensures.1 in
+    let same = exit_error c.from_residual-in_err-add_below.result c.in_err-add_below.field-0.0 (PageLimit n) p e in
+    let why = c.in_err-add_below.ensures.page_limit n (ap Err same) in
+    let low = few_levels (g.S.Pages.map c.args.stage.now) c.args.tree.now points s few balanced in
+    omega (arith, why.0, why.2, low)
+
+pub returns-in_err-add_below-clause-damaged : goal.returns-in_err-add_below-clause-damaged
+returns-in_err-add_below-clause-damaged g c = λ page e tells.
+    let p = err_from_is_err_and c.from_residual-in_err-add_below.result c.from_residual-in_err-add_below.ensures.1 in
+    let same = exit_error c.from_residual-in_err-add_below.result c.in_err-add_below.field-0.0 (Damaged page) p e in
+    elim (c.in_err-add_below.ensures.damaged page (ap Err same) tells) [
+      | inl why ↦ inl (subst (λ (q : Place). IsDamagedBelow FitsPlace LeadsTo (g.S.Pages.map c.args.stage.now) c.args.tree.now.levels q c.args.tree.now.root page) c.root_place-place.ensures why)
+      | inr unordered ↦ inr (inr (inr unordered))
+    ]
+
+pub returns-in_err-add_below-clause-sound : goal.returns-in_err-add_below-clause-sound
+returns-in_err-add_below-clause-sound g c = λ points page tells s few balanced ordered e.
+    let p = err_from_is_err_and c.from_residual-in_err-add_below.result c.from_residual-in_err-add_below.ensures.1 in
+    let same = exit_error c.from_residual-in_err-add_below.result c.in_err-add_below.field-0.0 (Damaged page) p e in
+    elim (c.in_err-add_below.ensures.damaged page (ap Err same) tells) [
+      | inl why ↦ tree_undamaged (g.S.Pages.map c.args.stage.now) c.args.tree.now points c.args.version page s (omega (arith, c.ranges.version.fits))
+          (subst (λ (q : Place). IsDamagedBelow FitsPlace LeadsTo (g.S.Pages.map c.args.stage.now) c.args.tree.now.levels q c.args.tree.now.root page) c.root_place-place.ensures why)
+      | inr unordered ↦ unordered ordered
+    ]
+
+pub returns-in_err-add_below-clause-at_most : goal.returns-in_err-add_below-clause-at_most
+returns-in_err-add_below-clause-at_most g c = λ points tells s few balanced.
+    omega (arith, few_levels (g.S.Pages.map c.args.stage.now) c.args.tree.now points s few balanced, c.add_below.ensures.growth)
+
+pub returns-then-tree-ge16-clause-damaged : goal.returns-then-tree-ge16-clause-damaged
+returns-then-tree-ge16-clause-damaged g c = λ page e tells.
+    let root_is : page ≡ c.args.tree.now.root = same_damaged page c.args.tree.now.root (sym e) in
+    let full = full_root c.args.tree.now.levels (g.S.Pages.map c.args.stage.now) c.args.tree.now.root c.args.version c.root_place-place.result c.in_ok-add_below.field-0 c.in-Some.second
+    c.root_place-place.ensures c.in-Some.is (c.in_ok-add_below.ensures.full tells) in
+    elim c.then-tree-ge16.branch [
+      | then-tree-ge16-via-then-tree-ge16 w ↦
+          let sixteen : c.args.tree.now.levels ≡ 16 = omega (arith, w.if-tree-ge16.true, c.in_ok-add_below.ensures.level) in
+          inr (inr (inl (root_is, sixteen, subst (λ (n : ℕ). IsFullBelow n (g.S.Pages.map c.args.stage.now) c.args.tree.now.root c.args.version) sixteen full)))
+      | then-tree-ge16-via-else-tree-ge16+then-tree-lt3 w ↦
+          let there = bytes_of (g.S.Pages.map c.args.stage.now c.args.tree.now.root) (full_there c.args.tree.now.levels (g.S.Pages.map c.args.stage.now) c.args.tree.now.root c.args.version full) in
+          let three = g.met.S.Stage.from_three c.args.stage.now c.args.tree.now.root there.0 tells there.1 in
+          absurd (omega (arith, three, w.if-tree-lt3.true))
+    ]
+
+pub returns-then-tree-ge16-clause-sound : goal.returns-then-tree-ge16-clause-sound
+returns-then-tree-ge16-clause-sound g c = λ points page tells s few balanced ordered e.
+    let low = few_levels (g.S.Pages.map c.args.stage.now) c.args.tree.now points s few balanced in
+    elim c.then-tree-ge16.branch [
+      | then-tree-ge16-via-then-tree-ge16 w ↦ omega (arith, low, w.if-tree-ge16.true)
+      | then-tree-ge16-via-else-tree-ge16+then-tree-lt3 w ↦
+          let three = g.met.S.Stage.from_three c.args.stage.now c.args.tree.now.root _ tells (root_spelled c.args.tree.now.levels (g.S.Pages.map c.args.stage.now) c.args.tree.now.root (omega (arith, c.if-tree-eq0.false)) s.nodes) in
+          omega (arith, three, w.if-tree-lt3.true)
+    ]
+
+pub returns-then-tree-ge16-clause-at_most : goal.returns-then-tree-ge16-clause-at_most
+returns-then-tree-ge16-clause-at_most g c = λ points tells s few balanced.
+    omega (arith, few_levels (g.S.Pages.map c.args.stage.now) c.args.tree.now points s few balanced, c.add_below.ensures.growth)
+
+pub new_root-requires-clause-pages : goal.new_root-requires-clause-pages
+new_root-requires-clause-pages g c =
+    (c.if-tree-lt3.false, (second_of_tree c.args.version c.root_place-place.result c.in_ok-add_below.field-0 c.in-Some.second c.root_place-place.ensures c.in-Some.is c.in_ok-add_below.ensures.second).0)
+
+pub returns-in_err-root-in-Some-clause-limit_passed : goal.returns-in_err-root-in-Some-clause-limit_passed
+returns-in_err-root-in-Some-clause-limit_passed g c = λ points n e tells s few balanced.
+    let p = err_from_is_err_and c.from_residual-in_err-root-in-Some.result c.from_residual-in_err-root-in-Some.ensures.1 in
+    let same = exit_error c.from_residual-in_err-root-in-Some.result c.in_err-root-in-Some.field-0.0 (PageLimit n) p e in
+    let why = c.in_err-root-in-Some.ensures.page_limit n (ap Err same) in
+    let low = few_levels (g.S.Pages.map c.args.stage.now) c.args.tree.now points s few balanced in
+    omega (arith, why.0, why.2, low, c.add_below.ensures.growth, c.add_below.ensures.limit)
+
+pub returns-in_err-root-in-Some-clause-at_most : goal.returns-in_err-root-in-Some-clause-at_most
+returns-in_err-root-in-Some-clause-at_most g c = λ points tells s few balanced.
+    omega (arith, few_levels (g.S.Pages.map c.args.stage.now) c.args.tree.now points s few balanced, c.add_below.ensures.growth, c.new_root.ensures.at_most_one)
+
+pub returns-in-None-clause-stands : goal.returns-in-None-clause-stands
+returns-in-None-clause-stands g c = λ tells points p s few version weight.
+    let some : 1 ≤ c.args.tree.now.levels = omega (arith, c.if-tree-eq0.false) in
+    let r = raised_of_tree c.args.tree.now.levels (g.S.Pages.map c.args.stage.now) (g.S.Pages.map c.add_below.new.stage) c.args.tree.now.root c.args.version c.args.value c.root_place-place.result c.in_ok-add_below.field-0
+    some c.root_place-place.ensures s.nodes s.once (c.in_ok-add_below.ensures.raised tells) in
+    grown_stands (g.S.Pages.map c.args.stage.now) (g.S.Pages.map c.add_below.new.stage) c.args.tree.now c.grown-in-None.result points p c.args.version c.args.value s few version weight
+    c.grown-in-None.ensures.count c.grown-in-None.ensures.changes c.grown-in-None.ensures.last (omega (arith, c.grown-in-None.ensures.levels, some))
+    (grown_none c.args.tree.now c.grown-in-None.result (g.S.Pages.map c.args.stage.now) (g.S.Pages.map c.add_below.new.stage) c.args.version c.args.value c.in_ok-add_below.field-0 c.in-None.is some
+    c.grown-in-None.ensures.root c.grown-in-None.ensures.levels r)
+
+pub returns-in-None-clause-balanced : goal.returns-in-None-clause-balanced
+returns-in-None-clause-balanced g c = λ tells points s few balanced.
+    balanced_whole c.args.tree.now c.grown-in-None.result c.grown-in-None.ensures.levels c.grown-in-None.ensures.count balanced
+
+pub returns-in-None-clause-change : goal.returns-in-None-clause-change
+returns-in-None-clause-change g c = λ tells points s.
+    let some : 1 ≤ c.args.tree.now.levels = omega (arith, c.if-tree-eq0.false) in
+    let r = raised_of_tree c.args.tree.now.levels (g.S.Pages.map c.args.stage.now) (g.S.Pages.map c.add_below.new.stage) c.args.tree.now.root c.args.version c.args.value c.root_place-place.result c.in_ok-add_below.field-0
+    some c.root_place-place.ensures s.nodes s.once (c.in_ok-add_below.ensures.raised tells) in
+    (grown_none c.args.tree.now c.grown-in-None.result (g.S.Pages.map c.args.stage.now) (g.S.Pages.map c.add_below.new.stage) c.args.version c.args.value c.in_ok-add_below.field-0 c.in-None.is some
+    c.grown-in-None.ensures.root c.grown-in-None.ensures.levels r).change
+
+pub returns-in-None-clause-at_most : goal.returns-in-None-clause-at_most
+returns-in-None-clause-at_most g c = λ points tells s few balanced.
+    omega (arith, few_levels (g.S.Pages.map c.args.stage.now) c.args.tree.now points s few balanced, c.add_below.ensures.growth)
+
+grown_above : (g : Given.Over) (c : goal.After-grown-in-Some g) → IsTrue (g.S.Pages.tells c.args.stage.now) → (points : List Point) → SbStands (g.S.Pages.map c.args.stage.now) c.args.tree.now points
+    → Grown c.args.tree.now.levels c.grown-in-Some.result.levels (g.S.Pages.map c.args.stage.now) (g.S.Pages.map c.new_root.new.stage) c.args.tree.now.root c.grown-in-Some.result.root c.args.version c.args.value
+grown_above g c tells points s =
+    let some : 1 ≤ c.args.tree.now.levels = omega (arith, c.if-tree-eq0.false) in
+    let there = root_spelled c.args.tree.now.levels (g.S.Pages.map c.args.stage.now) c.args.tree.now.root some s.nodes in
+    let fits : c.args.tree.now.root < 2 ^ 64 = omega (arith, g.met.S.Stage.below_allotted c.args.stage.now c.args.tree.now.root _ tells there, g.met.S.Stage.within_limit c.args.stage.now, g.met.S.Stage.limit_fits c.args.stage.now) in
+    let r = raised_of_tree c.args.tree.now.levels (g.S.Pages.map c.args.stage.now) (g.S.Pages.map c.add_below.new.stage) c.args.tree.now.root c.args.version c.args.value c.root_place-place.result c.in_ok-add_below.field-0
+    some c.root_place-place.ensures s.nodes s.once (c.in_ok-add_below.ensures.raised tells) in
+    let second = second_of_tree c.args.version c.root_place-place.result c.in_ok-add_below.field-0 c.in-Some.second c.root_place-place.ensures c.in-Some.is c.in_ok-add_below.ensures.second in
+    grown_some c.args.tree.now c.grown-in-Some.result (g.S.Pages.map c.args.stage.now) (g.S.Pages.map c.add_below.new.stage) (g.S.Pages.map c.new_root.new.stage) c.in_ok-root-in-Some.root c.args.version c.args.value
+    c.in_ok-add_below.field-0 c.in-Some.second c.in-Some.is some c.if-tree-ge16.false c.grown-in-Some.ensures.root c.grown-in-Some.ensures.levels c.if-tree-lt3.false fits second r
+    (c.in_ok-root-in-Some.ensures.made (c.add_below.ensures.tells ∙ tells))
+
+stands_above : (g : Given.Over) (c : goal.After-grown-in-Some g) → IsTrue (g.S.Pages.tells c.args.stage.now) → (points : List Point) (p : Point) → SbStands (g.S.Pages.map c.args.stage.now) c.args.tree.now points
+    → length points < 2 ^ 31 → p.version ≡ c.args.version → p.weight ≡ c.args.value → SbStands (g.S.Pages.map c.new_root.new.stage) c.grown-in-Some.result (p ∷ points)
+stands_above g c tells points p s few version weight =
+    grown_stands (g.S.Pages.map c.args.stage.now) (g.S.Pages.map c.new_root.new.stage) c.args.tree.now c.grown-in-Some.result points p c.args.version c.args.value s few version weight
+    c.grown-in-Some.ensures.count c.grown-in-Some.ensures.changes c.grown-in-Some.ensures.last (omega (arith, c.grown-in-Some.ensures.levels)) (grown_above g c tells points s)
+
+pub returns-in_ok-root-in-Some-clause-stands : goal.returns-in_ok-root-in-Some-clause-stands
+returns-in_ok-root-in-Some-clause-stands g c = λ tells points p s few version weight. stands_above g c tells points p s few version weight
+
+pub returns-in_ok-root-in-Some-clause-balanced : goal.returns-in_ok-root-in-Some-clause-balanced
+returns-in_ok-root-in-Some-clause-balanced g c = λ tells points s few balanced.
+    let some : 1 ≤ c.args.tree.now.levels = omega (arith, c.if-tree-eq0.false) in
+    let there = root_spelled c.args.tree.now.levels (g.S.Pages.map c.args.stage.now) c.args.tree.now.root some s.nodes in
+    let fits : c.args.tree.now.root < 2 ^ 64 = omega (arith, g.met.S.Stage.below_allotted c.args.stage.now c.args.tree.now.root _ tells there, g.met.S.Stage.within_limit c.args.stage.now, g.met.S.Stage.limit_fits c.args.stage.now) in
+    let second = second_of_tree c.args.version c.root_place-place.result c.in_ok-add_below.field-0 c.in-Some.second c.root_place-place.ensures c.in-Some.is c.in_ok-add_below.ensures.second in
+    let p : Point = record { keys = []; version = c.args.version; weight = c.args.value } in
+    let stands = stands_above g c tells points p s few refl refl in
+    let made = c.in_ok-root-in-Some.ensures.made (c.add_below.ensures.tells ∙ tells) in
+    balanced_split c.args.tree.now.levels (g.S.Pages.map c.new_root.new.stage) c.grown-in-Some.result (p ∷ points) c.args.tree.now.root c.in-Some.second some c.if-tree-ge16.false c.grown-in-Some.ensures.levels stands
+    c.if-tree-lt3.false fits second (ap (g.S.Pages.map c.new_root.new.stage) c.grown-in-Some.ensures.root ∙ made.1)
+
+pub returns-in_ok-root-in-Some-clause-change : goal.returns-in_ok-root-in-Some-clause-change
+returns-in_ok-root-in-Some-clause-change g c = λ tells points s. (grown_above g c tells points s).change
+
+pub returns-in_ok-root-in-Some-clause-at_most : goal.returns-in_ok-root-in-Some-clause-at_most
+returns-in_ok-root-in-Some-clause-at_most g c = λ points tells s few balanced.
+    omega (arith, few_levels (g.S.Pages.map c.args.stage.now) c.args.tree.now points s few balanced, c.add_below.ensures.growth, c.new_root.ensures.at_most_one)

@@ -1,0 +1,80 @@
+-- What a call on a tree over versions may find damaged.
+use Rattle.std.specs.Prelude.{◌≡◌, ℕ, zero, suc, ◌⊎◌, ◌<◌, ◌≤◌, ◌^◌, false, nat_le, ◌==◌, List, [], ◌∷◌, if◌then◌else◌, length, map, Contains}
+use Rattle.std.specs.List.{All, list_any}
+use Rattle.bw_types.specs.declared.tree.Tree.{Tree}
+use Rattle.page_ports.specs.Pages.{PageMap}
+use Rattle.page_layout.specs.Damage.{IsDamagedBelow}
+use Rattle.page_layout.specs.SbNode.{IsSbNode, IsTyped, sb_node_page}
+use Rattle.page_layout.specs.declared.sb_node.SbNode.{SbNode}
+use Rattle.page_layout.specs.declared.sb_node.SbEntry.{SbEntry}
+use Rattle.sb_tree.specs.declared.place.Place.{Place}
+use Rattle.sb_tree.specs.Steps.{entries_on, child_at}
+use Rattle.sb_tree.specs.Stands.{first_low}
+
+-- The bytes spell a node of this level.
+pub record FitsLevel (level : ℕ) (node : SbNode) (bytes : List ℕ) : Type 0 where
+  pub spelled : bytes ≡ sb_node_page node
+  pub rules : IsSbNode node
+  pub typed : IsTyped node
+  pub at_level : node.level ≡ level
+
+-- The bytes spell a node of this level whose entries begin within the place; in an index node one of them
+-- begins at or below the version sought.
+pub record FitsPlace (level : ℕ) (place : Place) (node : SbNode) (bytes : List ℕ) : Type 0 where
+  pub fits : FitsLevel level node bytes
+  pub from : All (λ e. place.low ≤ e.low) node.entries.items
+  pub below : All (λ e. e.low < place.high) node.entries.items
+  pub leads : (level ≡ 1) ⊎ (first_low node.entries.items place.high ≤ place.sought)
+
+-- where the last entry begins that does so at or below the version, or `before` where there is none
+abbrev pub low_from : ℕ → List SbEntry → ℕ → ℕ
+low_from before [] version = before
+low_from before (e ∷ entries) version = low_from (if nat_le e.low version then e.low else before) entries version
+
+-- where the first entry begins that does so above the version, or `high` where there is none
+abbrev pub next_from : List SbEntry → ℕ → ℕ → ℕ
+next_from [] version high = high
+next_from (e ∷ entries) version high = if nat_le e.low version then next_from entries version high else e.low
+
+-- The node leads a call on to the child for the version sought.
+pub record LeadsTo (place : Place) (node : SbNode) (child : ℕ) (inner : Place) : Type 0 where
+  pub child_is : child ≡ child_at node.entries.items place.sought
+  pub low : inner.low ≡ low_from place.low node.entries.items place.sought
+  pub high : inner.high ≡ next_from node.entries.items place.sought place.high
+  pub sought : inner.sought ≡ place.sought
+
+-- the place of the root for a version
+abbrev pub root_place : ℕ → Place
+root_place version = record { low = 0; high = 2 ^ 32; sought = version }
+
+-- The page is the first on the way from the root to a version that holds no fitting node.
+abbrev pub IsDamagedOnPath : PageMap → Tree → ℕ → ℕ → Type 0
+IsDamagedOnPath pages tree version damaged = IsDamagedBelow FitsPlace LeadsTo pages tree.levels (root_place version) tree.root damaged
+
+-- The page is one of those from this page of the level down that holds no node of its level.
+abbrev pub IsDamagedFrom : PageMap → ℕ → ℕ → ℕ → Type 0
+IsDamagedFrom pages level page damaged =
+    IsDamagedBelow {N = SbNode} {P = Unit {0}} (λ level _ node bytes. FitsLevel level node bytes)
+    (λ _ node child _. Contains (map (λ (e : SbEntry). e.child) node.entries.items) child) pages level tt page damaged
+
+-- The page is one of those from the root down that holds no node of its level.
+abbrev pub IsDamagedInside : PageMap → Tree → ℕ → Type 0
+IsDamagedInside pages tree damaged = IsDamagedFrom pages tree.levels tree.root damaged
+
+-- An addition at the version would split the page: each node on the way down is full, and no entry of the
+-- leaf begins at the version.
+abbrev pub IsFullBelow : ℕ → PageMap → ℕ → ℕ → Type 0
+IsFullBelow zero pages page version = ⊥
+IsFullBelow (suc zero) pages page version =
+    (length (entries_on pages page) ≡ 64) × (list_any (λ e. e.low == version) (entries_on pages page) ≡ false)
+IsFullBelow (suc (suc level)) pages page version =
+    (length (entries_on pages page) ≡ 64) × IsFullBelow (suc level) pages (child_at (entries_on pages page) version) version
+
+-- What an addition may call damaged: a page on its way; the root of a tree that has 2^31 points or more;
+-- the root of a tree of 16 levels that would have to split; any page where the free pages are not in order.
+abbrev pub IsDamagedForAdd : PageMap → Type 0 → Tree → ℕ → ℕ → Type 0
+IsDamagedForAdd pages free_in_order tree version damaged =
+    IsDamagedOnPath pages tree version damaged
+    ⊎ ((damaged ≡ tree.root) × (2 ^ 31 ≤ tree.count))
+    ⊎ ((damaged ≡ tree.root) × (tree.levels ≡ 16) × IsFullBelow 16 pages tree.root version)
+    ⊎ (¬ free_in_order)

@@ -1,0 +1,265 @@
+//! Additions.
+ghost use Rattle.std.specs.Prelude.{◌≡◌, ◌≢◌, ◌+◌, ◌<◌, ◌≤◌, ◌^◌, ◌==◌, ◌⊎◌, false, ℕ, List, ◌∷◌, length, Some, None, Err, IsTrue, IfOk, OnOk, OnErr};
+ghost use Rattle.bw_types.specs.declared.point.Point.{Point};
+ghost use Rattle.page_ports.specs.Frame.{Replaces, KeepsPages};
+ghost use Rattle.page_ports.specs.Pages.{Rose};
+ghost use Rattle.page_layout.specs.Damage.{IsDamagedBelow};
+ghost use Rattle.page_layout.specs.Footprint.{NamesNoneTwice};
+ghost use Rattle.page_layout.specs.SbNode.{IsSbNode, sb_node_page};
+ghost use Rattle.sb_tree.specs.Damage.{FitsPlace, IsDamagedForAdd, IsFullBelow, LeadsTo};
+ghost use Rattle.sb_tree.specs.Edits.{first_entries, leaf_entry as spec_leaf_entry, root_entries};
+ghost use Rattle.sb_tree.specs.Raised.{IsRaised, SecondFits, WasFull};
+ghost use Rattle.sb_tree.specs.Stands.{IsBalanced, SbStands, StandsBelow};
+ghost use Rattle.sb_tree.specs.Steps.{pages_below, tree_pages};
+ghost use Rattle.sb_tree.specs.Stored.{page_of};
+
+use crate::edit::{add_beside, take_in};
+use crate::entries::{begun_count, child_before, inner_place};
+use crate::node::staged_in_place;
+use crate::place::{Place, root_place};
+use crate::second::Second;
+use crate::store::{put_node, store};
+use arrayvec::ArrayVec;
+use bw_types::Tree;
+use page_layout::{SbEntry, SbNode};
+use page_ports::{Stage, StageFault};
+
+/// Adds a value, a residue modulo `2^128`, from a version on.
+///
+/// Where the tree stood, it stands for one point more, past versions included, and stays balanced; at
+/// most 8 pages are given out then. After a refusal the tree value is as it was, and the stage is to be
+/// abandoned. `Disk` comes only where the count of faults rose; `PageLimit` only where as many pages
+/// are given out as the limit allows; `Damaged` carries a page on the way down as for `sb_value`, or
+/// the root where the tree has `2^31` points or would have to split a root of level 16, or a page of
+/// the stage where its free pages are not in order.
+pub fn sb_add<S: Stage>(
+    stage: &mut S,
+    tree: &mut Tree,
+    version: u32,
+    value: u128,
+) -> Result<(), StageFault>
+    ensures stands { OnOk result (IsTrue (S.Pages.tells stage.old) → (points : List Point) (p : Point)
+        → SbStands (S.Pages.map stage.old) tree.old points → length points < 2 ^ 31 → p.version ≡ version → p.weight ≡ value
+        → SbStands (S.Pages.map stage.new) tree.new (p ∷ points)) }
+    ensures balanced { OnOk result (IsTrue (S.Pages.tells stage.old) → (points : List Point)
+        → SbStands (S.Pages.map stage.old) tree.old points → length points < 2 ^ 31 → IsBalanced tree.old → IsBalanced tree.new) }
+    // The map changes exactly by the tree's pages.
+    ensures change { OnOk result (IsTrue (S.Pages.tells stage.old) → (points : List Point)
+        → SbStands (S.Pages.map stage.old) tree.old points
+        → Replaces (tree_pages (S.Pages.map stage.old) tree.old) (tree_pages (S.Pages.map stage.new) tree.new)
+        (S.Pages.map stage.old) (S.Pages.map stage.new)) }
+    ensures keeps { IsTrue (S.Pages.tells stage.old) → KeepsPages (S.Pages.map stage.old) (S.Pages.map stage.new) }
+    ensures count { OnOk result (tree.new.count ≡ tree.old.count + 1) }
+    ensures refused { OnErr result (tree.new ≡ tree.old) }
+    ensures disk { result ≡ Err StageFault.Disk → Rose (S.Pages.faults stage.old) (S.Pages.faults stage.new) }
+    ensures page_limit { (n : ℕ) → result ≡ Err (StageFault.PageLimit n)
+        → (n ≡ S.Pages.limit stage.old) × (S.Pages.allotted stage.new ≡ n) × (n < S.Pages.allotted stage.old + (tree.old.levels + 1)) }
+    ensures limit_passed { (points : List Point) (n : ℕ) → result ≡ Err (StageFault.PageLimit n) → IsTrue (S.Pages.tells stage.old)
+        → SbStands (S.Pages.map stage.old) tree.old points → length points < 2 ^ 31 → IsBalanced tree.old
+        → S.Pages.limit stage.old < S.Pages.allotted stage.old + 8 }
+    ensures damaged { (page : ℕ) → result ≡ Err (StageFault.Damaged page) → IsTrue (S.Pages.tells stage.old)
+        → IsDamagedForAdd (S.Pages.map stage.old) (S.Pages.free_in_order stage.old) tree.old version page }
+    ensures sound { (points : List Point) (page : ℕ) → IsTrue (S.Pages.tells stage.old)
+        → SbStands (S.Pages.map stage.old) tree.old points → length points < 2 ^ 31 → IsBalanced tree.old
+        → S.Pages.free_in_order stage.old → result ≢ Err (StageFault.Damaged page) }
+    // One page a level and a new root at most; where the tree stood and was balanced, 8.
+    ensures growth { S.Pages.allotted stage.new ≤ S.Pages.allotted stage.old + (tree.old.levels + 1) }
+    ensures at_most { (points : List Point) → IsTrue (S.Pages.tells stage.old) → SbStands (S.Pages.map stage.old) tree.old points → length points < 2 ^ 31
+        → IsBalanced tree.old → S.Pages.allotted stage.new ≤ S.Pages.allotted stage.old + 8 }
+    ensures allotted { S.Pages.allotted stage.old ≤ S.Pages.allotted stage.new }
+    ensures gets { S.Pages.gets stage.old ≤ S.Pages.gets stage.new }
+    ensures faults { S.Pages.faults stage.old ≤ S.Pages.faults stage.new }
+    ensures tells { S.Pages.tells stage.new ≡ S.Pages.tells stage.old }
+    ensures base { S.Pages.base stage.new ≡ S.Pages.base stage.old }
+    ensures limit { S.Pages.limit stage.new ≡ S.Pages.limit stage.old }
+    ensures free_in_order { IsTrue (S.Pages.tells stage.old) → S.Pages.free_in_order stage.old → S.Pages.free_in_order stage.new }
+{
+    if tree.count >= 1 << 31 {
+        return Err(StageFault::Damaged(tree.root));
+    }
+    if tree.levels == 0 {
+        let root = first_leaf(stage, version, value)?;
+        *tree = grown(tree, root, 1);
+        return Ok(());
+    }
+    let place = root_place(version);
+    match add_below(stage, tree.root, tree.levels, place, value)? {
+        None => *tree = grown(tree, tree.root, tree.levels),
+        Some(second) => {
+            // No page of a stage is below 3; it is tested for a stage that does not tell its map.
+            if tree.levels >= 16 || tree.root < 3 {
+                return Err(StageFault::Damaged(tree.root));
+            }
+            let root = new_root(stage, tree.root, tree.levels, second)?;
+            *tree = grown(tree, root, tree.levels + 1);
+        }
+    }
+    Ok(())
+}
+
+// The tree with a point more.
+fn grown(tree: &Tree, root: u64, levels: u8) -> Tree
+    requires { tree.now.count < 2 ^ 31 }
+    ensures root { result.root ≡ root }
+    ensures levels { result.levels ≡ levels }
+    ensures count { result.count ≡ tree.now.count + 1 }
+    ensures changes { result.changes ≡ tree.now.changes }
+    ensures last { result.last ≡ tree.now.last }
+{
+    Tree {
+        root,
+        levels,
+        count: tree.count + 1,
+        changes: tree.changes,
+        last: tree.last,
+    }
+}
+
+// Adds below the page, which is split if it is too full for that.
+fn add_below<S: Stage>(
+    stage: &mut S,
+    page: u64,
+    level: u8,
+    place: Place,
+    value: u128,
+) -> Result<Option<Second>, StageFault>
+    requires level { 1 ≤ level }
+    requires place { (place.low ≤ place.sought) × (place.sought < place.high) × (place.sought < 2 ^ 32) }
+    ensures raised { IfOk result (λ second. IsTrue (S.Pages.tells stage.old) → (least : ℕ)
+        → StandsBelow level (S.Pages.map stage.old) page place.low place.high least → NamesNoneTwice (pages_below level (S.Pages.map stage.old) page)
+        → IsRaised level (S.Pages.map stage.old) (S.Pages.map stage.new) page place.low place.high least place.sought value second) }
+    ensures second { IfOk result (λ second. SecondFits place.low place.high second) }
+    ensures full { IfOk result (λ second. IsTrue (S.Pages.tells stage.old) → WasFull second (IsFullBelow level (S.Pages.map stage.old) page place.sought)) }
+    ensures level { OnOk result (level ≤ 16) }
+    ensures keeps { IsTrue (S.Pages.tells stage.old) → KeepsPages (S.Pages.map stage.old) (S.Pages.map stage.new) }
+    ensures disk { result ≡ Err StageFault.Disk → Rose (S.Pages.faults stage.old) (S.Pages.faults stage.new) }
+    ensures page_limit { (n : ℕ) → result ≡ Err (StageFault.PageLimit n)
+        → (n ≡ S.Pages.limit stage.old) × (S.Pages.allotted stage.new ≡ n) × (n < S.Pages.allotted stage.old + level) }
+    ensures damaged { (damaged : ℕ) → result ≡ Err (StageFault.Damaged damaged) → IsTrue (S.Pages.tells stage.old)
+        → IsDamagedBelow FitsPlace LeadsTo (S.Pages.map stage.old) level place page damaged ⊎ (¬ S.Pages.free_in_order stage.old) }
+    ensures growth { S.Pages.allotted stage.new ≤ S.Pages.allotted stage.old + level }
+    ensures allotted { S.Pages.allotted stage.old ≤ S.Pages.allotted stage.new }
+    ensures gets { S.Pages.gets stage.old ≤ S.Pages.gets stage.new }
+    ensures faults { S.Pages.faults stage.old ≤ S.Pages.faults stage.new }
+    ensures tells { S.Pages.tells stage.new ≡ S.Pages.tells stage.old }
+    ensures base { S.Pages.base stage.new ≡ S.Pages.base stage.old }
+    ensures limit { S.Pages.limit stage.new ≡ S.Pages.limit stage.old }
+    ensures free_in_order { IsTrue (S.Pages.tells stage.old) → S.Pages.free_in_order stage.old → S.Pages.free_in_order stage.new }
+{
+    let mut node = staged_in_place(stage, page, level, place)?;
+    if level == 1 {
+        take_in(&mut node.entries, place.sought, value);
+        return store(stage, page, node);
+    }
+    let entries = node.entries.as_slice();
+    let begun = begun_count(entries, place.sought);
+    let inner = inner_place(entries, begun, place);
+    let child = child_before(entries, begun);
+    let second = add_below(stage, child, level - 1, inner, value)?;
+    add_beside(&mut node.entries, begun, value, second);
+    store(stage, page, node)
+}
+
+// A leaf of one addition.
+fn first_leaf<S: Stage>(stage: &mut S, version: u32, value: u128) -> Result<u64, StageFault>
+    ensures made { IfOk result (λ page. IsTrue (S.Pages.tells stage.old) → (S.Pages.map stage.old page ≡ None)
+        × (S.Pages.map stage.new page ≡ Some (page_of 1 (first_entries version value)))
+        × ((p : ℕ) → (page == p) ≡ false → S.Pages.map stage.new p ≡ S.Pages.map stage.old p)) }
+    ensures keeps { IsTrue (S.Pages.tells stage.old) → KeepsPages (S.Pages.map stage.old) (S.Pages.map stage.new) }
+    ensures disk { result ≡ Err StageFault.Disk → Rose (S.Pages.faults stage.old) (S.Pages.faults stage.new) }
+    ensures page_limit { (n : ℕ) → result ≡ Err (StageFault.PageLimit n)
+        → (n ≡ S.Pages.limit stage.old) × (S.Pages.allotted stage.new ≡ n) × (n ≡ S.Pages.allotted stage.old) }
+    ensures damaged { (p : ℕ) → result ≡ Err (StageFault.Damaged p) → IsTrue (S.Pages.tells stage.old) → ¬ S.Pages.free_in_order stage.old }
+    ensures at_most_one { S.Pages.allotted stage.new ≤ S.Pages.allotted stage.old + 1 }
+    ensures allotted { S.Pages.allotted stage.old ≤ S.Pages.allotted stage.new }
+    ensures gets { S.Pages.gets stage.old ≤ S.Pages.gets stage.new }
+    ensures faults { S.Pages.faults stage.old ≤ S.Pages.faults stage.new }
+    ensures tells { S.Pages.tells stage.new ≡ S.Pages.tells stage.old }
+    ensures base { S.Pages.base stage.new ≡ S.Pages.base stage.old }
+    ensures limit { S.Pages.limit stage.new ≡ S.Pages.limit stage.old }
+    ensures free_in_order { IsTrue (S.Pages.tells stage.old) → S.Pages.free_in_order stage.old → S.Pages.free_in_order stage.new }
+{
+    let mut entries = ArrayVec::new();
+    if version > 0 {
+        entries.push(leaf_entry(0, 0));
+    }
+    entries.push(leaf_entry(version, value));
+    make_node(stage, SbNode { level: 1, entries })
+}
+
+fn leaf_entry(low: u32, value: u128) -> SbEntry
+    ensures { result ≡ spec_leaf_entry low value }
+{
+    SbEntry {
+        low,
+        value,
+        child: 0,
+    }
+}
+
+// A root above the two pages into which the old one was split.
+fn new_root<S: Stage>(
+    stage: &mut S,
+    first: u64,
+    levels: u8,
+    second: Second,
+) -> Result<u64, StageFault>
+    requires levels { (1 ≤ levels) × (levels < 16) }
+    requires pages { (3 ≤ first) × (3 ≤ second.page) }
+    requires low { 0 < second.low }
+    ensures made { IfOk result (λ page. IsTrue (S.Pages.tells stage.old) → (S.Pages.map stage.old page ≡ None)
+        × (S.Pages.map stage.new page ≡ Some (page_of (levels + 1) (root_entries first second)))
+        × ((p : ℕ) → (page == p) ≡ false → S.Pages.map stage.new p ≡ S.Pages.map stage.old p)) }
+    ensures keeps { IsTrue (S.Pages.tells stage.old) → KeepsPages (S.Pages.map stage.old) (S.Pages.map stage.new) }
+    ensures disk { result ≡ Err StageFault.Disk → Rose (S.Pages.faults stage.old) (S.Pages.faults stage.new) }
+    ensures page_limit { (n : ℕ) → result ≡ Err (StageFault.PageLimit n)
+        → (n ≡ S.Pages.limit stage.old) × (S.Pages.allotted stage.new ≡ n) × (n ≡ S.Pages.allotted stage.old) }
+    ensures damaged { (p : ℕ) → result ≡ Err (StageFault.Damaged p) → IsTrue (S.Pages.tells stage.old) → ¬ S.Pages.free_in_order stage.old }
+    ensures at_most_one { S.Pages.allotted stage.new ≤ S.Pages.allotted stage.old + 1 }
+    ensures allotted { S.Pages.allotted stage.old ≤ S.Pages.allotted stage.new }
+    ensures gets { S.Pages.gets stage.old ≤ S.Pages.gets stage.new }
+    ensures faults { S.Pages.faults stage.old ≤ S.Pages.faults stage.new }
+    ensures tells { S.Pages.tells stage.new ≡ S.Pages.tells stage.old }
+    ensures base { S.Pages.base stage.new ≡ S.Pages.base stage.old }
+    ensures limit { S.Pages.limit stage.new ≡ S.Pages.limit stage.old }
+    ensures free_in_order { IsTrue (S.Pages.tells stage.old) → S.Pages.free_in_order stage.old → S.Pages.free_in_order stage.new }
+{
+    let mut entries = ArrayVec::new();
+    entries.push(SbEntry {
+        low: 0,
+        value: 0,
+        child: first,
+    });
+    entries.push(SbEntry {
+        low: second.low,
+        value: 0,
+        child: second.page,
+    });
+    let level = levels + 1;
+    make_node(stage, SbNode { level, entries })
+}
+
+// A new page that holds the node.
+fn make_node<S: Stage>(stage: &mut S, node: SbNode) -> Result<u64, StageFault>
+    requires { IsSbNode node }
+    ensures made { IfOk result (λ page. IsTrue (S.Pages.tells stage.old) → (S.Pages.map stage.old page ≡ None)
+        × (S.Pages.map stage.new page ≡ Some (sb_node_page node))
+        × ((p : ℕ) → (page == p) ≡ false → S.Pages.map stage.new p ≡ S.Pages.map stage.old p)) }
+    ensures keeps { IsTrue (S.Pages.tells stage.old) → KeepsPages (S.Pages.map stage.old) (S.Pages.map stage.new) }
+    ensures disk { result ≡ Err StageFault.Disk → Rose (S.Pages.faults stage.old) (S.Pages.faults stage.new) }
+    ensures page_limit { (n : ℕ) → result ≡ Err (StageFault.PageLimit n)
+        → (n ≡ S.Pages.limit stage.old) × (S.Pages.allotted stage.new ≡ n) × (n ≡ S.Pages.allotted stage.old) }
+    ensures damaged { (p : ℕ) → result ≡ Err (StageFault.Damaged p) → IsTrue (S.Pages.tells stage.old) → ¬ S.Pages.free_in_order stage.old }
+    ensures at_most_one { S.Pages.allotted stage.new ≤ S.Pages.allotted stage.old + 1 }
+    ensures allotted { S.Pages.allotted stage.old ≤ S.Pages.allotted stage.new }
+    ensures gets { S.Pages.gets stage.old ≤ S.Pages.gets stage.new }
+    ensures faults { S.Pages.faults stage.old ≤ S.Pages.faults stage.new }
+    ensures tells { S.Pages.tells stage.new ≡ S.Pages.tells stage.old }
+    ensures base { S.Pages.base stage.new ≡ S.Pages.base stage.old }
+    ensures limit { S.Pages.limit stage.new ≡ S.Pages.limit stage.old }
+    ensures free_in_order { IsTrue (S.Pages.tells stage.old) → S.Pages.free_in_order stage.old → S.Pages.free_in_order stage.new }
+{
+    let page = stage.allot()?;
+    put_node(stage, page, &node)?;
+    Ok(page)
+}
