@@ -1,0 +1,14 @@
+pub mod Adding
+pub mod Additions
+pub mod Changes
+pub mod Children
+pub mod Copying
+pub mod Found
+pub mod Halving
+pub mod Later
+pub mod Leading
+pub mod Order
+pub mod Paths
+pub mod Putting
+pub mod Reaching
+pub mod Typing

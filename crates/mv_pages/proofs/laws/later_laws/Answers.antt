@@ -1,0 +1,8 @@
+use Rattle.mv_pages.proofs.Later.{later_changeable, later_count}
+use Rattle.mv_pages.proofs.laws.later_laws.Goals as goal
+
+pub returns-clause-changeable : goal.returns-clause-changeable
+returns-clause-changeable c = λ v w es late last can. later_changeable v w es late last can
+
+pub returns-clause-alive : goal.returns-clause-alive
+returns-clause-alive c = λ v w low es late can. later_count v w low es can.last late can.past
