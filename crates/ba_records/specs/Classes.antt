@@ -1,0 +1,44 @@
+-- Where a point stands beside a region.
+use Rattle.std.specs.Prelude.{ℕ, suc, Bool, true, not, ◌&&◌, if◌then◌else◌, nat_lt, nat_eq, false, List, [], ◌∷◌, take}
+use Rattle.bw_types.specs.Dominance.{keys_at_most}
+use Rattle.bw_types.specs.declared.region.Region.{Region}
+use Rattle.ba_records.specs.declared.classes.Class.{Class}
+use Rattle.ba_records.specs.declared.classes.Class.TheVariants.{Beyond, Inside, Below, Border}
+
+-- each key is below the bound beside it
+abbrev pub keys_before : List ℕ → List ℕ → Bool
+keys_before [] bounds = true
+keys_before (key ∷ keys) [] = true
+keys_before (key ∷ keys) (bound ∷ bounds) = nat_lt key bound && keys_before keys bounds
+
+-- the place of the first key that is below the bound beside it
+abbrev pub first_below : List ℕ → List ℕ → ℕ
+first_below [] bounds = 0
+first_below (key ∷ keys) [] = 0
+first_below (key ∷ keys) (bound ∷ bounds) = if nat_lt key bound then 0 else suc (first_below keys bounds)
+
+-- the keys lie in the region: in each dimension the key is from the low end to before the high end
+abbrev pub lies_in : ℕ → List ℕ → Region → Bool
+lies_in dims keys region =
+    keys_at_most (take dims region.low) (take dims keys) && keys_before (take dims keys) (take dims region.high)
+
+-- the class of keys for a region: Beyond where some key is not before the high end; else Inside where each
+-- key is at or past the low end; else Below where each key is below the low end; else at the border of
+-- the first dimension whose key is
+abbrev pub class_of : ℕ → List ℕ → Region → Class
+class_of dims keys region =
+    if not (keys_before (take dims keys) (take dims region.high))
+    then Beyond
+    else if keys_at_most (take dims region.low) (take dims keys)
+    then Inside
+    else if keys_before (take dims keys) (take dims region.low)
+    then Below
+    else Border (first_below (take dims keys) (take dims region.low))
+
+-- the two classes are one
+abbrev pub is_same_class : Class → Class → Bool
+is_same_class Beyond Beyond = true
+is_same_class Inside Inside = true
+is_same_class Below Below = true
+is_same_class (Border dimension) (Border other) = nat_eq dimension other
+is_same_class class other = false

@@ -1,0 +1,29 @@
+//! The laws of classes: a function here does nothing, and its contract is the law.
+ghost use Rattle.ba_records.specs.Borders.{OtherKeysStay, DifferingKeysStay};
+ghost use Rattle.ba_records.specs.Counts.{BeyondNeverCounts, BelowCountsByVersion, BorderCountsWithout};
+ghost use Rattle.ba_records.specs.Sums.{SumsByClass};
+ghost use Rattle.ba_records.specs.Table.{OneClass, InsideLiesIn};
+
+/// Each point has exactly one class, and is Inside exactly where its keys lie in the region.
+pub fn each_has_one_class()
+    ensures one { OneClass }
+    ensures inside { InsideLiesIn }
+{}
+
+/// What a query inside a region takes from a point, by the point's class.
+pub fn classes_count()
+    ensures beyond { BeyondNeverCounts }
+    ensures below { BelowCountsByVersion }
+    ensures border { BorderCountsWithout }
+{}
+
+/// The dominance sum of points at keys inside a region, by the classes of the points.
+pub fn sums_go_by_class()
+    ensures { SumsByClass }
+{}
+
+/// Without one dimension the other keys stay, and points that differ in one of them still do.
+pub fn other_keys_stay()
+    ensures keys { OtherKeysStay }
+    ensures differ { DifferingKeysStay }
+{}

@@ -1,0 +1,4 @@
+pub mod Cutting
+pub mod Ordering
+pub mod Partition
+pub mod Splitting
