@@ -271,30 +271,30 @@ index_raised level m0 m1 before at after low high v x s asc here above fits begi
     let c : ℕ = suc level in
     let E : List SbEntry = before ++ (at ∷ after) in
     let N : List SbEntry = before ++ ((at ∷ second_entry s) ++ raised_first after x) in
-    let B0 : List ℕ = list_pages c m0 before in
-    let A0 : List ℕ = pages_below c m0 at.child in
-    let C0 : List ℕ = list_pages c m0 after in
+    let pages_b : List ℕ = list_pages c m0 before in
+    let pages_a : List ℕ = pages_below c m0 at.child in
+    let pages_c : List ℕ = list_pages c m0 after in
     let A1 : List ℕ = parts_pages c m1 at.child s in
-    let old : list_pages c m0 E ≡ B0 ++ (A0 ++ C0) = flat_map-append (own_pages c m0) before (at ∷ after) in
+    let old : list_pages c m0 E ≡ pages_b ++ (pages_a ++ pages_c) = flat_map-append (own_pages c m0) before (at ∷ after) in
     let once0 = subst NamesNoneTwice old once in
     let split = EachStands-split (λ child from to. StandsBelow (suc level) m0 child from to 32) before (at ∷ after) high each in
-    let b_apart = apart_from_first B0 A0 C0 (once_apart B0 (A0 ++ C0) once0) in
-    let ac_once = once_right B0 (A0 ++ C0) once0 in
-    let c_apart = apart_sym A0 C0 (once_apart A0 C0 ac_once) in
+    let b_apart = apart_from_first pages_b pages_a pages_c (once_apart pages_b (pages_a ++ pages_c) once0) in
+    let ac_once = once_right pages_b (pages_a ++ pages_c) once0 in
+    let c_apart = apart_sym pages_a pages_c (once_apart pages_a pages_c ac_once) in
     let b_there = EachBelow-there c m0 before at.low split.0 in
     let c_there = EachBelow-there c m0 after high split.1.1 in
-    let agree_b = Replaces-agree B0 A0 A1 m0 m1 r.change b_there b_apart.0 in
-    let agree_c = Replaces-agree C0 A0 A1 m0 m1 r.change c_there c_apart in
-    let b_new = Replaces-apart B0 A0 A1 m0 m1 r.change b_there b_apart.0 in
-    let c_new = Replaces-apart C0 A0 A1 m0 m1 r.change c_there c_apart in
-    let c_same : list_pages c m1 (raised_first after x) ≡ C0 = raised_list_pages c m1 after x ∙ list_pages-frame c m0 m1 after agree_c in
-    let new : list_pages c m1 N ≡ B0 ++ (A1 ++ C0) =
+    let agree_b = Replaces-agree pages_b pages_a A1 m0 m1 r.change b_there b_apart.0 in
+    let agree_c = Replaces-agree pages_c pages_a A1 m0 m1 r.change c_there c_apart in
+    let b_new = Replaces-apart pages_b pages_a A1 m0 m1 r.change b_there b_apart.0 in
+    let c_new = Replaces-apart pages_c pages_a A1 m0 m1 r.change c_there c_apart in
+    let c_same : list_pages c m1 (raised_first after x) ≡ pages_c = raised_list_pages c m1 after x ∙ list_pages-frame c m0 m1 after agree_c in
+    let new : list_pages c m1 N ≡ pages_b ++ (A1 ++ pages_c) =
     flat_map-append (own_pages c m1) before ((at ∷ second_entry s) ++ raised_first after x)
     ∙ ap (λ (ps : List ℕ). ps ++ list_pages c m1 ((at ∷ second_entry s) ++ raised_first after x)) (list_pages-frame c m0 m1 before agree_b)
-    ∙ ap (λ (ps : List ℕ). B0 ++ ps) (flat_map-append (own_pages c m1) (at ∷ second_entry s) (raised_first after x)
+    ∙ ap (λ (ps : List ℕ). pages_b ++ ps) (flat_map-append (own_pages c m1) (at ∷ second_entry s) (raised_first after x)
     ∙ ap (λ (ps : List ℕ). ps ++ list_pages c m1 (raised_first after x)) (parts_list_pages level m1 at s) ∙ ap (λ (ps : List ℕ). A1 ++ ps) c_same) in
-    let once1 = once_join B0 (A1 ++ C0) (once_left B0 (A0 ++ C0) once0) (once_join A1 C0 r.once (once_right A0 C0 ac_once) (apart_sym C0 A1 c_new)) (apart_both B0 A1 C0 b_new b_apart.1) in
-    let change = Replaces-beside B0 B0 (A0 ++ C0) (A1 ++ C0) m0 m0 m1 (Replaces-same B0 m0) (Replaces-beside A0 A1 C0 C0 m0 m1 m1 r.change (Replaces-same C0 m1)) in
+    let once1 = once_join pages_b (A1 ++ pages_c) (once_left pages_b (pages_a ++ pages_c) once0) (once_join A1 pages_c r.once (once_right pages_a pages_c ac_once) (apart_sym pages_c A1 c_new)) (apart_both pages_b A1 pages_c b_new b_apart.1) in
+    let change = Replaces-beside pages_b pages_b (pages_a ++ pages_c) (A1 ++ pages_c) m0 m0 m1 (Replaces-same pages_b m0) (Replaces-beside pages_a A1 pages_c pages_c m0 m1 m1 r.change (Replaces-same pages_c m1)) in
     let old_lows : list_lows c m0 E ≡ list_lows c m0 before ++ (lows_below c m0 at.child ++ list_lows c m0 after) = flat_map-append (own_lows c m0) before (at ∷ after) in
     let new_lows : list_lows c m1 N ≡ list_lows c m0 before ++ (parts_lows c m1 at.child s ++ list_lows c m0 after) =
     flat_map-append (own_lows c m1) before ((at ∷ second_entry s) ++ raised_first after x)
@@ -310,7 +310,7 @@ index_raised level m0 m1 before at after low high v x s asc here above fits begi
           (subst (λ (h : ℕ). EachBelow c m1 (at ∷ second_entry s) h) (sym (first_low-raised after x high)) (parts_each level m1 at s (first_low after high) r.stands))
           (raised_each c m1 after x high (EachBelow-frame c m0 m1 after high agree_c split.1.1)));
       once = subst NamesNoneTwice (sym new) once1;
-      change = subst (λ (ps : List ℕ). Replaces ps (list_pages c m1 N) m0 m1) (sym old) (subst (λ (ps : List ℕ). Replaces (B0 ++ (A0 ++ C0)) ps m0 m1) (sym new) change);
+      change = subst (λ (ps : List ℕ). Replaces ps (list_pages c m1 N) m0 m1) (sym old) (subst (λ (ps : List ℕ). Replaces (pages_b ++ (pages_a ++ pages_c)) ps m0 m1) (sym new) change);
       lows = subst (λ (ls : List ℕ). All (λ l. IsLowOf ls v l) (list_lows c m1 N)) (sym old_lows)
           (subst (λ (ls : List ℕ). All (λ l. IsLowOf (list_lows c m0 before ++ (lows_below c m0 at.child ++ list_lows c m0 after)) v l) ls) (sym new_lows)
           (lows_of_three (list_lows c m0 before) (lows_below c m0 at.child) (parts_lows c m1 at.child s) (list_lows c m0 after) v r.lows));
