@@ -6,7 +6,6 @@ ghost use Rattle.std.specs.Prelude.{◌<◌, IfSome, IfOk};
 
 mod full;
 mod rounds;
-mod spelled;
 
 use crate::rounds::{print_kept, print_times};
 use std::rt::Env;

@@ -2,9 +2,9 @@
 ghost use Rattle.std.specs.Prelude.{◌<◌};
 
 use crate::full;
-use crate::spelled::Spelled;
 use page_layout::{
-    CutPage, FreePage, JournalHead, LifeNode, Meta, MvNode, PointLeaf, SbNode, Super, TableNode,
+    CutPage, FreePage, JournalHead, LifeNode, Meta, MvNode, PointLeaf, SbNode, Spelled, Super,
+    TableNode,
 };
 use page_ports::{Page, blank_page};
 use std::io;
@@ -13,8 +13,8 @@ use std::time::Instant;
 
 fn comes_back<T: Spelled>(page: &Page) -> bool {
     let mut again = blank_page();
-    match T::read_from(page) {
-        Some(value) => value.write_to(&mut again),
+    match T::read(page) {
+        Some(value) => value.write(&mut again),
         None => return false,
     }
     again == *page
@@ -63,7 +63,7 @@ fn time_writes<T: Spelled>(clock: &impl Clock, value: &T, rounds: u64) -> io::Re
     let mut seen: u64 = 0;
     let start = Instant::now(clock)?;
     for round in 0..rounds {
-        value.write_to(&mut page);
+        value.write(&mut page);
         seen = seen.wrapping_add(byte_of(&page, round));
     }
     let nanos = start.elapsed(clock)?.as_nanos() / u128::from(rounds);
@@ -76,7 +76,7 @@ fn time_reads<T: Spelled>(clock: &impl Clock, page: &Page, rounds: u64) -> io::R
     let mut seen: u64 = 0;
     let start = Instant::now(clock)?;
     for round in 0..rounds {
-        if T::read_from(page).is_some() {
+        if T::read(page).is_some() {
             seen = seen.wrapping_add(byte_of(page, round));
         }
     }
@@ -107,7 +107,7 @@ fn print_type<T: Spelled>(
 ) -> io::Result<()>
     requires { 0 < rounds }
 {
-    match T::read_from(page) {
+    match T::read(page) {
         Some(value) => {
             let writes = time_writes(rt, &value, rounds)?;
             let reads = time_reads::<T>(rt, page, rounds)?;

@@ -6,7 +6,7 @@ ghost use Rattle.page_space.specs.MetaSet.{FitsBesideCounts};
 use arrayvec::ArrayVec;
 use bw_types::{Params, Tree};
 use page_disk::Disk;
-use page_layout::{Meta, Super};
+use page_layout::{Meta, Spelled, Super};
 use page_ports::blank_page;
 use page_space::Space;
 use redo_journal::{Gate, create, ready};

@@ -5,6 +5,5 @@ pub mod Replies
 pub mod Scratch
 pub mod Served
 pub mod Staged
-pub mod WordsGathered
-pub mod WordsLemmas
-pub mod WordsReadBack
+pub mod WordsTables
+pub mod WordsWalk

@@ -1,8 +1,8 @@
 pub mod Command
 pub mod DeskState
+pub mod Grammar
 pub mod Reading
 pub mod Runs
-pub mod Scan
 pub mod Serving
 pub mod Statuses
 pub mod Words

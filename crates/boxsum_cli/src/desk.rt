@@ -10,7 +10,7 @@ ghost use Rattle.bw_types.specs.Refusals.{first_refusal};
 ghost use Rattle.csv_rows.specs.Machine.{rows_of};
 
 use bw_types::{Params, Query, Row};
-use csv_rows::{Input, NoMemory, Reply, read_row};
+use csv_rows::{Input, NoMemory, Reply, RowReader};
 use session_book::{Sessions, StageRow};
 use std::alloc::Global;
 use std::marker::Model;
@@ -20,6 +20,7 @@ use warehouse::{ListFault, ListHouse};
 #[derive(Drop)]
 pub struct Desk {
     params: Params,
+    rows: RowReader,
     house: ListHouse,
     sessions: Sessions,
 }
@@ -50,12 +51,14 @@ impl Desk {
     {
         Desk {
             params: *params,
+            rows: RowReader::new(alloc),
             house: ListHouse::new(alloc, params),
             sessions: Sessions::new(alloc),
         }
     }
 
-    /// Takes the line with this number, and answers what it is replied.
+    /// Takes the line with this number, and answers what it is replied. What stands in `ahead` changes
+    /// nothing: where the next lines stand there, their rows are read sooner.
     ///
     /// # Errors
     /// [`NoMemory`]: the line may have had its effect or none.
@@ -64,12 +67,13 @@ impl Desk {
         alloc: Global,
         number: u64,
         line: &[u8],
+        ahead: &[u8],
     ) -> Result<Option<Reply>, NoMemory>
         ensures params { self.new.params ≡ self.old.params }
         ensures step { IfOk result (λ reply.
             record { state = self.new.state; reply = reply } ≡ step self.old.params number self.old.state line.now) }
     {
-        match read_row(alloc, line, &self.params)? {
+        match self.rows.read_row(alloc, line, ahead, &self.params)? {
             None => Ok(Some(Reply::Bad { line: number })),
             Some(input) => self.take_input(number, &input),
         }

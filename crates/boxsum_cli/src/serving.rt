@@ -114,7 +114,7 @@ fn serve_line<S: Source, K: Sink>(
     ensures no_usage { result ≢ Some Status.Usage }
 {
     match reader.next_line(source) {
-        Line::Text => serve_text(alloc, desk, number, reader.text(), sink),
+        Line::Text => serve_text(alloc, desk, number, reader.text(), reader.ahead(), sink),
         Line::Long => put_reply(alloc, Some(Reply::Bad { line: number }), sink),
         Line::End => Some(Status::Fine),
         Line::Fault => Some(Status::ReadFault),
@@ -130,6 +130,7 @@ fn serve_text<K: Sink>(
     desk: &mut Desk,
     number: u64,
     line: &[u8],
+    ahead: &[u8],
     sink: &mut K,
 ) -> Option<Status>
     ensures params { desk.new.params ≡ desk.old.params }
@@ -145,7 +146,7 @@ fn serve_text<K: Sink>(
         (replied (step desk.old.params number desk.old.state line.now).reply) }
     ensures no_memory { result ≡ Some Status.NoMemory → sink.new ≡ sink.old }
 {
-    match desk.take_line(alloc, number, line) {
+    match desk.take_line(alloc, number, line, ahead) {
         Ok(reply) => put_reply(alloc, reply, sink),
         Err(_) => Some(Status::NoMemory),
     }

@@ -1,8 +1,6 @@
 // The words of the command line read as a command.
 
-mod arguments;
 mod commands;
-mod gathering;
 mod reading;
 mod values;
 
@@ -12,7 +10,6 @@ ghost use Rattle.boxsum_cli.specs.Command.{command_of};
 ghost use Rattle.boxsum_cli.specs.Words.{CommandFits, ExplainsWords};
 
 use crate::command::Command;
-use crate::words::arguments::scan_words;
 use crate::words::commands::command_named;
 use std::alloc::{AllocError, Global};
 
@@ -44,8 +41,7 @@ pub fn read_words(alloc: Global, words: &[String]) -> Result<Command, WordsFault
     let [name, rest @ ..] = words else {
         return Err(WordsFault::Usage);
     };
-    let scan = scan_words(alloc, rest)?;
-    match command_named(alloc, name.as_str(), &scan)? {
+    match command_named(alloc, name.as_str(), rest)? {
         None => Err(WordsFault::Usage),
         Some(command) => Ok(command),
     }

@@ -1,4 +1,4 @@
--- How `csv` reads a line whose parts have contents.
+-- How `csv` reads a line whose parts have contents, and a line feed behind it.
 use Rattle.std.proofs.Common.{◌≡◌, ℕ, ◌⊎◌, Bool, true, false, cond, eqb, inl, inr, List, [], ◌∷◌, ◌++◌, Option, Some, None, refl, sym, ap, ◌∙◌, eqb-true, ap₂, append-nil, append_assoc, ◌||◌}
 use Rattle.std.proofs.lemmas.Bool.{cases_Bool, or_parts}
 use Rattle.std.specs.List.{onto_first}
@@ -25,17 +25,17 @@ goes-on : (s t : State) (a : Action) (fields : List (List ℕ)) (field : List �
 unfolding next_record
 goes-on s t a fields field b bs e n = rw (e, n) refl
 
--- the end of the line
-at-end : (s : State) (fields : List (List ℕ)) (field content : List ℕ) → Adds s [] content → next_record default_config s fields field [] ≡ Some (fields ++ (field ++ content) ∷ [], st.StartRecord, [])
+-- the line feed behind the line
+at-end : (after : List ℕ) (s : State) (fields : List (List ℕ)) (field content : List ℕ) → Adds s [] content → next_record default_config s fields field (10 ∷ after) ≡ Some (fields ++ (field ++ content) ∷ [], st.StartRecord, after)
 unfolding next_record
-at-end st.StartField fields field content h =
+at-end after st.StartField fields field content h =
     let none : content ≡ [] = cc in
     rw (none, append-nil field) refl
-at-end st.InField fields field content h = rw (h.1, append-nil field) refl
-at-end st.AfterQuote fields field content h = rw (h.1, append-nil field) refl
-at-end st.InQuoted fields field [] h = cc
-at-end st.InQuoted fields field (c ∷ content) h = cc
-at-end _ fields field content h = elim h [ ]
+at-end after st.InField fields field content h = rw (h.1, append-nil field) refl
+at-end after st.AfterQuote fields field content h = rw (h.1, append-nil field) refl
+at-end after st.InQuoted fields field [] h = cc
+at-end after st.InQuoted fields field (c ∷ content) h = cc
+at-end after _ fields field content h = elim h [ ]
 
 -- the steps at a byte that is no comma and no line end
 plain-step : (s : State) (b : ℕ) → (s ≡ st.StartField) ⊎ (s ≡ st.InField) → eqb b 44 ≡ false → eqb b 34 ≡ false → eqb b 10 ≡ false → eqb b 13 ≡ false → step default_config s b ≡ (st.InField, act.Copy)
@@ -75,8 +75,8 @@ a-part (b ∷ bs) =
     ]
 
 -- what the line's rest reads as
-abbrev Reads : State → List (List ℕ) → List ℕ → List ℕ → List (List ℕ) → Type 0
-Reads s fields field line read = next_record default_config s fields field line ≡ Some (read, st.StartRecord, [])
+abbrev Reads : List ℕ → State → List (List ℕ) → List ℕ → List ℕ → List (List ℕ) → Type 0
+Reads after s fields field line read = next_record default_config s fields field (line ++ 10 ∷ after) ≡ Some (read, st.StartRecord, after)
 
 -- a state, and the field at hand, go on through a byte that is no comma
 through : (s : State) (b : ℕ) (rest content : List ℕ) → Adds s (b ∷ rest) content → eqb b 44 ≡ false → eqb b 10 ≡ false → eqb b 13 ≡ false
@@ -128,32 +128,32 @@ through st.AfterQuote b rest content h comma feed return = cc
 through _ b rest content h comma feed return = elim h [ ]
 
 -- a comma, and then what the rest reads as
-reads-comma : (s : State) (fields : List (List ℕ)) (field bs content c : List ℕ) (contents cs : List (List ℕ)) → Adds s [] content → contents ≡ c ∷ cs
-    → Reads st.StartField (fields ++ field ∷ []) [] bs ((fields ++ field ∷ []) ++ c ∷ cs)
-    → Reads s fields field (44 ∷ bs) (fields ++ (field ++ content) ∷ contents)
-reads-comma s fields field bs content c contents cs ended both rest =
+reads-comma : (after : List ℕ) (s : State) (fields : List (List ℕ)) (field bs content c : List ℕ) (contents cs : List (List ℕ)) → Adds s [] content → contents ≡ c ∷ cs
+    → Reads after st.StartField (fields ++ field ∷ []) [] bs ((fields ++ field ∷ []) ++ c ∷ cs)
+    → Reads after s fields field (44 ∷ bs) (fields ++ (field ++ content) ∷ contents)
+reads-comma after s fields field bs content c contents cs ended both rest =
     let own : field ≡ field ++ content = rw (adds-none s content ended) (sym (append-nil field)) in
     let same : (fields ++ field ∷ []) ++ c ∷ cs ≡ fields ++ (field ++ content) ∷ contents = append_assoc fields (field ∷ []) (c ∷ cs) ∙ ap₂ (λ content contents. fields ++ content ∷ contents) own (sym both) in
-    goes-on s st.StartField act.EndField fields field 44 bs (comma-step s content ended) refl ∙ rest ∙ ap (λ read. Some (read, st.StartRecord, [])) same
+    goes-on s st.StartField act.EndField fields field 44 (bs ++ 10 ∷ after) (comma-step s content ended) refl ∙ rest ∙ ap (λ read. Some (read, st.StartRecord, after)) same
 
 -- a byte that is no comma, and then what the rest reads as
-reads-on : (s t : State) (a : Action) (fields : List (List ℕ)) (field : List ℕ) (b : ℕ) (bs more content : List ℕ) (contents : List (List ℕ)) → step default_config s b ≡ (t, a) → is_end a ≡ false
+reads-on : (after : List ℕ) (s t : State) (a : Action) (fields : List (List ℕ)) (field : List ℕ) (b : ℕ) (bs more content : List ℕ) (contents : List (List ℕ)) → step default_config s b ≡ (t, a) → is_end a ≡ false
     → fields_after a fields field ≡ fields → field_after a b field ++ more ≡ field ++ content
-    → Reads t (fields_after a fields field) (field_after a b field) bs (fields_after a fields field ++ (field_after a b field ++ more) ∷ contents)
-    → Reads s fields field (b ∷ bs) (fields ++ (field ++ content) ∷ contents)
-reads-on s t a fields field b bs more content contents stepped runs kept joined rest =
-    goes-on s t a fields field b bs stepped runs ∙ rest ∙ ap₂ (λ front own. Some (front ++ own ∷ contents, st.StartRecord, [])) kept joined
+    → Reads after t (fields_after a fields field) (field_after a b field) bs (fields_after a fields field ++ (field_after a b field ++ more) ∷ contents)
+    → Reads after s fields field (b ∷ bs) (fields ++ (field ++ content) ∷ contents)
+reads-on after s t a fields field b bs more content contents stepped runs kept joined rest =
+    goes-on s t a fields field b (bs ++ 10 ∷ after) stepped runs ∙ rest ∙ ap₂ (λ front own. Some (front ++ own ∷ contents, st.StartRecord, after)) kept joined
 
 -- the rest of a line, from a state whose part and whose other parts have these contents
-pub reads-rest : (line : List ℕ) (s : State) (fields : List (List ℕ)) (field part content : List ℕ) (parts contents : List (List ℕ)) → holds_line_end line ≡ false → parts_of line ≡ part ∷ parts → Adds s part content → contents_of parts ≡ Some contents
-    → Reads s fields field line (fields ++ (field ++ content) ∷ contents)
-reads-rest [] s fields field part content parts contents whole cut h others =
+pub reads-rest : (after line : List ℕ) (s : State) (fields : List (List ℕ)) (field part content : List ℕ) (parts contents : List (List ℕ)) → holds_line_end line ≡ false → parts_of line ≡ part ∷ parts → Adds s part content → contents_of parts ≡ Some contents
+    → Reads after s fields field line (fields ++ (field ++ content) ∷ contents)
+reads-rest after [] s fields field part content parts contents whole cut h others =
     let none : part ≡ [] = cc in
     let last : parts ≡ [] = cc in
     let no_others = rw last at others in
     let empty : contents ≡ [] = cc in
-    rw empty (at-end s fields field content (rw none at h))
-reads-rest (b ∷ bs) s fields field part content parts contents whole cut h others =
+    rw empty (at-end after s fields field content (rw none at h))
+reads-rest after (b ∷ bs) s fields field part content parts contents whole cut h others =
     let (ends, whole_rest) = or_parts (eqb b 10 || eqb b 13) (holds_line_end bs) whole in
     let (feed, return) = or_parts (eqb b 10) (eqb b 13) ends in
     let (p, ps, e) = a-part bs in
@@ -165,27 +165,27 @@ reads-rest (b ∷ bs) s fields field part content parts contents whole cut h oth
           let left : parts ≡ p ∷ ps = cc in
           let (c, cs, one, more, both) = first-content p ps contents (rw left at others) in
           let ended = rw none at h in
-          rw is (reads-comma s fields field bs content c contents cs ended both (reads-rest bs st.StartField (fields ++ field ∷ []) [] p c ps cs whole_rest e one more))
+          rw is (reads-comma after s fields field bs content c contents cs ended both (reads-rest after bs st.StartField (fields ++ field ∷ []) [] p c ps cs whole_rest e one more))
       | inr comma ↦
           let inside = rw (comma, e) at cut in
           let first : part ≡ b ∷ p = cc in
           let left : parts ≡ ps = cc in
           let (t, a, more, stepped, runs, adds, same) = through s b p content (rw first at h) comma feed return in
           let (kept, joined) = same fields field in
-          reads-on s t a fields field b bs more content contents stepped runs kept joined
-          (reads-rest bs t (fields_after a fields field) (field_after a b field) p more ps contents whole_rest e adds (rw left at others))
+          reads-on after s t a fields field b bs more content contents stepped runs kept joined
+          (reads-rest after bs t (fields_after a fields field) (field_after a b field) p more ps contents whole_rest e adds (rw left at others))
     ]
 
--- a comma and a line, read from the start of a text
-pub reads-line : (line : List ℕ) (contents : List (List ℕ)) → holds_line_end line ≡ false → contents_of (parts_of line) ≡ Some contents
-    → Reads st.StartRecord [] [] (44 ∷ line) ([] ∷ contents)
-reads-line line contents whole h =
+-- a comma, a line and a line feed, read from the start of a record
+pub reads-line : (after line : List ℕ) (contents : List (List ℕ)) → holds_line_end line ≡ false → contents_of (parts_of line) ≡ Some contents
+    → Reads after st.StartRecord [] [] (44 ∷ line) ([] ∷ contents)
+reads-line after line contents whole h =
     let (part, parts, e) = a-part line in
     let (content, others, one, more, both) = first-content part parts contents (rw e at h) in
-    goes-on-start ∙ reads-rest line st.StartField ([] ∷ []) [] part content parts others whole e one more ∙ ap (λ read. Some ([] ∷ read, st.StartRecord, [])) (sym both)
+    goes-on-start ∙ reads-rest after line st.StartField ([] ∷ []) [] part content parts others whole e one more ∙ ap (λ read. Some ([] ∷ read, st.StartRecord, after)) (sym both)
   where
-    goes-on-start : next_record default_config st.StartRecord [] [] (44 ∷ line) ≡ next_record default_config st.StartField ([] ∷ []) [] line
-    goes-on-start = goes-on st.StartRecord st.StartField act.EndField [] [] 44 line refl refl
+    goes-on-start : next_record default_config st.StartRecord [] [] (44 ∷ line ++ 10 ∷ after) ≡ next_record default_config st.StartField ([] ∷ []) [] (line ++ 10 ∷ after)
+    goes-on-start = goes-on st.StartRecord st.StartField act.EndField [] [] 44 (line ++ 10 ∷ after) refl refl
 
 -- a text that begins with a comma has no byte order mark
 pub no-mark : (line : List ℕ) → strip_bom (44 ∷ line) ≡ 44 ∷ line

@@ -2,6 +2,7 @@ pub mod Contents
 mod PlainLines
 mod QuotedParts
 mod CsvReads
+mod FeedLemmas
 mod GivenValues
 pub mod BufferLemmas
 pub mod CalmLemmas

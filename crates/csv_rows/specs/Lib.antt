@@ -1,4 +1,5 @@
 pub mod Fields
+pub mod Feed
 pub mod Numbers
 pub mod Words
 pub mod Replies

@@ -1,15 +1,11 @@
 // A line cut into its fields.
 
 ghost use Rattle.std.specs.Prelude.{◌≡◌, ◌∷◌, [], IfOk, Some, List, ℕ, is_some, length, option_map, slice_get};
-ghost use Rattle.csv.specs.Machine.{next_record};
-ghost use Rattle.csv.specs.Reading.{default_config, strip_bom};
-ghost use Rattle.csv.specs.Records.{fields_of};
-ghost use Rattle.csv.specs.declared.parser.State.TheVariants as st;
 ghost use Rattle.csv_rows.specs.Fields.{content_of, contents_of, field_at, holds_line_end, line_fields, parts_of};
 
-use csv::{ByteRecord, ReaderBuilder};
+use crate::row_reader::RowReader;
+use csv::ByteRecord;
 use std::alloc::{AllocError, Global};
-use std::io::Read;
 use std::marker::Model;
 
 /// Memory ran out.
@@ -90,66 +86,34 @@ fn has_line_end(line: &[u8]) -> bool
 fn has_only_fields(line: &[u8]) -> bool
     ensures { result ≡ is_some (contents_of (parts_of line.now)) }
 {
+    // Most lines hold no double quote.
+    if !line.contains(&b'"') {
+        return true;
+    }
     line.split(|byte| *byte == b',').all(is_field)
 }
 
-// The parts of a line after an empty field.
-fn plain_record(alloc: Global, line: &[u8]) -> Result<ByteRecord, NoMemory>
-    ensures { IfOk result (λ row. fields_of row ≡ [] ∷ parts_of line.now) }
+/// Whether a line has fields.
+pub fn has_fields(line: &[u8]) -> bool
+    ensures { result ≡ is_some (line_fields line.now) }
 {
-    let mut record = ByteRecord::with_capacity(alloc, line.len(), 16)?;
-    record.push_field(&[])?;
-    for part in line.split(|byte| *byte == b',') {
-        record.push_field(part)?;
-    }
-    Ok(record)
-}
-
-// What `csv` reads first of a comma and then the line. The comma keeps it from taking a byte order
-// mark off the line, and makes an empty line a record.
-fn first_record(alloc: Global, line: &[u8]) -> Result<Option<ByteRecord>, csv::Error>
-    ensures { IfOk result (λ found. option_map fields_of found
-        ≡ option_map (λ read. read.0) (next_record default_config st.StartRecord [] [] (strip_bom (44 ∷ line.now)))) }
-{
-    let mut reader = ReaderBuilder::new()
-        .has_headers(false)
-        .from_reader(alloc, b",".as_slice().chain(line));
-    let mut record = ByteRecord::new(alloc);
-    if reader.read_byte_record(&mut record)? {
-        Ok(Some(record))
-    } else {
-        Ok(None)
-    }
-}
-
-// An empty field and then the fields of a line that has fields, as `csv` reads them. It fails for
-// want of memory alone: a slice is read without errors, and no other record is there to differ in
-// length.
-fn quoted_record(alloc: Global, line: &[u8]) -> Result<ByteRecord, NoMemory>
-    ensures { IfOk result (λ row. (contents : List (List ℕ)) → line_fields line.now ≡ Some contents → fields_of row ≡ [] ∷ contents) }
-{
-    match first_record(alloc, line) {
-        Ok(Some(record)) => Ok(record),
-        _ => Err(NoMemory),
-    }
+    !has_line_end(line) && has_only_fields(line)
 }
 
 /// Cuts a line into its fields. None exactly where it has none: where it holds a line feed or a
 /// carriage return, or where a part of it holds a double quote and is not in double quotes as a
 /// whole.
-pub fn cut(alloc: Global, line: &[u8]) -> Result<Option<Fields>, NoMemory>
+pub fn cut(
+    rows: &mut RowReader,
+    alloc: Global,
+    line: &[u8],
+    ahead: &[u8],
+) -> Result<Option<Fields>, NoMemory>
     ensures { IfOk result (λ fields. fields ≡ line_fields line.now) }
 {
-    if has_line_end(line) {
+    if !has_fields(line) {
         return Ok(None);
     }
-    if !line.contains(&b'"') {
-        let record = plain_record(alloc, line)?;
-        return Ok(Some(Fields { record }));
-    }
-    if !has_only_fields(line) {
-        return Ok(None);
-    }
-    let record = quoted_record(alloc, line)?;
+    let record = rows.record_of(alloc, line, ahead)?;
     Ok(Some(Fields { record }))
 }

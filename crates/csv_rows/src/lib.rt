@@ -16,6 +16,7 @@ mod lines;
 mod numbers;
 mod parts;
 mod reply;
+mod row_reader;
 mod rows;
 pub mod worked;
 pub mod worked_lines;
@@ -28,4 +29,4 @@ pub use crate::line_laws::{
 pub use crate::lines::{LONGEST_LINE, Line, LineReader};
 pub use crate::numbers::number;
 pub use crate::reply::Reply;
-pub use crate::rows::read_row;
+pub use crate::row_reader::RowReader;

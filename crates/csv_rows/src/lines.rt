@@ -83,6 +83,13 @@ impl LineReader {
         &self.intake.held()[..self.text_len]
     }
 
+    /// The bytes that were taken and belong to no line that was given yet.
+    pub fn ahead(&self) -> &[u8]
+        ensures { result.now ≡ self.now.pending }
+    {
+        &self.intake.held()[self.used..]
+    }
+
     /// How many bytes were taken in all.
     pub fn taken(&self) -> u64
         ensures { result ≡ self.now.taken }

@@ -10,6 +10,7 @@ use crate::fields::{Fields, NoMemory, cut};
 use crate::input::Input;
 use crate::lines::LONGEST_LINE;
 use crate::parts::{coefficients_at, ends_at, id, session, version, weight};
+use crate::row_reader::RowReader;
 use bw_types::{Kind, Object, Params, Query, Row, coefficient_count, object_fits, query_fits};
 use std::alloc::Global;
 
@@ -144,25 +145,36 @@ fn row_of(params: &Params, fields: &Fields) -> Option<Input>
     }
 }
 
-/// Reads a line as a row of input: what the line spells in a warehouse with these params.
-///
-/// None exactly where the line is bad: where it is longer than 4096 bytes, holds a carriage return
-/// or a line feed, has a field that is not quoted as a whole, has another number of fields than its
-/// word asks for, an unknown word, a field of another form or out of its range, a low end above its
-/// high one, or asks for an integral in a warehouse without a degree.
-pub fn read_row(alloc: Global, line: &[u8], params: &Params) -> Result<Option<Input>, NoMemory>
-    requires { IsInRange params.now }
-    ensures read { IfOk result (λ read. read ≡ input params.now line.now) }
-    // A line that is too long takes no memory.
-    ensures long { LONGEST_LINE < length line.now → result ≡ Ok None }
-    ensures fits { IfOk result (λ read. IfSome read (InputFits params.now)) }
-{
-    if line.len() > LONGEST_LINE {
-        return Ok(None);
-    }
-    match cut(alloc, line)? {
-        None => Ok(None),
-        Some(fields) => Ok(row_of(params, &fields)),
+impl RowReader {
+    /// Reads a line as a row of input: what the line spells in a warehouse with these params.
+    ///
+    /// None exactly where the line is bad: where it is longer than 4096 bytes, holds a carriage return
+    /// or a line feed, has a field that is not quoted as a whole, has another number of fields than its
+    /// word asks for, an unknown word, a field of another form or out of its range, a low end above its
+    /// high one, or asks for an integral in a warehouse without a degree.
+    ///
+    /// What stands in `ahead` changes no answer. Where it begins with the lines that are read next, they
+    /// are read by the same reader of `csv`.
+    pub fn read_row(
+        &mut self,
+        alloc: Global,
+        line: &[u8],
+        ahead: &[u8],
+        params: &Params,
+    ) -> Result<Option<Input>, NoMemory>
+        requires { IsInRange params.now }
+        ensures read { IfOk result (λ read. read ≡ input params.now line.now) }
+        // A line that is too long takes no memory.
+        ensures long { LONGEST_LINE < length line.now → result ≡ Ok None }
+        ensures fits { IfOk result (λ read. IfSome read (InputFits params.now)) }
+    {
+        if line.len() > LONGEST_LINE {
+            return Ok(None);
+        }
+        match cut(self, alloc, line, ahead)? {
+            None => Ok(None),
+            Some(fields) => Ok(row_of(params, &fields)),
+        }
     }
 }
 

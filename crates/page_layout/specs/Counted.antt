@@ -1,7 +1,9 @@
 -- Pages of a kind with a level, a count, a word, a double word and as many entries.
-use Rattle.std.specs.Prelude.{◌≡◌, ℕ, ◌-◌, ◌^◌, ◌<◌, ◌≤◌, min, List, ◌∷◌, ◌++◌, length, drop}
+use Rattle.std.specs.Prelude.{◌≡◌, ◌≢◌, ◌==◌, false, ℕ, ◌-◌, ◌^◌, ◌<◌, ◌≤◌, min, List, ◌∷◌, ◌++◌, length, drop}
 use Rattle.std.specs.List.{flat_map, All}
-use Rattle.std.proofs.Common.{ap, ◌∙◌, append_assoc, arith}
+use Rattle.std.proofs.Common.{sym, ap, ◌∙◌, append_assoc, arith}
+use Rattle.std.proofs.lemmas.Bool.{false≢true}
+use Rattle.page_ports.specs.declared.page.TheConstants.{FREE_PAGE}
 use Rattle.page_layout.specs.Numbers.{spelled, number_in, zeros, padded, number_in-spelled, past-spelled, past_more}
 use Rattle.page_layout.specs.Entries.{entries_at, entries_at-spelled}
 
@@ -85,3 +87,7 @@ entries-counted spelling f size typed sized back kind level word double most xs 
     ∙ ap (λ (n : ℕ). entries_at f size n (body_of (counted_page spelling kind level word double xs))) least
     ∙ ap (λ (b : List ℕ). entries_at f size (length xs) b) body
     ∙ entries_at-spelled spelling f size typed sized back xs pad all
+
+-- A page of another kind does not begin as a free page does.
+pub not_free : (kind : ℕ) → (kind == FREE_PAGE) ≡ false → kind ≢ FREE_PAGE
+not_free kind differs = λ e. false≢true (sym differs ∙ ap (λ (k : ℕ). k == FREE_PAGE) e)

@@ -1,5 +1,5 @@
 -- The page of cuts that a page of one spells.
-use Rattle.std.proofs.Common.{◌≡◌, ℕ, ◌+◌, ◌-◌, ◌*◌, ◌≤◌, ◌++◌, min, List, length, drop, sym, ap, ◌∙◌, append_assoc, arith}
+use Rattle.std.proofs.Common.{◌≡◌, ℕ, ◌+◌, ◌-◌, ◌*◌, ◌≤◌, ◌++◌, min, List, length, drop, ap, ◌∙◌, append_assoc, arith}
 use Rattle.std.specs.Prelude.{IsTrue}
 use Rattle.std.specs.List.{flat_map, All}
 use Rattle.std.proofs.lemmas.List.{drop_at}
@@ -46,6 +46,3 @@ cut_page_in-page page typed is_page =
     ∙ ap (λ (b : List ℕ). entries_at ba_entry_at 120 n b) past
     ∙ entries_at-spelled ba_entry_bytes ba_entry_at 120 IsReadBack (λ x is. length-ba_entry x is.0) (λ x rest is. ba_entry-back x rest is.0 is.1) page.entries.items pad read_back in
     λ i. record { level = page.level; cuts = record { items = cuts i }; entries = record { items = entries i } }
-
-pub one_spelling : (value other : CutPage) → IsTyped value → IsCutPage value → IsTyped other → IsCutPage other → cut_page_page value ≡ cut_page_page other → value ≡ other
-one_spelling value other t h t2 h2 e = sym (cut_page_in-page value t h) ∙ ap cut_page_in e ∙ cut_page_in-page other t2 h2

@@ -12,6 +12,3 @@ free_page_in-page free typed is_free =
     let next : double_of (free_page_page free) ≡ free.next =
     ap (λ (f : List ℕ). double_of (f ++ pad)) (sym (append-nil start)) ∙ double-counted 9 0 0 0 free.next [] pad typed in
     λ i. record { next = next i }
-
-pub one_spelling : (value other : FreePage) → IsTyped value → IsFreePage value → IsTyped other → IsFreePage other → free_page_page value ≡ free_page_page other → value ≡ other
-one_spelling value other t h t2 h2 e = sym (free_page_in-page value t h) ∙ ap free_page_in e ∙ free_page_in-page other t2 h2

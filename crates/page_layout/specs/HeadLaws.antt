@@ -1,5 +1,5 @@
 -- The head that a page of a head spells.
-use Rattle.std.proofs.Common.{◌≡◌, ℕ, ◌<◌, ◌≤◌, ◌^◌, Bool, true, false, List, length, refl, sym, ap, ◌∙◌, arith}
+use Rattle.std.proofs.Common.{◌≡◌, ℕ, ◌<◌, ◌≤◌, ◌^◌, Bool, true, false, List, length, refl, arith}
 use Rattle.std.specs.Prelude.{◌==◌, if◌then◌else◌}
 use Rattle.page_layout.specs.declared.journal_head.JournalHead.{JournalHead}
 use Rattle.page_layout.specs.Numbers.{spelled, number_in, length-spelled, number_in-spelled}
@@ -16,6 +16,3 @@ head_in-page head typed is_head =
     let homes : entries_of (number_in 8) 8 500 (head_page head) ≡ head.homes.items =
     entries-counted (spelled 8) (number_in 8) 8 (λ (x : ℕ). x < 2 ^ 64) (λ (x : ℕ) h. length-spelled 8 x) (λ (x : ℕ) (rest : List ℕ) h. number_in-spelled 8 x rest h) 8 (if head.more then 1 else 0) 0 0 500 head.homes.items few (omega arith) typed in
     λ i. record { more = more-is head.more i; homes = record { items = homes i } }
-
-pub one_spelling : (head other : JournalHead) → IsTyped head → IsHead head → IsTyped other → IsHead other → head_page head ≡ head_page other → head ≡ other
-one_spelling head other t h t2 h2 e = sym (head_in-page head t h) ∙ ap head_in e ∙ head_in-page other t2 h2

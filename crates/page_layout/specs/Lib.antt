@@ -8,9 +8,11 @@ pub mod FreePage
 pub mod SbNode
 pub mod MvNode
 pub mod Super
+pub mod Spelled
 pub mod Damage
 pub mod Footprint
 pub mod PointLeaf
+pub mod TreePage
 pub mod TreeValue
 pub mod Meta
 pub mod CutNode

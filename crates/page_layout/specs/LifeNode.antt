@@ -79,3 +79,8 @@ life_index_in page = Index (slice_index page 1) (record { items = entries_of lif
 -- the node that a page may spell: a leaf at level 1, and else an index node
 abbrev pub life_node_in : List ℕ → LifeNode
 life_node_in page = if slice_index page 1 == 1 then life_leaf_in page else life_index_in page
+
+-- the level; a leaf has level 1
+abbrev pub life_level : LifeNode → ℕ
+life_level (Leaf objects) = 1
+life_level (Index level entries) = level

@@ -1,10 +1,11 @@
 -- The node that a page of a node spells.
-use Rattle.std.proofs.Common.{◌≡◌, ℕ, ◌≤◌, List, Bool, false, length, sym, ap, ◌∙◌, arith}
-use Rattle.std.specs.Prelude.{◌==◌, if◌then◌else◌}
+use Rattle.std.proofs.Common.{◌≡◌, ℕ, ◌≤◌, List, Bool, false, length, ap, ◌∙◌, arith}
+use Rattle.page_ports.specs.declared.page.TheConstants.{FREE_PAGE}
+use Rattle.std.specs.Prelude.{refl, slice_index, ◌≢◌, ◌==◌, if◌then◌else◌}
 use Rattle.std.proofs.lemmas.Bool.{ne_eqb}
 use Rattle.page_layout.specs.declared.life_node.LifeNode.{LifeNode}
 use Rattle.page_layout.specs.declared.life_node.LifeNode.TheVariants.{Leaf, Index}
-use Rattle.page_layout.specs.Counted.{entries_of, entries-counted}
+use Rattle.page_layout.specs.Counted.{not_free, entries_of, entries-counted}
 use Rattle.page_layout.specs.Dated.{IsDatedTyped, by_life_bytes, by_life_at, length-by_life, by_life-back}
 use Rattle.page_layout.specs.LifeNode.{IsLifeNode, IsTyped, IsLifeEntryTyped, life_entry_bytes, life_entry_at, length-life_entry, life_entry-back, life_node_page, life_leaf_in, life_index_in, life_node_in}
 
@@ -23,5 +24,6 @@ life_node_in-page (Index level entries) typed is_node =
     entries-counted life_entry_bytes life_entry_at 20 IsLifeEntryTyped (λ e _. length-life_entry e) life_entry-back 10 level 0 0 200 entries.items few (omega arith) typed in
     ap (λ (leaf : Bool). if leaf then life_leaf_in page else life_index_in page) no_leaf ∙ (λ i. Index level (record { items = items i }))
 
-pub one_spelling : (value other : LifeNode) → IsTyped value → IsLifeNode value → IsTyped other → IsLifeNode other → life_node_page value ≡ life_node_page other → value ≡ other
-one_spelling value other t h t2 h2 e = sym (life_node_in-page value t h) ∙ ap life_node_in e ∙ life_node_in-page other t2 h2
+pub life_node_in_use : (node : LifeNode) → slice_index (life_node_page node) 0 ≢ FREE_PAGE
+life_node_in_use (Leaf objects) = not_free _ refl
+life_node_in_use (Index level entries) = not_free _ refl

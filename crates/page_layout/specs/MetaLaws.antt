@@ -1,5 +1,5 @@
 -- The meta page that a page of one spells.
-use Rattle.std.proofs.Common.{◌≡◌, ℕ, ◌<◌, ◌≤◌, ◌^◌, ◌∷◌, ◌++◌, min, List, length, drop, sym, ap, ◌∙◌, append_assoc, arith}
+use Rattle.std.proofs.Common.{◌≡◌, ℕ, ◌<◌, ◌≤◌, ◌^◌, ◌∷◌, ◌++◌, min, List, length, drop, ap, ◌∙◌, append_assoc, arith}
 use Rattle.std.specs.List.{flat_map}
 use Rattle.page_layout.specs.declared.meta.Meta.{Meta}
 use Rattle.page_layout.specs.Numbers.{spelled, number_in, next_number, next_part, number_at}
@@ -53,6 +53,3 @@ fields meta typed is_meta pad =
 
 pub meta_in-page : (meta : Meta) → IsTyped meta → IsMeta meta → meta_in (meta_page meta) ≡ meta
 meta_in-page meta typed is_meta = fields meta typed is_meta _
-
-pub one_spelling : (value other : Meta) → IsTyped value → IsMeta value → IsTyped other → IsMeta other → meta_page value ≡ meta_page other → value ≡ other
-one_spelling value other t h t2 h2 e = sym (meta_in-page value t h) ∙ ap meta_in e ∙ meta_in-page other t2 h2

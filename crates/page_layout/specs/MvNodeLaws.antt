@@ -1,5 +1,5 @@
 -- The node that a page of a node spells.
-use Rattle.std.proofs.Common.{◌≡◌, ℕ, ◌-◌, ◌≤◌, ◌++◌, List, length, sym, ap, ◌∙◌, arith}
+use Rattle.std.proofs.Common.{◌≡◌, ℕ, ◌-◌, ◌≤◌, ◌++◌, List, length, arith}
 use Rattle.std.specs.List.{flat_map}
 use Rattle.page_layout.specs.declared.mv_node.MvNode.{MvNode}
 use Rattle.page_layout.specs.Numbers.{zeros}
@@ -16,6 +16,3 @@ mv_node_in-page node typed is_node =
     let entries : entries_of mv_entry_at 40 96 (mv_node_page node) ≡ node.entries.items =
     entries-counted mv_entry_bytes mv_entry_at 40 IsMvEntryTyped (λ x _. length-mv_entry x) mv_entry-back 3 node.level node.place node.before 96 node.entries.items few (omega arith) typed.entries in
     λ i. record { level = node.level; place = place i; before = before i; entries = record { items = entries i } }
-
-pub one_spelling : (value other : MvNode) → IsTyped value → IsMvNode value → IsTyped other → IsMvNode other → mv_node_page value ≡ mv_node_page other → value ≡ other
-one_spelling value other t h t2 h2 e = sym (mv_node_in-page value t h) ∙ ap mv_node_in e ∙ mv_node_in-page other t2 h2

@@ -1,5 +1,5 @@
 -- The points that a page of points spells.
-use Rattle.std.proofs.Common.{◌≡◌, ℕ, ◌-◌, ◌≤◌, ◌++◌, List, length, sym, ap, ◌∙◌, arith}
+use Rattle.std.proofs.Common.{◌≡◌, ℕ, ◌-◌, ◌≤◌, ◌++◌, List, length, arith}
 use Rattle.std.specs.List.{flat_map}
 use Rattle.page_layout.specs.declared.point_leaf.PointLeaf.{PointLeaf}
 use Rattle.page_layout.specs.Numbers.{zeros}
@@ -15,6 +15,3 @@ point_leaf_in-page leaf typed is_leaf =
     let points : entries_of point_at 44 64 (point_leaf_page leaf) ≡ leaf.points.items =
     entries-counted point_bytes point_at 44 IsPointTyped (λ x _. length-point x) point-back 5 1 0 leaf.next 64 leaf.points.items few (omega arith) typed.points in
     λ i. record { next = next i; points = record { items = points i } }
-
-pub one_spelling : (value other : PointLeaf) → IsTyped value → IsPointLeaf value → IsTyped other → IsPointLeaf other → point_leaf_page value ≡ point_leaf_page other → value ≡ other
-one_spelling value other t h t2 h2 e = sym (point_leaf_in-page value t h) ∙ ap point_leaf_in e ∙ point_leaf_in-page other t2 h2

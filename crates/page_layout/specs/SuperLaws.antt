@@ -1,5 +1,5 @@
 -- The superblock that a page of one spells.
-use Rattle.std.proofs.Common.{◌≡◌, ◌⊎◌, inl, inr, ℕ, zero, suc, ◌<◌, ◌≤◌, ◌^◌, List, ◌∷◌, ◌++◌, drop, slice_index, Option, Some, None, refl, sym, ap, ◌∙◌, append_assoc, arith}
+use Rattle.std.proofs.Common.{◌≡◌, ◌⊎◌, inl, inr, ℕ, zero, suc, ◌<◌, ◌≤◌, ◌^◌, List, ◌∷◌, ◌++◌, drop, slice_index, Option, Some, None, refl, ap, ◌∙◌, append_assoc, arith}
 use Rattle.std.specs.Prelude.{IfSome}
 use Rattle.bw_types.specs.declared.params.Params.{Params}
 use Rattle.bw_types.specs.Fits.{IsInRange}
@@ -43,6 +43,3 @@ fields params fits pad =
 
 pub super_in-page : (value : Super) → IsTyped value → IsSuper value → super_in (super_page value) ≡ value
 super_in-page value typed is_super = fields value.params is_super _
-
-pub one_spelling : (value other : Super) → IsTyped value → IsSuper value → IsTyped other → IsSuper other → super_page value ≡ super_page other → value ≡ other
-one_spelling value other t h t2 h2 e = sym (super_in-page value t h) ∙ ap super_in e ∙ super_in-page other t2 h2

@@ -76,3 +76,8 @@ table_index_in page = Index (slice_index page 1) (record { items = entries_of ta
 -- the node that a page may spell: a leaf at level 1, and else an index node
 abbrev pub table_node_in : List ℕ → TableNode
 table_node_in page = if slice_index page 1 == 1 then table_leaf_in page else table_index_in page
+
+-- the level; a leaf has level 1
+abbrev pub table_level : TableNode → ℕ
+table_level (Leaf objects) = 1
+table_level (Index level entries) = level

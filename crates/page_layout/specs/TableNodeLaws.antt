@@ -1,12 +1,13 @@
 -- The node that a page of a node spells.
-use Rattle.std.proofs.Common.{◌≡◌, ℕ, ◌≤◌, List, Bool, false, length, sym, ap, ◌∙◌, arith}
-use Rattle.std.specs.Prelude.{◌==◌, if◌then◌else◌, IsTrue}
+use Rattle.std.proofs.Common.{◌≡◌, ℕ, ◌≤◌, List, Bool, false, length, ap, ◌∙◌, arith}
+use Rattle.page_ports.specs.declared.page.TheConstants.{FREE_PAGE}
+use Rattle.std.specs.Prelude.{refl, slice_index, ◌≢◌, ◌==◌, if◌then◌else◌, IsTrue}
 use Rattle.std.specs.List.{All}
 use Rattle.std.proofs.lemmas.Bool.{ne_eqb}
 use Rattle.bw_types.specs.declared.dated.Dated.{Dated}
 use Rattle.page_layout.specs.declared.table_node.TableNode.{TableNode}
 use Rattle.page_layout.specs.declared.table_node.TableNode.TheVariants.{Leaf, Index}
-use Rattle.page_layout.specs.Counted.{entries_of, entries-counted}
+use Rattle.page_layout.specs.Counted.{not_free, entries_of, entries-counted}
 use Rattle.page_layout.specs.Dated.{IsDatedTyped, dated_bytes, by_id_at, by_id_fits, length-dated, by_id-back}
 use Rattle.page_layout.specs.TableNode.{IsTableNode, IsTyped, IsTableEntryTyped, table_entry_bytes, table_entry_at, length-table_entry, table_entry-back, table_node_page, table_leaf_in, table_index_in, table_node_in}
 
@@ -30,5 +31,6 @@ table_node_in-page (Index level entries) typed is_node =
     entries-counted table_entry_bytes table_entry_at 16 IsTableEntryTyped (λ e _. length-table_entry e) table_entry-back 6 level 0 0 200 entries.items few (omega arith) typed in
     ap (λ (leaf : Bool). if leaf then table_leaf_in page else table_index_in page) no_leaf ∙ (λ i. Index level (record { items = items i }))
 
-pub one_spelling : (value other : TableNode) → IsTyped value → IsTableNode value → IsTyped other → IsTableNode other → table_node_page value ≡ table_node_page other → value ≡ other
-one_spelling value other t h t2 h2 e = sym (table_node_in-page value t h) ∙ ap table_node_in e ∙ table_node_in-page other t2 h2
+pub table_node_in_use : (node : TableNode) → slice_index (table_node_page node) 0 ≢ FREE_PAGE
+table_node_in_use (Leaf objects) = not_free _ refl
+table_node_in_use (Index level entries) = not_free _ refl

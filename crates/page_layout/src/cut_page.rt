@@ -1,19 +1,21 @@
 //! Pages of cuts: the index pages of trees in two and three dimensions.
-ghost use Rattle.std.specs.Prelude.{◌≡◌, ◌≤◌, IfSome, Some, ◌↔◌, IsTrue};
+ghost use Rattle.std.specs.Prelude.{refl, ◌≡◌, ◌≤◌};
 ghost use Rattle.std.specs.List.{All};
 ghost use Rattle.page_layout.specs.CutNode.{IsCutNodeTyped};
 ghost use Rattle.page_layout.specs.BaEntry.{IsBaEntryTyped};
-ghost use Rattle.page_layout.specs.CutPage.{IsTyped, count_in, nodes_in, entries_in, cut_page_in};
+ghost use Rattle.page_layout.specs.Counted.{not_free};
+ghost use Rattle.page_layout.specs.CutPage.{IsCutPage, IsTyped, count_in, nodes_in, entries_in, cut_page_in, cut_page_page};
+ghost use Rattle.page_layout.specs.CutPageLaws.{cut_page_in-page};
 
 use crate::counted::{read_body, read_count, start};
 use crate::cut_node::{CutNode, spell_cuts};
 use crate::entry::{each_keeps, get_all, put_all};
 use crate::front::finish;
 use crate::number::skip;
-use crate::same::are_same;
+use crate::spelled::{Spelled, TreePage};
 use arrayvec::ArrayVec;
 use bw_types::BaEntry;
-use page_ports::{Page, blank_page};
+use page_ports::Page;
 
 const KIND: u8 = 4;
 
@@ -54,64 +56,48 @@ fn read_cut_entries(page: &Page, count: usize) -> ArrayVec<BaEntry, 17>
     get_all(count, skip(read_body(page), nodes * 16))
 }
 
-impl CutPage {
-    ghost use Rattle.page_layout.specs.CutPage.{IsCutPage, IsTyped, cut_page_page};
+impl Spelled for CutPage {
+    ghost keeps = { IsCutPage };
 
-    /// Makes the page the spelling of this page of cuts.
-    pub fn write(&self, page: &mut Page)
-        requires { IsCutPage self.now }
-        ensures { page.new ≡ cut_page_page self.now }
-    {
+    ghost is_typed = { IsTyped };
+
+    ghost spelling = { cut_page_page };
+
+    ghost value_in = { cut_page_in };
+
+    fn write(&self, page: &mut Page) {
         let mut front = start(KIND, self.level, self.entries.len() as u16, 0, 0);
         put_all(&mut front, self.cuts.as_slice());
         put_all(&mut front, self.entries.as_slice());
         finish(&front, page);
     }
 
-    /// The page of cuts that the page spells, or `None` exactly where it spells none.
-    pub fn read(page: &Page) -> Option<CutPage>
-        // What is read keeps the rules, its numbers are those of their types, and the page is its spelling.
-        ensures found { IfSome result (λ value. IsCutPage value × IsTyped value × (page.now ≡ cut_page_page value)) }
-        // Where the page is the spelling of a value, that value is read.
-        ensures only { (value : CutPage) → IsTyped value → IsCutPage value → page.now ≡ cut_page_page value → result ≡ Some value }
-    {
-        let value = guess(page);
-        if !value.keeps_rules() {
-            return None;
+    fn guess(page: &Page) -> CutPage {
+        let count = count_in(page);
+        CutPage {
+            level: page[1],
+            cuts: read_nodes(page, count),
+            entries: read_cut_entries(page, count),
         }
-        let mut again = blank_page();
-        value.write(&mut again);
-        if !are_same(&again, page) {
-            return None;
-        }
-        Some(value)
     }
 
-    /// Proves that no two values have one spelling; it does nothing when it runs.
-    pub fn one_spelling()
-        ensures { (value other : CutPage) → IsTyped value → IsCutPage value → IsTyped other → IsCutPage other
-            → cut_page_page value ≡ cut_page_page other → value ≡ other }
-    {}
-
-    fn keeps_rules(&self) -> bool
-        ensures { IsTrue result ↔ IsCutPage self.now }
-    {
+    fn keeps_rules(&self) -> bool {
         let count = self.entries.len();
         (2 <= self.level && self.level <= 16)
             && (1 <= count && count <= 16)
             && spell_cuts(self.cuts.as_slice(), count)
             && each_keeps(self.level, self.entries.as_slice())
     }
+
+    ghost reads_back = { cut_page_in-page };
 }
 
-fn guess(page: &Page) -> CutPage
-    ensures value { result ≡ cut_page_in page.now }
-    ensures typed { IsTyped result }
-{
-    let count = count_in(page);
-    CutPage {
-        level: page[1],
-        cuts: read_nodes(page, count),
-        entries: read_cut_entries(page, count),
+impl TreePage for CutPage {
+    ghost level_in = { λ page. page.level };
+
+    fn level(&self) -> u8 {
+        self.level
     }
+
+    ghost in_use = { λ _. not_free _ refl };
 }

@@ -1,11 +1,12 @@
 //! Free pages.
-ghost use Rattle.std.specs.Prelude.{◌≡◌, ◌<◌, ◌≤◌, IfSome, Some, ◌↔◌, IsTrue};
-ghost use Rattle.page_layout.specs.FreePage.{IsTyped, free_page_in, next_fits};
+ghost use Rattle.std.specs.Prelude.{◌≡◌};
+ghost use Rattle.page_layout.specs.FreePage.{IsFreePage, IsTyped, free_page_in, next_fits, free_page_page};
+ghost use Rattle.page_layout.specs.FreePageLaws.{free_page_in-page};
 
 use crate::counted::{read_double, start};
 use crate::front::finish;
-use crate::same::are_same;
-use page_ports::{FREE_PAGE, Page, blank_page};
+use crate::spelled::Spelled;
+use page_ports::{FREE_PAGE, Page};
 
 /// A page that is not in use: the number of the next free page, or 0 where it is the last.
 #[derive(Clone, Copy, Debug, PartialEq, Eq)]
@@ -20,54 +21,28 @@ pub(crate) fn next_fits(next: u64) -> bool
     next == 0 || next >= 3
 }
 
-impl FreePage {
-    ghost use Rattle.page_layout.specs.FreePage.{IsFreePage, IsTyped, free_page_page};
+impl Spelled for FreePage {
+    ghost keeps = { IsFreePage };
 
-    /// Makes the page the spelling of this free page. The next one is 0 or at least 3.
-    pub fn write(&self, page: &mut Page)
-        requires { IsFreePage self.now }
-        ensures { page.new ≡ free_page_page self.now }
-    {
+    ghost is_typed = { IsTyped };
+
+    ghost spelling = { free_page_page };
+
+    ghost value_in = { free_page_in };
+
+    fn write(&self, page: &mut Page) {
         finish(&start(FREE_PAGE, 0, 0, 0, self.next), page);
     }
 
-    /// The free page that the page spells, or `None` exactly where it spells none.
-    pub fn read(page: &Page) -> Option<FreePage>
-        // What is read keeps the rules, its numbers are those of their types, and the page is its spelling.
-        ensures found { IfSome result (λ value. IsFreePage value × IsTyped value × (page.now ≡ free_page_page value)) }
-        // Where the page is the spelling of a value, that value is read.
-        ensures only { (value : FreePage) → IsTyped value → IsFreePage value → page.now ≡ free_page_page value → result ≡ Some value }
-    {
-        let value = guess(page);
-        if !value.keeps_rules() {
-            return None;
+    fn guess(page: &Page) -> FreePage {
+        FreePage {
+            next: read_double(page),
         }
-        let mut again = blank_page();
-        value.write(&mut again);
-        if !are_same(&again, page) {
-            return None;
-        }
-        Some(value)
     }
 
-    /// Proves that no two values have one spelling; it does nothing when it runs.
-    pub fn one_spelling()
-        ensures { (value other : FreePage) → IsTyped value → IsFreePage value → IsTyped other → IsFreePage other
-            → free_page_page value ≡ free_page_page other → value ≡ other }
-    {}
-
-    fn keeps_rules(&self) -> bool
-        ensures { IsTrue result ↔ IsFreePage self.now }
-    {
+    fn keeps_rules(&self) -> bool {
         next_fits(self.next)
     }
-}
 
-fn guess(page: &Page) -> FreePage
-    ensures value { result ≡ free_page_in page.now }
-    ensures typed { IsTyped result }
-{
-    FreePage {
-        next: read_double(page),
-    }
+    ghost reads_back = { free_page_in-page };
 }

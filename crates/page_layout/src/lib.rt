@@ -24,6 +24,7 @@ mod point_leaf;
 mod same;
 mod sb_node;
 mod signed;
+mod spelled;
 mod super_page;
 mod table_node;
 #[cfg(test)]
@@ -40,5 +41,6 @@ pub use meta::Meta;
 pub use mv_node::{MvEntry, MvNode};
 pub use point_leaf::PointLeaf;
 pub use sb_node::{SbEntry, SbNode};
+pub use spelled::{Spelled, TreePage};
 pub use super_page::Super;
 pub use table_node::{TableEntry, TableNode};

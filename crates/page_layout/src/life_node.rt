@@ -1,6 +1,7 @@
 //! Nodes of object tables by id and life.
-ghost use Rattle.std.specs.Prelude.{◌≡◌, ◌<◌, ◌≤◌, IfSome, Some, ◌↔◌, IsTrue};
-ghost use Rattle.page_layout.specs.LifeNode.{IsTyped, life_entry_bytes, life_entry_at, IsLifeEntryTyped, IsLifeLeaf, IsLifeIndex, length-life_entry, life_entry-back, life_leaf_in, life_index_in, life_node_in};
+ghost use Rattle.std.specs.Prelude.{◌≡◌, ◌≤◌, ◌↔◌, IsTrue};
+ghost use Rattle.page_layout.specs.LifeNode.{life_level, IsLifeNode, IsTyped, life_entry_bytes, life_entry_at, IsLifeEntryTyped, IsLifeLeaf, IsLifeIndex, length-life_entry, life_entry-back, life_leaf_in, life_index_in, life_node_in, life_node_page};
+ghost use Rattle.page_layout.specs.LifeNodeLaws.{life_node_in_use, life_node_in-page};
 ghost use Rattle.page_layout.specs.Dated.{life_precedes};
 
 use crate::counted::{read_entries, write_counted};
@@ -8,10 +9,10 @@ use crate::dated::{ByLife, life_precedes};
 use crate::entry::{Entry, Own, are_in_order};
 use crate::front::{Front, put_u32, put_u64};
 use crate::number::{number_u32, number_u64, skip};
-use crate::same::are_same;
+use crate::spelled::{Spelled, TreePage};
 use arrayvec::ArrayVec;
 use bw_types::Dated;
-use page_ports::{Page, blank_page};
+use page_ports::Page;
 
 const KIND: u8 = 10;
 
@@ -101,59 +102,6 @@ fn is_index(level: u8, entries: &[LifeEntry]) -> bool
         && are_in_order::<Own, LifeEntry>(level, entries)
 }
 
-impl LifeNode {
-    ghost use Rattle.page_layout.specs.LifeNode.{IsLifeNode, IsTyped, life_node_page};
-
-    /// Makes the page the node's spelling.
-    pub fn write(&self, page: &mut Page)
-        requires { IsLifeNode self.now }
-        ensures { page.new ≡ life_node_page self.now }
-    {
-        match self {
-            LifeNode::Leaf { objects } => {
-                write_counted::<ByLife, Dated>(page, KIND, 1, 0, 0, objects.as_slice());
-            }
-            LifeNode::Index { level, entries } => {
-                write_counted::<Own, LifeEntry>(page, KIND, *level, 0, 0, entries.as_slice());
-            }
-        }
-    }
-
-    /// The node that the page spells, or `None` exactly where it spells none.
-    pub fn read(page: &Page) -> Option<LifeNode>
-        // What is read keeps the rules, its numbers are those of their types, and the page is its spelling.
-        ensures found { IfSome result (λ value. IsLifeNode value × IsTyped value × (page.now ≡ life_node_page value)) }
-        // Where the page is the spelling of a value, that value is read.
-        ensures only { (value : LifeNode) → IsTyped value → IsLifeNode value → page.now ≡ life_node_page value → result ≡ Some value }
-    {
-        let value = guess(page);
-        if !value.keeps_rules() {
-            return None;
-        }
-        let mut again = blank_page();
-        value.write(&mut again);
-        if !are_same(&again, page) {
-            return None;
-        }
-        Some(value)
-    }
-
-    /// Proves that no two values have one spelling; it does nothing when it runs.
-    pub fn one_spelling()
-        ensures { (value other : LifeNode) → IsTyped value → IsLifeNode value → IsTyped other → IsLifeNode other
-            → life_node_page value ≡ life_node_page other → value ≡ other }
-    {}
-
-    fn keeps_rules(&self) -> bool
-        ensures { IsTrue result ↔ IsLifeNode self.now }
-    {
-        match self {
-            LifeNode::Leaf { objects } => is_leaf(objects.as_slice()),
-            LifeNode::Index { level, entries } => is_index(*level, entries.as_slice()),
-        }
-    }
-}
-
 fn guess_leaf(page: &Page) -> LifeNode
     ensures value { result ≡ life_leaf_in page.now }
     ensures typed { IsTyped result }
@@ -173,13 +121,53 @@ fn guess_index(page: &Page) -> LifeNode
     }
 }
 
-fn guess(page: &Page) -> LifeNode
-    ensures value { result ≡ life_node_in page.now }
-    ensures typed { IsTyped result }
-{
-    if page[1] == 1 {
-        guess_leaf(page)
-    } else {
-        guess_index(page)
+impl Spelled for LifeNode {
+    ghost keeps = { IsLifeNode };
+
+    ghost is_typed = { IsTyped };
+
+    ghost spelling = { life_node_page };
+
+    ghost value_in = { life_node_in };
+
+    fn write(&self, page: &mut Page) {
+        match self {
+            LifeNode::Leaf { objects } => {
+                write_counted::<ByLife, Dated>(page, KIND, 1, 0, 0, objects.as_slice());
+            }
+            LifeNode::Index { level, entries } => {
+                write_counted::<Own, LifeEntry>(page, KIND, *level, 0, 0, entries.as_slice());
+            }
+        }
     }
+
+    fn guess(page: &Page) -> LifeNode {
+        if page[1] == 1 {
+            guess_leaf(page)
+        } else {
+            guess_index(page)
+        }
+    }
+
+    fn keeps_rules(&self) -> bool {
+        match self {
+            LifeNode::Leaf { objects } => is_leaf(objects.as_slice()),
+            LifeNode::Index { level, entries } => is_index(*level, entries.as_slice()),
+        }
+    }
+
+    ghost reads_back = { life_node_in-page };
+}
+
+impl TreePage for LifeNode {
+    ghost level_in = { life_level };
+
+    fn level(&self) -> u8 {
+        match self {
+            LifeNode::Leaf { objects: _ } => 1,
+            LifeNode::Index { level, entries: _ } => *level,
+        }
+    }
+
+    ghost in_use = { life_node_in_use };
 }

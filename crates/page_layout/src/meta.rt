@@ -1,19 +1,20 @@
 //! The meta page: page 2, with the counts of the warehouse and the trees that it consists of.
-ghost use Rattle.std.specs.Prelude.{◌≡◌, ◌++◌, ◌≤◌, IfSome, Some, ◌↔◌, IsTrue, length};
+ghost use Rattle.std.specs.Prelude.{◌≡◌, ◌++◌, ◌≤◌, length};
 ghost use Rattle.std.specs.List.{All};
 ghost use Rattle.arrayvec.specs.ArrayVec.{array_vec_len};
 ghost use Rattle.page_layout.specs.TreeValue.{IsTreeTyped};
-ghost use Rattle.page_layout.specs.Meta.{IsTyped, count_bytes, root_bytes, roots_of, meta_in};
+ghost use Rattle.page_layout.specs.Meta.{IsMeta, IsTyped, count_bytes, root_bytes, roots_of, meta_in, meta_page};
+ghost use Rattle.page_layout.specs.MetaLaws.{meta_in-page};
 
 use crate::entry::{Entry, Own, each_keeps, get_all, put_all};
 use crate::free_page::next_fits;
 use crate::front::{Front, finish, put, put_u8, put_u32, put_u64, put_u128};
 use crate::number::{after, number_u32, number_u64, number_u128};
-use crate::same::are_same;
+use crate::spelled::Spelled;
 use crate::tree_value::plain_tree_fits;
 use arrayvec::ArrayVec;
 use bw_types::Tree;
-use page_ports::{Page, blank_page};
+use page_ports::Page;
 
 const KIND: u8 = 7;
 
@@ -74,66 +75,40 @@ fn read_roots(page: &Page) -> ArrayVec<Tree, 96>
     get_all(count as usize, after(page, 80))
 }
 
-impl Meta {
-    ghost use Rattle.page_layout.specs.Meta.{IsMeta, IsTyped, meta_page};
+impl Spelled for Meta {
+    ghost keeps = { IsMeta };
 
-    /// Makes the page the spelling of this meta page.
-    pub fn write(&self, page: &mut Page)
-        requires { IsMeta self.now }
-        ensures { page.new ≡ meta_page self.now }
-    {
+    ghost is_typed = { IsTyped };
+
+    ghost spelling = { meta_page };
+
+    ghost value_in = { meta_in };
+
+    fn write(&self, page: &mut Page) {
         let mut front = counts(self);
         put_roots(&mut front, self);
         finish(&front, page);
     }
 
-    /// The meta page that the page spells, or `None` exactly where it spells none.
-    pub fn read(page: &Page) -> Option<Meta>
-        // What is read keeps the rules, its numbers are those of their types, and the page is its spelling.
-        ensures found { IfSome result (λ value. IsMeta value × IsTyped value × (page.now ≡ meta_page value)) }
-        // Where the page is the spelling of a value, that value is read.
-        ensures only { (value : Meta) → IsTyped value → IsMeta value → page.now ≡ meta_page value → result ≡ Some value }
-    {
-        let value = guess(page);
-        if !value.keeps_rules() {
-            return None;
+    fn guess(page: &Page) -> Meta {
+        Meta {
+            lives: page[1],
+            version: number_u32(after(page, 4)),
+            events: number_u32(after(page, 8)),
+            rows: number_u32(after(page, 12)),
+            allotted: number_u64(after(page, 16)),
+            free: number_u64(after(page, 24)),
+            mass: number_u128(after(page, 32)),
+            table: Tree::get(after(page, 48)),
+            roots: read_roots(page),
         }
-        let mut again = blank_page();
-        value.write(&mut again);
-        if !are_same(&again, page) {
-            return None;
-        }
-        Some(value)
     }
 
-    /// Proves that no two values have one spelling; it does nothing when it runs.
-    pub fn one_spelling()
-        ensures { (value other : Meta) → IsTyped value → IsMeta value → IsTyped other → IsMeta other
-            → meta_page value ≡ meta_page other → value ≡ other }
-    {}
-
-    fn keeps_rules(&self) -> bool
-        ensures { IsTrue result ↔ IsMeta self.now }
-    {
+    fn keeps_rules(&self) -> bool {
         (self.lives <= 1 && self.allotted >= 3)
             && (next_fits(self.free) && plain_tree_fits(&self.table))
             && (self.roots.len() <= 96 && each_keeps(0, self.roots.as_slice()))
     }
-}
 
-fn guess(page: &Page) -> Meta
-    ensures value { result ≡ meta_in page.now }
-    ensures typed { IsTyped result }
-{
-    Meta {
-        lives: page[1],
-        version: number_u32(after(page, 4)),
-        events: number_u32(after(page, 8)),
-        rows: number_u32(after(page, 12)),
-        allotted: number_u64(after(page, 16)),
-        free: number_u64(after(page, 24)),
-        mass: number_u128(after(page, 32)),
-        table: Tree::get(after(page, 48)),
-        roots: read_roots(page),
-    }
+    ghost reads_back = { meta_in-page };
 }

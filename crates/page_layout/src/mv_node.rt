@@ -1,15 +1,17 @@
 //! Nodes of the multiversion trees.
-ghost use Rattle.std.specs.Prelude.{◌≡◌, ◌<◌, ◌≤◌, IfSome, Some, ◌↔◌, IsTrue};
-ghost use Rattle.page_layout.specs.MvNode.{IsTyped, mv_entry_bytes, mv_entry_at, IsMvEntryTyped, mv_keeps, mv_precedes, before_fits, length-mv_entry, mv_entry-back, mv_node_in};
+ghost use Rattle.std.specs.Prelude.{refl, ◌≡◌, ◌<◌, IsTrue};
+ghost use Rattle.page_layout.specs.Counted.{not_free};
+ghost use Rattle.page_layout.specs.MvNode.{IsMvNode, IsTyped, mv_entry_bytes, mv_entry_at, IsMvEntryTyped, mv_keeps, mv_precedes, before_fits, length-mv_entry, mv_entry-back, mv_node_in, mv_node_page};
+ghost use Rattle.page_layout.specs.MvNodeLaws.{mv_node_in-page};
 
 use crate::children::child_fits;
 use crate::counted::{read_double, read_entries, read_word, write_counted};
 use crate::entry::{Entry, Own, are_in_order};
 use crate::front::{Front, put_u32, put_u64, put_u128};
 use crate::number::{number_u32, number_u64, number_u128, skip};
-use crate::same::are_same;
+use crate::spelled::{Spelled, TreePage};
 use arrayvec::ArrayVec;
-use page_ports::{Page, blank_page};
+use page_ports::Page;
 
 const KIND: u8 = 3;
 
@@ -90,14 +92,16 @@ fn before_fits(place: u32, before: u64) -> bool
     if place == 1 { before == 0 } else { before >= 1 }
 }
 
-impl MvNode {
-    ghost use Rattle.page_layout.specs.MvNode.{IsMvNode, IsTyped, mv_node_page};
+impl Spelled for MvNode {
+    ghost keeps = { IsMvNode };
 
-    /// Makes the page the node's spelling.
-    pub fn write(&self, page: &mut Page)
-        requires { IsMvNode self.now }
-        ensures { page.new ≡ mv_node_page self.now }
-    {
+    ghost is_typed = { IsTyped };
+
+    ghost spelling = { mv_node_page };
+
+    ghost value_in = { mv_node_in };
+
+    fn write(&self, page: &mut Page) {
         write_counted(
             page,
             KIND,
@@ -108,50 +112,32 @@ impl MvNode {
         );
     }
 
-    /// The mv node that the page spells, or `None` exactly where it spells none.
-    pub fn read(page: &Page) -> Option<MvNode>
-        // What is read keeps the rules, its numbers are those of their types, and the page is its spelling.
-        ensures found { IfSome result (λ value. IsMvNode value × IsTyped value × (page.now ≡ mv_node_page value)) }
-        // Where the page is the spelling of a value, that value is read.
-        ensures only { (value : MvNode) → IsTyped value → IsMvNode value → page.now ≡ mv_node_page value → result ≡ Some value }
-    {
-        let value = guess(page);
-        if !value.keeps_rules() {
-            return None;
+    fn guess(page: &Page) -> MvNode {
+        MvNode {
+            level: page[1],
+            place: read_word(page),
+            before: read_double(page),
+            entries: read_entries(page, 96),
         }
-        let mut again = blank_page();
-        value.write(&mut again);
-        if !are_same(&again, page) {
-            return None;
-        }
-        Some(value)
     }
 
-    /// Proves that no two values have one spelling; it does nothing when it runs.
-    pub fn one_spelling()
-        ensures { (value other : MvNode) → IsTyped value → IsMvNode value → IsTyped other → IsMvNode other
-            → mv_node_page value ≡ mv_node_page other → value ≡ other }
-    {}
-
-    fn keeps_rules(&self) -> bool
-        ensures { IsTrue result ↔ IsMvNode self.now }
-    {
+    fn keeps_rules(&self) -> bool {
         let count = self.entries.len();
         (1 <= self.level && self.level <= 16)
             && (1 <= self.place && before_fits(self.place, self.before))
             && (1 <= count && count <= 96)
             && are_in_order(self.level, self.entries.as_slice())
     }
+
+    ghost reads_back = { mv_node_in-page };
 }
 
-fn guess(page: &Page) -> MvNode
-    ensures value { result ≡ mv_node_in page.now }
-    ensures typed { IsTyped result }
-{
-    MvNode {
-        level: page[1],
-        place: read_word(page),
-        before: read_double(page),
-        entries: read_entries(page, 96),
+impl TreePage for MvNode {
+    ghost level_in = { λ node. node.level };
+
+    fn level(&self) -> u8 {
+        self.level
     }
+
+    ghost in_use = { λ _. not_free _ refl };
 }

@@ -1,16 +1,18 @@
 //! Pages of points.
-ghost use Rattle.std.specs.Prelude.{◌≡◌, ◌≤◌, IfSome, Some, ◌↔◌, IsTrue};
-ghost use Rattle.page_layout.specs.PointLeaf.{IsTyped, point_bytes, point_at, IsPointTyped, length-point, point-back, point_leaf_in};
+ghost use Rattle.std.specs.Prelude.{refl};
+ghost use Rattle.page_layout.specs.Counted.{not_free};
+ghost use Rattle.page_layout.specs.PointLeaf.{IsPointLeaf, IsTyped, point_bytes, point_at, IsPointTyped, length-point, point-back, point_leaf_in, point_leaf_page};
+ghost use Rattle.page_layout.specs.PointLeafLaws.{point_leaf_in-page};
 
 use crate::counted::{read_double, read_entries, write_counted};
 use crate::entry::{Entry, Own};
 use crate::front::{Front, put_u32, put_u128};
 use crate::number::{number_u32, number_u128, skip};
-use crate::same::are_same;
+use crate::spelled::{Spelled, TreePage};
 use crate::three::{put_three_u64, three_u64};
 use arrayvec::ArrayVec;
 use bw_types::Point;
-use page_ports::{Page, blank_page};
+use page_ports::Page;
 
 const KIND: u8 = 5;
 
@@ -67,56 +69,40 @@ impl Entry<Own> for Point {
     ghost reads_back = { λ _ x rest typed _. point-back x rest typed };
 }
 
-impl PointLeaf {
-    ghost use Rattle.page_layout.specs.PointLeaf.{IsPointLeaf, IsTyped, point_leaf_page};
+impl Spelled for PointLeaf {
+    ghost keeps = { IsPointLeaf };
 
-    /// Makes the page the spelling of these points.
-    pub fn write(&self, page: &mut Page)
-        requires { IsPointLeaf self.now }
-        ensures { page.new ≡ point_leaf_page self.now }
-    {
+    ghost is_typed = { IsTyped };
+
+    ghost spelling = { point_leaf_page };
+
+    ghost value_in = { point_leaf_in };
+
+    fn write(&self, page: &mut Page) {
         write_counted(page, KIND, 1, 0, self.next, self.points.as_slice());
     }
 
-    /// The page of points that the page spells, or `None` exactly where it spells none.
-    pub fn read(page: &Page) -> Option<PointLeaf>
-        // What is read keeps the rules, its numbers are those of their types, and the page is its spelling.
-        ensures found { IfSome result (λ value. IsPointLeaf value × IsTyped value × (page.now ≡ point_leaf_page value)) }
-        // Where the page is the spelling of a value, that value is read.
-        ensures only { (value : PointLeaf) → IsTyped value → IsPointLeaf value → page.now ≡ point_leaf_page value → result ≡ Some value }
-    {
-        let value = guess(page);
-        if !value.keeps_rules() {
-            return None;
+    fn guess(page: &Page) -> PointLeaf {
+        PointLeaf {
+            next: read_double(page),
+            points: read_entries(page, 64),
         }
-        let mut again = blank_page();
-        value.write(&mut again);
-        if !are_same(&again, page) {
-            return None;
-        }
-        Some(value)
     }
 
-    /// Proves that no two values have one spelling; it does nothing when it runs.
-    pub fn one_spelling()
-        ensures { (value other : PointLeaf) → IsTyped value → IsPointLeaf value → IsTyped other → IsPointLeaf other
-            → point_leaf_page value ≡ point_leaf_page other → value ≡ other }
-    {}
-
-    fn keeps_rules(&self) -> bool
-        ensures { IsTrue result ↔ IsPointLeaf self.now }
-    {
+    fn keeps_rules(&self) -> bool {
         let count = self.points.len();
         1 <= count && count <= 64
     }
+
+    ghost reads_back = { point_leaf_in-page };
 }
 
-fn guess(page: &Page) -> PointLeaf
-    ensures value { result ≡ point_leaf_in page.now }
-    ensures typed { IsTyped result }
-{
-    PointLeaf {
-        next: read_double(page),
-        points: read_entries(page, 64),
+impl TreePage for PointLeaf {
+    ghost level_in = { λ _. 1 };
+
+    fn level(&self) -> u8 {
+        1
     }
+
+    ghost in_use = { λ _. not_free _ refl };
 }

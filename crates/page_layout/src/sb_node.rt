@@ -1,16 +1,18 @@
 //! Nodes of the trees over versions.
-ghost use Rattle.std.specs.Prelude.{◌≡◌, ◌<◌, ◌≤◌, IfSome, Some, ◌↔◌, IsTrue};
+ghost use Rattle.std.specs.Prelude.{refl, ◌<◌, IsTrue};
 ghost use Rattle.page_layout.specs.Children.{child_fits};
-ghost use Rattle.page_layout.specs.SbNode.{IsTyped, sb_entry_bytes, sb_entry_at, IsSbEntryTyped, length-sb_entry, sb_entry-back, sb_node_in};
+ghost use Rattle.page_layout.specs.Counted.{not_free};
+ghost use Rattle.page_layout.specs.SbNode.{IsSbNode, IsTyped, sb_entry_bytes, sb_entry_at, IsSbEntryTyped, length-sb_entry, sb_entry-back, sb_node_in, sb_node_page};
+ghost use Rattle.page_layout.specs.SbNodeLaws.{sb_node_in-page};
 
 use crate::children::child_fits;
 use crate::counted::{read_entries, write_counted};
 use crate::entry::{Entry, Own, are_in_order};
 use crate::front::{Front, put_u32, put_u64, put_u128};
 use crate::number::{number_u32, number_u64, number_u128, skip};
-use crate::same::are_same;
+use crate::spelled::{Spelled, TreePage};
 use arrayvec::ArrayVec;
-use page_ports::{Page, blank_page};
+use page_ports::Page;
 
 const KIND: u8 = 2;
 
@@ -74,58 +76,42 @@ impl Entry<Own> for SbEntry {
     ghost reads_back = { λ _ x rest typed _. sb_entry-back x rest typed };
 }
 
-impl SbNode {
-    ghost use Rattle.page_layout.specs.SbNode.{IsSbNode, IsTyped, sb_node_page};
+impl Spelled for SbNode {
+    ghost keeps = { IsSbNode };
 
-    /// Makes the page the node's spelling.
-    pub fn write(&self, page: &mut Page)
-        requires { IsSbNode self.now }
-        ensures { page.new ≡ sb_node_page self.now }
-    {
+    ghost is_typed = { IsTyped };
+
+    ghost spelling = { sb_node_page };
+
+    ghost value_in = { sb_node_in };
+
+    fn write(&self, page: &mut Page) {
         write_counted(page, KIND, self.level, 0, 0, self.entries.as_slice());
     }
 
-    /// The sb node that the page spells, or `None` exactly where it spells none.
-    pub fn read(page: &Page) -> Option<SbNode>
-        // What is read keeps the rules, its numbers are those of their types, and the page is its spelling.
-        ensures found { IfSome result (λ value. IsSbNode value × IsTyped value × (page.now ≡ sb_node_page value)) }
-        // Where the page is the spelling of a value, that value is read.
-        ensures only { (value : SbNode) → IsTyped value → IsSbNode value → page.now ≡ sb_node_page value → result ≡ Some value }
-    {
-        let value = guess(page);
-        if !value.keeps_rules() {
-            return None;
+    fn guess(page: &Page) -> SbNode {
+        SbNode {
+            level: page[1],
+            entries: read_entries(page, 64),
         }
-        let mut again = blank_page();
-        value.write(&mut again);
-        if !are_same(&again, page) {
-            return None;
-        }
-        Some(value)
     }
 
-    /// Proves that no two values have one spelling; it does nothing when it runs.
-    pub fn one_spelling()
-        ensures { (value other : SbNode) → IsTyped value → IsSbNode value → IsTyped other → IsSbNode other
-            → sb_node_page value ≡ sb_node_page other → value ≡ other }
-    {}
-
-    fn keeps_rules(&self) -> bool
-        ensures { IsTrue result ↔ IsSbNode self.now }
-    {
+    fn keeps_rules(&self) -> bool {
         let count = self.entries.len();
         (1 <= self.level && self.level <= 16)
             && (1 <= count && count <= 64)
             && are_in_order(self.level, self.entries.as_slice())
     }
+
+    ghost reads_back = { sb_node_in-page };
 }
 
-fn guess(page: &Page) -> SbNode
-    ensures value { result ≡ sb_node_in page.now }
-    ensures typed { IsTyped result }
-{
-    SbNode {
-        level: page[1],
-        entries: read_entries(page, 64),
+impl TreePage for SbNode {
+    ghost level_in = { λ node. node.level };
+
+    fn level(&self) -> u8 {
+        self.level
     }
+
+    ghost in_use = { λ _. not_free _ refl };
 }

@@ -1,14 +1,14 @@
 //! The superblock: page 1, which says what the warehouse was made for.
 ghost use Rattle.std.specs.Prelude.{◌≡◌, ◌≤◌, IfSome, Some, ◌↔◌, IsTrue};
 ghost use Rattle.bw_types.specs.Fits.{IsInRange};
-ghost use Rattle.arrayvec.specs.ArrayVec.{array_vec_len};
-ghost use Rattle.page_layout.specs.Super.{IsTyped, super_in, format_of, degree_byte, degree_in};
+ghost use Rattle.page_layout.specs.Super.{IsSuper, IsTyped, super_in, format_of, degree_byte, degree_in, super_page};
+ghost use Rattle.page_layout.specs.SuperLaws.{super_in-page};
 
 use crate::front::{Front, finish, put, put_u8, put_u32, put_u64};
 use crate::number::{after, number_u32, number_u64};
-use crate::same::are_same;
+use crate::spelled::Spelled;
 use bw_types::Params;
-use page_ports::{Page, blank_page};
+use page_ports::Page;
 
 const PLAIN: u8 = 1;
 
@@ -62,14 +62,16 @@ fn are_in_range(params: &Params) -> bool
         && (params.origin == 0 || params.origin == Params::SIGNED_ORIGIN)
 }
 
-impl Super {
-    ghost use Rattle.page_layout.specs.Super.{IsSuper, IsTyped, super_page};
+impl Spelled for Super {
+    ghost keeps = { IsSuper };
 
-    /// Makes the page the superblock's spelling.
-    pub fn write(&self, page: &mut Page)
-        requires { IsSuper self.now }
-        ensures { page.new ≡ super_page self.now }
-    {
+    ghost is_typed = { IsTyped };
+
+    ghost spelling = { super_page };
+
+    ghost value_in = { super_in };
+
+    fn write(&self, page: &mut Page) {
         let mut front = Front::new();
         put(&mut front, b"BOXSUMWH");
         put_u8(&mut front, format_of(self.params.origin));
@@ -82,49 +84,21 @@ impl Super {
         finish(&front, page);
     }
 
-    /// The superblock that the page spells, or `None` exactly where it spells none.
-    pub fn read(page: &Page) -> Option<Super>
-        // What is read keeps the rules, its numbers are those of their types, and the page is its spelling.
-        ensures found { IfSome result (λ value. IsSuper value × IsTyped value × (page.now ≡ super_page value)) }
-        // Where the page is the spelling of a value, that value is read.
-        ensures only { (value : Super) → IsTyped value → IsSuper value → page.now ≡ super_page value → result ≡ Some value }
-    {
-        let value = guess(page);
-        if !value.keeps_rules() {
-            return None;
+    fn guess(page: &Page) -> Super {
+        Super {
+            params: Params {
+                dims: page[9],
+                degree: degree_in(page[10]),
+                events: number_u32(after(page, 12)),
+                pages: number_u64(after(page, 16)),
+                origin: number_u32(after(page, 24)),
+            },
         }
-        let mut again = blank_page();
-        value.write(&mut again);
-        if !are_same(&again, page) {
-            return None;
-        }
-        Some(value)
     }
 
-    /// Proves that no two values have one spelling; it does nothing when it runs.
-    pub fn one_spelling()
-        ensures { (value other : Super) → IsTyped value → IsSuper value → IsTyped other → IsSuper other
-            → super_page value ≡ super_page other → value ≡ other }
-    {}
-
-    fn keeps_rules(&self) -> bool
-        ensures { IsTrue result ↔ IsSuper self.now }
-    {
+    fn keeps_rules(&self) -> bool {
         are_in_range(&self.params)
     }
-}
 
-fn guess(page: &Page) -> Super
-    ensures value { result ≡ super_in page.now }
-    ensures typed { IsTyped result }
-{
-    Super {
-        params: Params {
-            dims: page[9],
-            degree: degree_in(page[10]),
-            events: number_u32(after(page, 12)),
-            pages: number_u64(after(page, 16)),
-            origin: number_u32(after(page, 24)),
-        },
-    }
+    ghost reads_back = { super_in-page };
 }

@@ -1,16 +1,17 @@
 //! Nodes of object tables by id alone.
-ghost use Rattle.std.specs.Prelude.{◌≡◌, ◌<◌, ◌≤◌, IfSome, Some, ◌↔◌, IsTrue};
-ghost use Rattle.page_layout.specs.TableNode.{IsTyped, table_entry_bytes, table_entry_at, IsTableEntryTyped, IsTableLeaf, IsTableIndex, length-table_entry, table_entry-back, table_leaf_in, table_index_in, table_node_in};
+ghost use Rattle.std.specs.Prelude.{◌≡◌, ◌<◌, ◌≤◌, ◌↔◌, IsTrue};
+ghost use Rattle.page_layout.specs.TableNode.{table_level, IsTableNode, IsTyped, table_entry_bytes, table_entry_at, IsTableEntryTyped, IsTableLeaf, IsTableIndex, length-table_entry, table_entry-back, table_leaf_in, table_index_in, table_node_in, table_node_page};
+ghost use Rattle.page_layout.specs.TableNodeLaws.{table_node_in_use, table_node_in-page};
 
 use crate::counted::{read_entries, write_counted};
 use crate::dated::ById;
 use crate::entry::{Entry, Own, are_in_order};
 use crate::front::{Front, put_u64};
 use crate::number::{number_u64, skip};
-use crate::same::are_same;
+use crate::spelled::{Spelled, TreePage};
 use arrayvec::ArrayVec;
 use bw_types::Dated;
-use page_ports::{Page, blank_page};
+use page_ports::Page;
 
 const KIND: u8 = 6;
 
@@ -98,59 +99,6 @@ fn is_index(level: u8, entries: &[TableEntry]) -> bool
         && are_in_order::<Own, TableEntry>(level, entries)
 }
 
-impl TableNode {
-    ghost use Rattle.page_layout.specs.TableNode.{IsTableNode, IsTyped, table_node_page};
-
-    /// Makes the page the node's spelling.
-    pub fn write(&self, page: &mut Page)
-        requires { IsTableNode self.now }
-        ensures { page.new ≡ table_node_page self.now }
-    {
-        match self {
-            TableNode::Leaf { objects } => {
-                write_counted::<ById, Dated>(page, KIND, 1, 0, 0, objects.as_slice());
-            }
-            TableNode::Index { level, entries } => {
-                write_counted::<Own, TableEntry>(page, KIND, *level, 0, 0, entries.as_slice());
-            }
-        }
-    }
-
-    /// The node that the page spells, or `None` exactly where it spells none.
-    pub fn read(page: &Page) -> Option<TableNode>
-        // What is read keeps the rules, its numbers are those of their types, and the page is its spelling.
-        ensures found { IfSome result (λ value. IsTableNode value × IsTyped value × (page.now ≡ table_node_page value)) }
-        // Where the page is the spelling of a value, that value is read.
-        ensures only { (value : TableNode) → IsTyped value → IsTableNode value → page.now ≡ table_node_page value → result ≡ Some value }
-    {
-        let value = guess(page);
-        if !value.keeps_rules() {
-            return None;
-        }
-        let mut again = blank_page();
-        value.write(&mut again);
-        if !are_same(&again, page) {
-            return None;
-        }
-        Some(value)
-    }
-
-    /// Proves that no two values have one spelling; it does nothing when it runs.
-    pub fn one_spelling()
-        ensures { (value other : TableNode) → IsTyped value → IsTableNode value → IsTyped other → IsTableNode other
-            → table_node_page value ≡ table_node_page other → value ≡ other }
-    {}
-
-    fn keeps_rules(&self) -> bool
-        ensures { IsTrue result ↔ IsTableNode self.now }
-    {
-        match self {
-            TableNode::Leaf { objects } => is_leaf(objects.as_slice()),
-            TableNode::Index { level, entries } => is_index(*level, entries.as_slice()),
-        }
-    }
-}
-
 fn guess_leaf(page: &Page) -> TableNode
     ensures value { result ≡ table_leaf_in page.now }
     ensures typed { IsTyped result }
@@ -170,13 +118,53 @@ fn guess_index(page: &Page) -> TableNode
     }
 }
 
-fn guess(page: &Page) -> TableNode
-    ensures value { result ≡ table_node_in page.now }
-    ensures typed { IsTyped result }
-{
-    if page[1] == 1 {
-        guess_leaf(page)
-    } else {
-        guess_index(page)
+impl Spelled for TableNode {
+    ghost keeps = { IsTableNode };
+
+    ghost is_typed = { IsTyped };
+
+    ghost spelling = { table_node_page };
+
+    ghost value_in = { table_node_in };
+
+    fn write(&self, page: &mut Page) {
+        match self {
+            TableNode::Leaf { objects } => {
+                write_counted::<ById, Dated>(page, KIND, 1, 0, 0, objects.as_slice());
+            }
+            TableNode::Index { level, entries } => {
+                write_counted::<Own, TableEntry>(page, KIND, *level, 0, 0, entries.as_slice());
+            }
+        }
     }
+
+    fn guess(page: &Page) -> TableNode {
+        if page[1] == 1 {
+            guess_leaf(page)
+        } else {
+            guess_index(page)
+        }
+    }
+
+    fn keeps_rules(&self) -> bool {
+        match self {
+            TableNode::Leaf { objects } => is_leaf(objects.as_slice()),
+            TableNode::Index { level, entries } => is_index(*level, entries.as_slice()),
+        }
+    }
+
+    ghost reads_back = { table_node_in-page };
+}
+
+impl TreePage for TableNode {
+    ghost level_in = { table_level };
+
+    fn level(&self) -> u8 {
+        match self {
+            TableNode::Leaf { objects: _ } => 1,
+            TableNode::Index { level, entries: _ } => *level,
+        }
+    }
+
+    ghost in_use = { table_node_in_use };
 }

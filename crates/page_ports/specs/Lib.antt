@@ -1,3 +1,5 @@
+pub mod Calls
+pub mod Faults
 pub mod Frame
 pub mod FrameLaws
 pub mod Kept

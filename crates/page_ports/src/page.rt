@@ -37,3 +37,16 @@ pub enum StageFault {
     /// There was no memory.
     NoMemory,
 }
+
+impl From<PageFault> for StageFault {
+    ghost use Rattle.page_ports.specs.Faults.{HandsOn};
+
+    ghost from_gives = { HandsOn };
+
+    fn from(fault: PageFault) -> StageFault {
+        match fault {
+            PageFault::Disk => StageFault::Disk,
+            PageFault::Damaged(page) => StageFault::Damaged(page),
+        }
+    }
+}

@@ -1,6 +1,7 @@
 //! A stage of changes to pages.
 ghost use Rattle.std.specs.Prelude.{◌≡◌, ◌≢◌, ◌+◌, ◌≤◌, ◌<◌, ℕ, List, Some, None, Ok, Err, IsTrue, IsSome, IfOk, OnOk, OnErr, slice_index};
-ghost use Rattle.page_ports.specs.Pages.{Rose, put_page, remove_page, blank_bytes};
+ghost use Rattle.page_ports.specs.Calls.{Changes};
+ghost use Rattle.page_ports.specs.Pages.{put_page, remove_page, blank_bytes};
 ghost use Rattle.page_ports.specs.declared.page.TheConstants.{FREE_PAGE};
 
 use crate::{Page, Pages, StageFault};
@@ -18,21 +19,11 @@ pub trait Stage: Pages {
             × (IsTrue (Self.tells self.old)
             → (Self.map self.old page ≡ None) × (Self.map self.new ≡ put_page (Self.map self.old) page blank_bytes))) }
         ensures err { OnErr result (IsTrue (Self.tells self.old) → Self.map self.new ≡ Self.map self.old) }
-        ensures disk { result ≡ Err StageFault.Disk → Rose (Self.faults self.old) (Self.faults self.new) }
-        ensures page_limit { (n : ℕ) → result ≡ Err (StageFault.PageLimit n)
-            → (n ≡ Self.allotted self.old) × (Self.allotted self.old ≡ Self.limit self.old) }
         ensures damaged { (p : ℕ) → result ≡ Err (StageFault.Damaged p)
             → IsTrue (Self.tells self.old) → ¬ Self.free_in_order self.old }
 
-        ensures at_most_one { Self.allotted self.new ≤ Self.allotted self.old + 1 }
-        ensures allotted { Self.allotted self.old ≤ Self.allotted self.new }
         ensures allotted_err { OnErr result (Self.allotted self.new ≡ Self.allotted self.old) }
-        ensures gets { Self.gets self.old ≤ Self.gets self.new }
-        ensures faults { Self.faults self.old ≤ Self.faults self.new }
-        ensures tells { Self.tells self.new ≡ Self.tells self.old }
-        ensures limit { Self.limit self.new ≡ Self.limit self.old }
-        ensures base { Self.base self.new ≡ Self.base self.old }
-        ensures free_in_order { IsTrue (Self.tells self.old) → Self.free_in_order self.old → Self.free_in_order self.new };
+        ensures changes { Changes Self.Pages 1 self.old self.new result };
 
     /// Overwrites a page that is in the map. Its first byte is not 9, the kind of a free page.
     ///
@@ -42,18 +33,10 @@ pub trait Stage: Pages {
         requires kind { slice_index buf.now 0 ≢ FREE_PAGE }
         ensures ok { OnOk result (IsTrue (Self.tells self.old) → Self.map self.new ≡ put_page (Self.map self.old) page buf.now) }
         ensures err { OnErr result (IsTrue (Self.tells self.old) → Self.map self.new ≡ Self.map self.old) }
-        ensures disk { result ≡ Err StageFault.Disk → Rose (Self.faults self.old) (Self.faults self.new) }
-        ensures page_limit { (n : ℕ) → result ≢ Err (StageFault.PageLimit n) }
         ensures damaged { (p : ℕ) → result ≡ Err (StageFault.Damaged p)
             → (p ≡ page) × (IsTrue (Self.tells self.old) → Self.map self.old page ≡ None) }
 
-        ensures allotted { Self.allotted self.new ≡ Self.allotted self.old }
-        ensures gets { Self.gets self.old ≤ Self.gets self.new }
-        ensures faults { Self.faults self.old ≤ Self.faults self.new }
-        ensures tells { Self.tells self.new ≡ Self.tells self.old }
-        ensures limit { Self.limit self.new ≡ Self.limit self.old }
-        ensures base { Self.base self.new ≡ Self.base self.old }
-        ensures free_in_order { IsTrue (Self.tells self.old) → Self.free_in_order self.old → Self.free_in_order self.new };
+        ensures changes { Changes Self.Pages 0 self.old self.new result };
 
     /// Takes a page out of the map, so that it may be given out again.
     ///
@@ -62,18 +45,10 @@ pub trait Stage: Pages {
         requires in_map { IsTrue (Self.tells self.old) → IsSome (Self.map self.old page) }
         ensures ok { OnOk result (IsTrue (Self.tells self.old) → Self.map self.new ≡ remove_page (Self.map self.old) page) }
         ensures err { OnErr result (IsTrue (Self.tells self.old) → Self.map self.new ≡ Self.map self.old) }
-        ensures disk { result ≡ Err StageFault.Disk → Rose (Self.faults self.old) (Self.faults self.new) }
-        ensures page_limit { (n : ℕ) → result ≢ Err (StageFault.PageLimit n) }
         ensures damaged { (p : ℕ) → result ≡ Err (StageFault.Damaged p)
             → (p ≡ page) × (IsTrue (Self.tells self.old) → Self.map self.old page ≡ None) }
 
-        ensures allotted { Self.allotted self.new ≡ Self.allotted self.old }
-        ensures gets { Self.gets self.old ≤ Self.gets self.new }
-        ensures faults { Self.faults self.old ≤ Self.faults self.new }
-        ensures tells { Self.tells self.new ≡ Self.tells self.old }
-        ensures limit { Self.limit self.new ≡ Self.limit self.old }
-        ensures base { Self.base self.new ≡ Self.base self.old }
-        ensures free_in_order { IsTrue (Self.tells self.old) → Self.free_in_order self.old → Self.free_in_order self.new };
+        ensures changes { Changes Self.Pages 0 self.old self.new result };
 
     /// No page of the map is at or past the number of pages that are given out.
     ghost below_allotted: { (stage : Self) (page : ℕ) (bytes : List ℕ) → IsTrue (Self.tells stage)

@@ -12,10 +12,10 @@ const CHAIN_PAGE: u8 = 1;
 
 // Gives the chain a page more.
 fn grow<S: Stage>(stage: &mut S, chain: &mut Vec<u64>) -> Result<(), StageFault>
-    ensures change { OnOk result (IsTrue (S.Pages.tells stage.old)
-        → Replaces chain.old.items chain.new.items (S.Pages.map stage.old) (S.Pages.map stage.new)) }
-    ensures keeps { OnOk result (IsTrue (S.Pages.tells stage.old) → KeepsPages (S.Pages.map stage.old) (S.Pages.map stage.new)) }
-    ensures tells { S.Pages.tells stage.new ≡ S.Pages.tells stage.old }
+    ensures change { OnOk result (IsTrue (S.tells stage.old)
+        → Replaces chain.old.items chain.new.items (S.map stage.old) (S.map stage.new)) }
+    ensures keeps { OnOk result (IsTrue (S.tells stage.old) → KeepsPages (S.map stage.old) (S.map stage.new)) }
+    ensures tells { S.tells stage.new ≡ S.tells stage.old }
 {
     let page = stage.allot()?;
     let mut bytes = blank_page();
@@ -30,11 +30,11 @@ fn grow_twice<S: Stage>(
     chain: &mut Vec<u64>,
     other: &[u64],
 ) -> Result<(), StageFault>
-    ensures change { OnOk result (IsTrue (S.Pages.tells stage.old)
-        → Replaces chain.old.items chain.new.items (S.Pages.map stage.old) (S.Pages.map stage.new)) }
-    ensures other { OnOk result (IsTrue (S.Pages.tells stage.old)
-        → AreInMap (S.Pages.map stage.old) other.now → AreApart other.now chain.old.items
-        → AgreeOn other.now (S.Pages.map stage.old) (S.Pages.map stage.new)) }
+    ensures change { OnOk result (IsTrue (S.tells stage.old)
+        → Replaces chain.old.items chain.new.items (S.map stage.old) (S.map stage.new)) }
+    ensures other { OnOk result (IsTrue (S.tells stage.old)
+        → AreInMap (S.map stage.old) other.now → AreApart other.now chain.old.items
+        → AgreeOn other.now (S.map stage.old) (S.map stage.new)) }
 {
     grow(stage, chain)?;
     grow(stage, chain)
@@ -63,7 +63,7 @@ fn first_byte(stage: &mut MemStage, page: u64) -> Result<u8, PageFault>
 
 // Gives out a page and overwrites it.
 fn written<S: Stage>(stage: &mut S) -> Result<u64, StageFault>
-    ensures { IfOk result (λ page. IsTrue (S.Pages.tells stage.new) → IsSome (S.Pages.map stage.new page)) }
+    ensures { IfOk result (λ page. IsTrue (S.tells stage.new) → IsSome (S.map stage.new page)) }
 {
     let page = stage.allot()?;
     stage.put(page, &[7; 4096])?;

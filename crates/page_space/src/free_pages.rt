@@ -9,7 +9,7 @@ ghost use Rattle.page_space.specs.Chain.{LeadsOn, FreeInOrder};
 
 use crate::Staged;
 use page_disk::Disk;
-use page_layout::FreePage;
+use page_layout::{FreePage, Spelled};
 use page_ports::{Page, PageFault, StageFault, blank_page};
 
 // A page that can be given out, and what the stage keeps when it is: the first free page then and the

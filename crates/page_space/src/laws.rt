@@ -1,7 +1,7 @@
 //! What is so of every space.
 ghost use Rattle.page_space.specs.Laws.{CreatedHolds, HoldsOne, HoldsOrder};
 
-use page_layout::{Meta, Super};
+use page_layout::{Meta, Spelled, Super};
 use redo_journal::settling_laws;
 
 /// Proves that a new warehouse is a space; it does nothing when it runs.

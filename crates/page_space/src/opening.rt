@@ -19,7 +19,7 @@ use crate::{OpenFault, OpenRefused, Space};
 use bw_types::Params;
 use page_cache::Cache;
 use page_disk::{Area, Disk};
-use page_layout::{Meta, Super};
+use page_layout::{Meta, Spelled, Super};
 use page_ports::{Page, PageFault, blank_page};
 use std::alloc::Global;
 

@@ -10,7 +10,7 @@ use crate::Space;
 use crate::copying::copied;
 use crate::opening::META_PAGE;
 use page_disk::Disk;
-use page_layout::Meta;
+use page_layout::{Meta, Spelled};
 use page_ports::{Page, PageFault, blank_page};
 use redo_journal::{Images, NoMemory};
 

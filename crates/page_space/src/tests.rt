@@ -8,7 +8,7 @@ use crate::{OpenFault, OpenRefused, Space, Staged};
 use arrayvec::ArrayVec;
 use bw_types::{Params, Tree};
 use page_disk::{Area, Disk, Failed, MemDisk, Torn};
-use page_layout::{Meta, Super};
+use page_layout::{Meta, Spelled, Super};
 use page_ports::{Page, PageFault, Pages, Stage, StageFault, blank_page};
 use redo_journal::create;
 use std::alloc::Global;

@@ -16,7 +16,7 @@ use crate::images::Images;
 use crate::writes::{put_behind, put_home, write_gate};
 use arrayvec::ArrayVec;
 use page_disk::{Disk, Failed};
-use page_layout::JournalHead;
+use page_layout::{JournalHead, Spelled};
 use page_ports::{Page, blank_page};
 use std::collections::btree_map::{Iter, Keys};
 

@@ -1,7 +1,7 @@
 //! What follows of the pages that a disk stands for.
 ghost use Rattle.redo_journal.specs.Settled.{ArmedSettles, BreaksAtOne, HoldsOrBreaks, IdleSettles, SettlesToOne};
 
-use page_layout::JournalHead;
+use page_layout::{JournalHead, Spelled};
 
 /// Proves laws of what a disk stands for; it does nothing when it runs.
 pub fn settling_laws()

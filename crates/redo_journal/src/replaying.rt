@@ -17,7 +17,7 @@ ghost use Rattle.redo_journal.specs.Replay.{CountsDisk, OnDamaged};
 use crate::laws::settling_laws;
 use crate::writes::{put_home, write_gate};
 use page_disk::{Area, Disk, Failed};
-use page_layout::JournalHead;
+use page_layout::{JournalHead, Spelled};
 use page_ports::blank_page;
 
 /// Why a replay ended early.

@@ -29,7 +29,7 @@ pub record Fitting (level : ℕ) (es : List SbEntry) (low high : ℕ) : Type 0 w
 pub fitting : (level : ℕ) (place : Place) (node : SbNode) (bytes : List ℕ) → FitsPlace level place node bytes → Fitting level node.entries.items place.low place.high
 fitting level place node bytes f =
     let p = proper node.level node.entries.items f.fits.rules.entries f.fits.typed in
-    record { proper = subst (λ (l : ℕ). Proper l node.entries.items) f.fits.at_level p; from = f.from; below = f.below }
+    record { proper = subst (λ (l : ℕ). Proper l node.entries.items) f.fits.at_level p; from = f.admitted.from; below = f.admitted.below }
 
 pub ascends_before : (xs : List SbEntry) (y : SbEntry) (ys : List SbEntry) → Ascends (xs ++ (y ∷ ys)) → All (λ e. e.low < y.low) xs
 ascends_before [] y ys a = All-nil (λ (e : SbEntry). e.low < y.low)

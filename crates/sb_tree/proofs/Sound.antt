@@ -24,9 +24,11 @@ pub fits_where_stands : (pages : PageMap) (level page least : ℕ) (place : Plac
     → place.low ≤ place.sought → FitsPlace level place (node_on pages page) (sb_node_page (node_on pages page))
 fits_where_stands pages level page least place s from = record {
   fits = level_where_stands pages level page place.low place.high least s;
-  from = all_from (entries_on pages page) place.low place.high (ascends (entries_on pages page) s.rules.entries.order) s.begins;
-  below = s.ends;
-  leads = inr (subst (λ (n : ℕ). n ≤ place.sought) (sym s.begins) from);
+  admitted = record {
+    from = all_from (entries_on pages page) place.low place.high (ascends (entries_on pages page) s.rules.entries.order) s.begins;
+    below = s.ends;
+    leads = inr (subst (λ (n : ℕ). n ≤ place.sought) (sym s.begins) from);
+  };
 }
 
 -- the place to which a node that stands leads, and what stands there

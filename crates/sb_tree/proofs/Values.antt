@@ -85,7 +85,7 @@ leads_at_cut place inner node entries k child same cut is_child low high sought 
 pub some_at_cut : (level : ℕ) (place : Place) (node : SbNode) (entries : List SbEntry) (k : ℕ) (bytes : List ℕ) → entries ≡ node.entries.items
     → FitsPlace level place node bytes → level ≢ 1 → IsCut entries k place.sought → 1 ≤ k
 some_at_cut level place node entries k bytes same fits index cut =
-    elim fits.leads [
+    elim fits.admitted.leads [
       | inl leaf ↦ absurd (index leaf)
       | inr first ↦ some_begun entries k place.sought place.high cut (subst (λ (es : List SbEntry). 1 ≤ length es) (sym same) fits.fits.rules.some) (subst (λ (es : List SbEntry). first_low es place.high ≤ place.sought) (sym same) first)
     ]

@@ -4,27 +4,33 @@ use Rattle.std.specs.List.{All, list_any}
 use Rattle.bw_types.specs.declared.tree.Tree.{Tree}
 use Rattle.page_ports.specs.Pages.{PageMap}
 use Rattle.page_layout.specs.Damage.{IsDamagedBelow}
-use Rattle.page_layout.specs.SbNode.{IsSbNode, IsTyped, sb_node_page}
+use Rattle.page_layout.specs.TreePage as tree_page
+use Rattle.page_layout.specs.declared.spelled.Spelled.{Ghosts}
+use Rattle.page_layout.specs.SbNode.{IsSbNode, IsTyped, sb_node_page, sb_node_in}
 use Rattle.page_layout.specs.declared.sb_node.SbNode.{SbNode}
 use Rattle.page_layout.specs.declared.sb_node.SbEntry.{SbEntry}
 use Rattle.sb_tree.specs.declared.place.Place.{Place}
 use Rattle.sb_tree.specs.Steps.{entries_on, child_at}
 use Rattle.sb_tree.specs.Stands.{first_low}
 
--- The bytes spell a node of this level.
-pub record FitsLevel (level : ℕ) (node : SbNode) (bytes : List ℕ) : Type 0 where
-  pub spelled : bytes ≡ sb_node_page node
-  pub rules : IsSbNode node
-  pub typed : IsTyped node
-  pub at_level : node.level ≡ level
+-- what pages spell as nodes
+abbrev pub sb_pages : Ghosts SbNode
+sb_pages = record { keeps = IsSbNode; is_typed = IsTyped; spelling = sb_node_page; value_in = sb_node_in }
 
--- The bytes spell a node of this level whose entries begin within the place; in an index node one of them
--- begins at or below the version sought.
-pub record FitsPlace (level : ℕ) (place : Place) (node : SbNode) (bytes : List ℕ) : Type 0 where
-  pub fits : FitsLevel level node bytes
+-- The bytes spell a node of this level.
+abbrev pub FitsLevel : ℕ → SbNode → List ℕ → Type 0
+FitsLevel level node bytes = tree_page.FitsLevel sb_pages (λ n. n.level) level node bytes
+
+-- The node keeps to the place: its entries begin within it; in an index node one of them begins at or
+-- below the version sought.
+pub record IsInPlace (level : ℕ) (place : Place) (node : SbNode) : Type 0 where
   pub from : All (λ e. place.low ≤ e.low) node.entries.items
   pub below : All (λ e. e.low < place.high) node.entries.items
   pub leads : (level ≡ 1) ⊎ (first_low node.entries.items place.high ≤ place.sought)
+
+-- The bytes spell a node of this level that keeps to the place.
+abbrev pub FitsPlace : ℕ → Place → SbNode → List ℕ → Type 0
+FitsPlace level place node bytes = tree_page.FitsPlace sb_pages (λ n. n.level) IsInPlace level place node bytes
 
 -- where the last entry begins that does so at or below the version, or `before` where there is none
 abbrev pub low_from : ℕ → List SbEntry → ℕ → ℕ

@@ -1,11 +1,10 @@
 //! Additions.
 ghost use Rattle.std.specs.Prelude.{◌≡◌, ◌≢◌, ◌+◌, ◌<◌, ◌≤◌, ◌^◌, ◌==◌, ◌⊎◌, false, ℕ, List, ◌∷◌, length, Some, None, Err, IsTrue, IfOk, OnOk, OnErr};
 ghost use Rattle.bw_types.specs.declared.point.Point.{Point};
-ghost use Rattle.page_ports.specs.Frame.{Replaces, KeepsPages};
-ghost use Rattle.page_ports.specs.Pages.{Rose};
+ghost use Rattle.page_ports.specs.Calls.{Grows};
+ghost use Rattle.page_ports.specs.Frame.{Replaces};
 ghost use Rattle.page_layout.specs.Damage.{IsDamagedBelow};
 ghost use Rattle.page_layout.specs.Footprint.{NamesNoneTwice};
-ghost use Rattle.page_layout.specs.SbNode.{IsSbNode, sb_node_page};
 ghost use Rattle.sb_tree.specs.Damage.{FitsPlace, IsDamagedForAdd, IsFullBelow, LeadsTo};
 ghost use Rattle.sb_tree.specs.Edits.{first_entries, leaf_entry as spec_leaf_entry, root_entries};
 ghost use Rattle.sb_tree.specs.Raised.{IsRaised, SecondFits, WasFull};
@@ -15,12 +14,12 @@ ghost use Rattle.sb_tree.specs.Stored.{page_of};
 
 use crate::edit::{add_beside, take_in};
 use crate::entries::{begun_count, child_before, inner_place};
-use crate::node::staged_in_place;
 use crate::place::{Place, root_place};
 use crate::second::Second;
-use crate::store::{put_node, store};
+use crate::store::store;
 use arrayvec::ArrayVec;
 use bw_types::Tree;
+use page_access::{make_page, read_in_place};
 use page_layout::{SbEntry, SbNode};
 use page_ports::{Stage, StageFault};
 
@@ -38,41 +37,25 @@ pub fn sb_add<S: Stage>(
     version: u32,
     value: u128,
 ) -> Result<(), StageFault>
-    ensures stands { OnOk result (IsTrue (S.Pages.tells stage.old) → (points : List Point) (p : Point)
-        → SbStands (S.Pages.map stage.old) tree.old points → length points < 2 ^ 31 → p.version ≡ version → p.weight ≡ value
-        → SbStands (S.Pages.map stage.new) tree.new (p ∷ points)) }
-    ensures balanced { OnOk result (IsTrue (S.Pages.tells stage.old) → (points : List Point)
-        → SbStands (S.Pages.map stage.old) tree.old points → length points < 2 ^ 31 → IsBalanced tree.old → IsBalanced tree.new) }
+    ensures stands { OnOk result (IsTrue (S.tells stage.old) → (points : List Point) (p : Point)
+        → SbStands (S.map stage.old) tree.old points → length points < 2 ^ 31 → p.version ≡ version → p.weight ≡ value
+        → SbStands (S.map stage.new) tree.new (p ∷ points)) }
+    ensures balanced { OnOk result (IsTrue (S.tells stage.old) → (points : List Point)
+        → SbStands (S.map stage.old) tree.old points → length points < 2 ^ 31 → IsBalanced tree.old → IsBalanced tree.new) }
     // The map changes exactly by the tree's pages.
-    ensures change { OnOk result (IsTrue (S.Pages.tells stage.old) → (points : List Point)
-        → SbStands (S.Pages.map stage.old) tree.old points
-        → Replaces (tree_pages (S.Pages.map stage.old) tree.old) (tree_pages (S.Pages.map stage.new) tree.new)
-        (S.Pages.map stage.old) (S.Pages.map stage.new)) }
-    ensures keeps { IsTrue (S.Pages.tells stage.old) → KeepsPages (S.Pages.map stage.old) (S.Pages.map stage.new) }
+    ensures change { OnOk result (IsTrue (S.tells stage.old) → (points : List Point)
+        → SbStands (S.map stage.old) tree.old points
+        → Replaces (tree_pages (S.map stage.old) tree.old) (tree_pages (S.map stage.new) tree.new)
+        (S.map stage.old) (S.map stage.new)) }
     ensures count { OnOk result (tree.new.count ≡ tree.old.count + 1) }
-    ensures refused { OnErr result (tree.new ≡ tree.old) }
-    ensures disk { result ≡ Err StageFault.Disk → Rose (S.Pages.faults stage.old) (S.Pages.faults stage.new) }
-    ensures page_limit { (n : ℕ) → result ≡ Err (StageFault.PageLimit n)
-        → (n ≡ S.Pages.limit stage.old) × (S.Pages.allotted stage.new ≡ n) × (n < S.Pages.allotted stage.old + (tree.old.levels + 1)) }
-    ensures limit_passed { (points : List Point) (n : ℕ) → result ≡ Err (StageFault.PageLimit n) → IsTrue (S.Pages.tells stage.old)
-        → SbStands (S.Pages.map stage.old) tree.old points → length points < 2 ^ 31 → IsBalanced tree.old
-        → S.Pages.limit stage.old < S.Pages.allotted stage.old + 8 }
-    ensures damaged { (page : ℕ) → result ≡ Err (StageFault.Damaged page) → IsTrue (S.Pages.tells stage.old)
-        → IsDamagedForAdd (S.Pages.map stage.old) (S.Pages.free_in_order stage.old) tree.old version page }
-    ensures sound { (points : List Point) (page : ℕ) → IsTrue (S.Pages.tells stage.old)
-        → SbStands (S.Pages.map stage.old) tree.old points → length points < 2 ^ 31 → IsBalanced tree.old
-        → S.Pages.free_in_order stage.old → result ≢ Err (StageFault.Damaged page) }
-    // One page a level and a new root at most; where the tree stood and was balanced, 8.
-    ensures growth { S.Pages.allotted stage.new ≤ S.Pages.allotted stage.old + (tree.old.levels + 1) }
-    ensures at_most { (points : List Point) → IsTrue (S.Pages.tells stage.old) → SbStands (S.Pages.map stage.old) tree.old points → length points < 2 ^ 31
-        → IsBalanced tree.old → S.Pages.allotted stage.new ≤ S.Pages.allotted stage.old + 8 }
-    ensures allotted { S.Pages.allotted stage.old ≤ S.Pages.allotted stage.new }
-    ensures gets { S.Pages.gets stage.old ≤ S.Pages.gets stage.new }
-    ensures faults { S.Pages.faults stage.old ≤ S.Pages.faults stage.new }
-    ensures tells { S.Pages.tells stage.new ≡ S.Pages.tells stage.old }
-    ensures base { S.Pages.base stage.new ≡ S.Pages.base stage.old }
-    ensures limit { S.Pages.limit stage.new ≡ S.Pages.limit stage.old }
-    ensures free_in_order { IsTrue (S.Pages.tells stage.old) → S.Pages.free_in_order stage.old → S.Pages.free_in_order stage.new }
+    ensures unchanged { OnErr result (tree.new ≡ tree.old) }
+    ensures damaged { (page : ℕ) → result ≡ Err (StageFault.Damaged page) → IsTrue (S.tells stage.old)
+        → IsDamagedForAdd (S.map stage.old) (S.free_in_order stage.old) tree.old version page }
+    ensures sound { (points : List Point) (page : ℕ) → IsTrue (S.tells stage.old)
+        → SbStands (S.map stage.old) tree.old points → length points < 2 ^ 31 → IsBalanced tree.old
+        → S.free_in_order stage.old → result ≢ Err (StageFault.Damaged page) }
+    // One page a level and a new root at most. A balanced tree has at most 7 levels (`tree_laws`).
+    ensures grows { Grows S.Pages (tree.old.levels + 1) stage.old stage.new result }
 {
     if tree.count >= 1 << 31 {
         return Err(StageFault::Damaged(tree.root));
@@ -125,28 +108,17 @@ fn add_below<S: Stage>(
 ) -> Result<Option<Second>, StageFault>
     requires level { 1 ≤ level }
     requires place { (place.low ≤ place.sought) × (place.sought < place.high) × (place.sought < 2 ^ 32) }
-    ensures raised { IfOk result (λ second. IsTrue (S.Pages.tells stage.old) → (least : ℕ)
-        → StandsBelow level (S.Pages.map stage.old) page place.low place.high least → NamesNoneTwice (pages_below level (S.Pages.map stage.old) page)
-        → IsRaised level (S.Pages.map stage.old) (S.Pages.map stage.new) page place.low place.high least place.sought value second) }
+    ensures raised { IfOk result (λ second. IsTrue (S.tells stage.old) → (least : ℕ)
+        → StandsBelow level (S.map stage.old) page place.low place.high least → NamesNoneTwice (pages_below level (S.map stage.old) page)
+        → IsRaised level (S.map stage.old) (S.map stage.new) page place.low place.high least place.sought value second) }
     ensures second { IfOk result (λ second. SecondFits place.low place.high second) }
-    ensures full { IfOk result (λ second. IsTrue (S.Pages.tells stage.old) → WasFull second (IsFullBelow level (S.Pages.map stage.old) page place.sought)) }
+    ensures full { IfOk result (λ second. IsTrue (S.tells stage.old) → WasFull second (IsFullBelow level (S.map stage.old) page place.sought)) }
     ensures level { OnOk result (level ≤ 16) }
-    ensures keeps { IsTrue (S.Pages.tells stage.old) → KeepsPages (S.Pages.map stage.old) (S.Pages.map stage.new) }
-    ensures disk { result ≡ Err StageFault.Disk → Rose (S.Pages.faults stage.old) (S.Pages.faults stage.new) }
-    ensures page_limit { (n : ℕ) → result ≡ Err (StageFault.PageLimit n)
-        → (n ≡ S.Pages.limit stage.old) × (S.Pages.allotted stage.new ≡ n) × (n < S.Pages.allotted stage.old + level) }
-    ensures damaged { (damaged : ℕ) → result ≡ Err (StageFault.Damaged damaged) → IsTrue (S.Pages.tells stage.old)
-        → IsDamagedBelow FitsPlace LeadsTo (S.Pages.map stage.old) level place page damaged ⊎ (¬ S.Pages.free_in_order stage.old) }
-    ensures growth { S.Pages.allotted stage.new ≤ S.Pages.allotted stage.old + level }
-    ensures allotted { S.Pages.allotted stage.old ≤ S.Pages.allotted stage.new }
-    ensures gets { S.Pages.gets stage.old ≤ S.Pages.gets stage.new }
-    ensures faults { S.Pages.faults stage.old ≤ S.Pages.faults stage.new }
-    ensures tells { S.Pages.tells stage.new ≡ S.Pages.tells stage.old }
-    ensures base { S.Pages.base stage.new ≡ S.Pages.base stage.old }
-    ensures limit { S.Pages.limit stage.new ≡ S.Pages.limit stage.old }
-    ensures free_in_order { IsTrue (S.Pages.tells stage.old) → S.Pages.free_in_order stage.old → S.Pages.free_in_order stage.new }
+    ensures damaged { (damaged : ℕ) → result ≡ Err (StageFault.Damaged damaged) → IsTrue (S.tells stage.old)
+        → IsDamagedBelow FitsPlace LeadsTo (S.map stage.old) level place page damaged ⊎ (¬ S.free_in_order stage.old) }
+    ensures grows { Grows S.Pages level stage.old stage.new result }
 {
-    let mut node = staged_in_place(stage, page, level, place)?;
+    let mut node: SbNode = read_in_place(stage, page, level, place)?;
     if level == 1 {
         take_in(&mut node.entries, place.sought, value);
         return store(stage, page, node);
@@ -162,29 +134,18 @@ fn add_below<S: Stage>(
 
 // A leaf of one addition.
 fn first_leaf<S: Stage>(stage: &mut S, version: u32, value: u128) -> Result<u64, StageFault>
-    ensures made { IfOk result (λ page. IsTrue (S.Pages.tells stage.old) → (S.Pages.map stage.old page ≡ None)
-        × (S.Pages.map stage.new page ≡ Some (page_of 1 (first_entries version value)))
-        × ((p : ℕ) → (page == p) ≡ false → S.Pages.map stage.new p ≡ S.Pages.map stage.old p)) }
-    ensures keeps { IsTrue (S.Pages.tells stage.old) → KeepsPages (S.Pages.map stage.old) (S.Pages.map stage.new) }
-    ensures disk { result ≡ Err StageFault.Disk → Rose (S.Pages.faults stage.old) (S.Pages.faults stage.new) }
-    ensures page_limit { (n : ℕ) → result ≡ Err (StageFault.PageLimit n)
-        → (n ≡ S.Pages.limit stage.old) × (S.Pages.allotted stage.new ≡ n) × (n ≡ S.Pages.allotted stage.old) }
-    ensures damaged { (p : ℕ) → result ≡ Err (StageFault.Damaged p) → IsTrue (S.Pages.tells stage.old) → ¬ S.Pages.free_in_order stage.old }
-    ensures at_most_one { S.Pages.allotted stage.new ≤ S.Pages.allotted stage.old + 1 }
-    ensures allotted { S.Pages.allotted stage.old ≤ S.Pages.allotted stage.new }
-    ensures gets { S.Pages.gets stage.old ≤ S.Pages.gets stage.new }
-    ensures faults { S.Pages.faults stage.old ≤ S.Pages.faults stage.new }
-    ensures tells { S.Pages.tells stage.new ≡ S.Pages.tells stage.old }
-    ensures base { S.Pages.base stage.new ≡ S.Pages.base stage.old }
-    ensures limit { S.Pages.limit stage.new ≡ S.Pages.limit stage.old }
-    ensures free_in_order { IsTrue (S.Pages.tells stage.old) → S.Pages.free_in_order stage.old → S.Pages.free_in_order stage.new }
+    ensures made { IfOk result (λ page. IsTrue (S.tells stage.old) → (S.map stage.old page ≡ None)
+        × (S.map stage.new page ≡ Some (page_of 1 (first_entries version value)))
+        × ((p : ℕ) → (page == p) ≡ false → S.map stage.new p ≡ S.map stage.old p)) }
+    ensures damaged { (p : ℕ) → result ≡ Err (StageFault.Damaged p) → IsTrue (S.tells stage.old) → ¬ S.free_in_order stage.old }
+    ensures grows { Grows S.Pages 1 stage.old stage.new result }
 {
     let mut entries = ArrayVec::new();
     if version > 0 {
         entries.push(leaf_entry(0, 0));
     }
     entries.push(leaf_entry(version, value));
-    make_node(stage, SbNode { level: 1, entries })
+    make_page(stage, &SbNode { level: 1, entries })
 }
 
 fn leaf_entry(low: u32, value: u128) -> SbEntry
@@ -207,22 +168,11 @@ fn new_root<S: Stage>(
     requires levels { (1 ≤ levels) × (levels < 16) }
     requires pages { (3 ≤ first) × (3 ≤ second.page) }
     requires low { 0 < second.low }
-    ensures made { IfOk result (λ page. IsTrue (S.Pages.tells stage.old) → (S.Pages.map stage.old page ≡ None)
-        × (S.Pages.map stage.new page ≡ Some (page_of (levels + 1) (root_entries first second)))
-        × ((p : ℕ) → (page == p) ≡ false → S.Pages.map stage.new p ≡ S.Pages.map stage.old p)) }
-    ensures keeps { IsTrue (S.Pages.tells stage.old) → KeepsPages (S.Pages.map stage.old) (S.Pages.map stage.new) }
-    ensures disk { result ≡ Err StageFault.Disk → Rose (S.Pages.faults stage.old) (S.Pages.faults stage.new) }
-    ensures page_limit { (n : ℕ) → result ≡ Err (StageFault.PageLimit n)
-        → (n ≡ S.Pages.limit stage.old) × (S.Pages.allotted stage.new ≡ n) × (n ≡ S.Pages.allotted stage.old) }
-    ensures damaged { (p : ℕ) → result ≡ Err (StageFault.Damaged p) → IsTrue (S.Pages.tells stage.old) → ¬ S.Pages.free_in_order stage.old }
-    ensures at_most_one { S.Pages.allotted stage.new ≤ S.Pages.allotted stage.old + 1 }
-    ensures allotted { S.Pages.allotted stage.old ≤ S.Pages.allotted stage.new }
-    ensures gets { S.Pages.gets stage.old ≤ S.Pages.gets stage.new }
-    ensures faults { S.Pages.faults stage.old ≤ S.Pages.faults stage.new }
-    ensures tells { S.Pages.tells stage.new ≡ S.Pages.tells stage.old }
-    ensures base { S.Pages.base stage.new ≡ S.Pages.base stage.old }
-    ensures limit { S.Pages.limit stage.new ≡ S.Pages.limit stage.old }
-    ensures free_in_order { IsTrue (S.Pages.tells stage.old) → S.Pages.free_in_order stage.old → S.Pages.free_in_order stage.new }
+    ensures made { IfOk result (λ page. IsTrue (S.tells stage.old) → (S.map stage.old page ≡ None)
+        × (S.map stage.new page ≡ Some (page_of (levels + 1) (root_entries first second)))
+        × ((p : ℕ) → (page == p) ≡ false → S.map stage.new p ≡ S.map stage.old p)) }
+    ensures damaged { (p : ℕ) → result ≡ Err (StageFault.Damaged p) → IsTrue (S.tells stage.old) → ¬ S.free_in_order stage.old }
+    ensures grows { Grows S.Pages 1 stage.old stage.new result }
 {
     let mut entries = ArrayVec::new();
     entries.push(SbEntry {
@@ -236,30 +186,5 @@ fn new_root<S: Stage>(
         child: second.page,
     });
     let level = levels + 1;
-    make_node(stage, SbNode { level, entries })
-}
-
-// A new page that holds the node.
-fn make_node<S: Stage>(stage: &mut S, node: SbNode) -> Result<u64, StageFault>
-    requires { IsSbNode node }
-    ensures made { IfOk result (λ page. IsTrue (S.Pages.tells stage.old) → (S.Pages.map stage.old page ≡ None)
-        × (S.Pages.map stage.new page ≡ Some (sb_node_page node))
-        × ((p : ℕ) → (page == p) ≡ false → S.Pages.map stage.new p ≡ S.Pages.map stage.old p)) }
-    ensures keeps { IsTrue (S.Pages.tells stage.old) → KeepsPages (S.Pages.map stage.old) (S.Pages.map stage.new) }
-    ensures disk { result ≡ Err StageFault.Disk → Rose (S.Pages.faults stage.old) (S.Pages.faults stage.new) }
-    ensures page_limit { (n : ℕ) → result ≡ Err (StageFault.PageLimit n)
-        → (n ≡ S.Pages.limit stage.old) × (S.Pages.allotted stage.new ≡ n) × (n ≡ S.Pages.allotted stage.old) }
-    ensures damaged { (p : ℕ) → result ≡ Err (StageFault.Damaged p) → IsTrue (S.Pages.tells stage.old) → ¬ S.Pages.free_in_order stage.old }
-    ensures at_most_one { S.Pages.allotted stage.new ≤ S.Pages.allotted stage.old + 1 }
-    ensures allotted { S.Pages.allotted stage.old ≤ S.Pages.allotted stage.new }
-    ensures gets { S.Pages.gets stage.old ≤ S.Pages.gets stage.new }
-    ensures faults { S.Pages.faults stage.old ≤ S.Pages.faults stage.new }
-    ensures tells { S.Pages.tells stage.new ≡ S.Pages.tells stage.old }
-    ensures base { S.Pages.base stage.new ≡ S.Pages.base stage.old }
-    ensures limit { S.Pages.limit stage.new ≡ S.Pages.limit stage.old }
-    ensures free_in_order { IsTrue (S.Pages.tells stage.old) → S.Pages.free_in_order stage.old → S.Pages.free_in_order stage.new }
-{
-    let page = stage.allot()?;
-    put_node(stage, page, &node)?;
-    Ok(page)
+    make_page(stage, &SbNode { level, entries })
 }

@@ -14,7 +14,6 @@ mod edit;
 mod entries;
 mod free;
 mod laws;
-mod node;
 mod place;
 mod second;
 mod store;

@@ -1,17 +1,18 @@
 //! The value at a version.
-ghost use Rattle.std.specs.Prelude.{◌≡◌, ◌≢◌, ◌+◌, ◌≤◌, ◌%◌, ◌^◌, ℕ, List, [], Err, IsTrue, IfOk};
+ghost use Rattle.std.specs.Prelude.{◌≡◌, ◌≢◌, ◌%◌, ◌^◌, ℕ, List, [], Err, IsTrue, IfOk};
 ghost use Rattle.bw_types.specs.Dominance.{dominance_sum};
 ghost use Rattle.bw_types.specs.declared.point.Point.{Point};
 ghost use Rattle.page_layout.specs.Damage.{IsDamagedBelow};
-ghost use Rattle.page_ports.specs.Pages.{Rose};
+ghost use Rattle.page_ports.specs.Calls.{OnlyReads};
 ghost use Rattle.sb_tree.specs.Damage.{FitsPlace, IsDamagedOnPath, LeadsTo};
 ghost use Rattle.sb_tree.specs.Stands.{SbStands};
 ghost use Rattle.sb_tree.specs.Steps.{total_below, tree_value};
 
 use crate::entries::{begun_count, child_before, inner_place, total_of};
-use crate::node::node_in_place;
 use crate::place::{Place, root_place};
 use bw_types::Tree;
+use page_access::read_in_place;
+use page_layout::SbNode;
 use page_ports::{PageFault, Pages};
 
 /// The value of the tree at a version: the sum of what was added at that version and before, modulo
@@ -25,20 +26,11 @@ pub fn sb_value<P: Pages>(pages: &mut P, tree: &Tree, version: u32) -> Result<u1
     // Where the tree stands, this is the sum over its points.
     ensures sum { IfOk result (λ value. IsTrue (P.tells pages.old) → (points : List Point)
         → SbStands (P.map pages.old) tree.now points → value ≡ dominance_sum 0 points [] version) }
-    ensures disk { result ≡ Err PageFault.Disk → Rose (P.faults pages.old) (P.faults pages.new) }
     ensures damaged { (page : ℕ) → result ≡ Err (PageFault.Damaged page) → IsTrue (P.tells pages.old)
         → IsDamagedOnPath (P.map pages.old) tree.now version page }
     ensures sound { (points : List Point) (page : ℕ) → IsTrue (P.tells pages.old)
         → SbStands (P.map pages.old) tree.now points → result ≢ Err (PageFault.Damaged page) }
-    ensures at_most { P.gets pages.new ≤ P.gets pages.old + tree.now.levels }
-    ensures gets { P.gets pages.old ≤ P.gets pages.new }
-    ensures faults { P.faults pages.old ≤ P.faults pages.new }
-    ensures tells { P.tells pages.new ≡ P.tells pages.old }
-    ensures base { P.base pages.new ≡ P.base pages.old }
-    ensures map { P.map pages.new ≡ P.map pages.old }
-    ensures allotted { P.allotted pages.new ≡ P.allotted pages.old }
-    ensures limit { P.limit pages.new ≡ P.limit pages.old }
-    ensures free_in_order { P.free_in_order pages.old → P.free_in_order pages.new }
+    ensures reads { OnlyReads P.Pages tree.now.levels pages.old pages.new result }
 {
     value_below(pages, tree.root, tree.levels, root_place(version))
 }
@@ -52,23 +44,14 @@ fn value_below<P: Pages>(
 ) -> Result<u128, PageFault>
     ensures value { IfOk result (λ value. IsTrue (P.tells pages.old)
         → value ≡ total_below level (P.map pages.old) page place.sought % 2 ^ 128) }
-    ensures disk { result ≡ Err PageFault.Disk → Rose (P.faults pages.old) (P.faults pages.new) }
     ensures damaged { (damaged : ℕ) → result ≡ Err (PageFault.Damaged damaged) → IsTrue (P.tells pages.old)
         → IsDamagedBelow FitsPlace LeadsTo (P.map pages.old) level place page damaged }
-    ensures at_most { P.gets pages.new ≤ P.gets pages.old + level }
-    ensures gets { P.gets pages.old ≤ P.gets pages.new }
-    ensures faults { P.faults pages.old ≤ P.faults pages.new }
-    ensures tells { P.tells pages.new ≡ P.tells pages.old }
-    ensures base { P.base pages.new ≡ P.base pages.old }
-    ensures map { P.map pages.new ≡ P.map pages.old }
-    ensures allotted { P.allotted pages.new ≡ P.allotted pages.old }
-    ensures limit { P.limit pages.new ≡ P.limit pages.old }
-    ensures free_in_order { P.free_in_order pages.old → P.free_in_order pages.new }
+    ensures reads { OnlyReads P.Pages level pages.old pages.new result }
 {
     if level == 0 {
         return Ok(0);
     }
-    let node = node_in_place(pages, page, level, place)?;
+    let node: SbNode = read_in_place(pages, page, level, place)?;
     let entries = node.entries.as_slice();
     let begun = begun_count(entries, place.sought);
     let value = total_of(&entries[..begun]);

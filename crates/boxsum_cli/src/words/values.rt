@@ -2,8 +2,8 @@
 
 ghost use Rattle.std.specs.Prelude.{◌≡◌, ◌≤◌, IfSome, None, Some, option_map};
 ghost use Rattle.bw_types.specs.Fits.{IsInRange};
-ghost use Rattle.boxsum_cli.specs.Command.{value_from};
-ghost use Rattle.boxsum_cli.specs.Reading.{params_from, params_words, read_or, sample_numbers};
+ghost use Rattle.boxsum_cli.specs.Command.{params_from, read_or, sample_from, value_from, version_from};
+ghost use Rattle.boxsum_cli.specs.Reading.{words_of_text};
 
 use bw_types::Params;
 use csv_rows::number;
@@ -17,7 +17,7 @@ const USUAL_PAGES: u64 = 1048576;
 /// The values of a command that makes params, as text.
 #[derive(Clone, Copy)]
 pub struct ParamsText<'a> {
-    pub dims: &'a str,
+    pub dims: Option<&'a str>,
     pub degree: Option<&'a str>,
     pub events: Option<&'a str>,
     pub pages: Option<&'a str>,
@@ -61,10 +61,10 @@ fn degree(text: Option<&str>) -> Option<Option<u8>>
 
 /// The params that values give. None where one is not a number in its range.
 pub fn params(text: &ParamsText) -> Option<Params>
-    ensures value { result ≡ params_from (params_words text.now) }
+    ensures value { result ≡ params_from (words_of_text text.now) }
     ensures fits { IfSome result IsInRange }
 {
-    let dims = value(text.dims, 1, u64::from(Params::MOST_DIMS))?;
+    let dims = value(text.dims?, 1, u64::from(Params::MOST_DIMS))?;
     let degree = degree(text.degree)?;
     let events = value_or(text.events, USUAL_EVENTS, 1, u64::from(Params::MOST_EVENTS))?;
     let pages = value_or(
@@ -88,18 +88,18 @@ pub fn params(text: &ParamsText) -> Option<Params>
 }
 
 /// The start and the count of a sample. None where one is not a number in its range.
-pub fn sample_numbers(start: &str, count: Option<&str>) -> Option<(u64, u32)>
-    ensures { result ≡ sample_numbers start.now (option_map (λ v. v.now) count.entry) }
+pub fn sample_numbers(start: Option<&str>, count: Option<&str>) -> Option<(u64, u32)>
+    ensures { result ≡ sample_from (option_map (λ v. v.now) start.entry) (option_map (λ v. v.now) count.entry) }
 {
-    let start = value(start, 0, u64::MAX)?;
+    let start = value(start?, 0, u64::MAX)?;
     let count = value(count?, 0, MOST_SAMPLES)?;
     Some((start, count as u32))
 }
 
 /// The number of a version. None where the value is not one.
-pub fn version(text: &str) -> Option<u32>
-    ensures { result ≡ value_from 0 4294967295 text.now }
+pub fn version(text: Option<&str>) -> Option<u32>
+    ensures { result ≡ version_from (option_map (λ v. v.now) text.entry) }
 {
-    let version = value(text, 0, u64::from(u32::MAX))?;
+    let version = value(text?, 0, u64::from(u32::MAX))?;
     Some(version as u32)
 }

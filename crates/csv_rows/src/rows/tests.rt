@@ -3,7 +3,7 @@
 ghost use Rattle.std.specs.Prelude.{◌≤◌, IfSome};
 ghost use Rattle.bw_types.specs.Fits.{IsInRange};
 
-use super::{Input, read_row};
+use super::{Input, RowReader};
 use bw_types::{Kind, Object, Params, Query, Row};
 
 fn warehouse(dims: u8, degree: Option<u8>) -> Params
@@ -63,7 +63,10 @@ fn reads_good_lines(rt: HostRuntime) {
         ),
         (b"sum,now,120,139,190,209".as_slice(), ask(Kind::Sum)),
     ] {
-        assert_eq!(rt; read_row(rt.alloc(), line, &params), Ok(want));
+        assert_eq!(rt;
+            RowReader::new(rt.alloc()).read_row(rt.alloc(), line, &[], &params),
+            Ok(want)
+        );
     }
 }
 
@@ -79,6 +82,9 @@ fn refuses_bad_lines(rt: HostRuntime) {
         b"integral,now,0,1".as_slice(),
         [b'7'; 5000].as_slice(),
     ] {
-        assert_eq!(rt; read_row(rt.alloc(), line, &params), Ok(None));
+        assert_eq!(rt;
+            RowReader::new(rt.alloc()).read_row(rt.alloc(), line, &[], &params),
+            Ok(None)
+        );
     }
 }

@@ -22,8 +22,8 @@ store-requires-clause-rules g t c =
 pub returns-then-level-eq1-clause-raised : goal.returns-then-level-eq1-clause-raised
 returns-then-level-eq1-clause-raised g t c =
     IfOk-weaker c.store.result _ _ (λ second stored tells least stands once.
-    leaf_result c.args.level (g.S.Pages.map c.args.stage.now) (g.S.Pages.map c.staged_in_place.new.stage) (g.S.Pages.map c.store.new.stage) c.args.page least c.args.value c.args.place
-    c.in_ok-node.node c.take_in.new.entries.items second c.if-level-eq1.true c.staged_in_place.ensures.map (c.in_ok-node.ensures.found tells) c.in_ok-node.ensures.node c.take_in.ensures
+    leaf_result c.args.level (g.S.Pages.map c.args.stage.now) (g.S.Pages.map c.read_in_place.new.pages) (g.S.Pages.map c.store.new.stage) c.args.page least c.args.value c.args.place
+    c.in_ok-node.node c.take_in.new.entries.items second c.if-level-eq1.true c.read_in_place.ensures.reads.read.map (c.in_ok-node.ensures.found tells) c.in_ok-node.ensures.node c.take_in.ensures
     c.requires.place.0 c.requires.place.1 c.requires.place.2 (omega (arith, c.ranges.value.fits)) stands once (stored (search rules))) c.store.ensures.stored
 
 pub returns-then-level-eq1-clause-second : goal.returns-then-level-eq1-clause-second
@@ -70,10 +70,10 @@ returns-in_err-second-clause-damaged g t c = λ damaged e tells.
     c.begun_count-begun.ensures (c.child_before-child.ensures _ c.begun_count-begun.ensures) c.inner_place-inner.ensures.low c.inner_place-inner.ensures.high c.inner_place-inner.ensures.sought in
     elim (c.in_err-second.ensures.damaged damaged (ap Err same) (search rules)) [
       | inl why ↦
-          let below = subst (λ (m : PageMap). IsDamagedBelow FitsPlace LeadsTo m (c.args.level - 1) c.inner_place-inner.result c.child_before-child.result damaged) c.staged_in_place.ensures.map why in
+          let below = subst (λ (m : PageMap). IsDamagedBelow FitsPlace LeadsTo m (c.args.level - 1) c.inner_place-inner.result c.child_before-child.result damaged) c.read_in_place.ensures.reads.read.map why in
           inl (damaged_further (g.S.Pages.map c.args.stage.now) c.args.level c.args.page c.child_before-child.result c.args.place c.inner_place-inner.result c.in_ok-node.node damaged
           c.requires.level (c.in_ok-node.ensures.found tells) c.in_ok-node.ensures.node leads below)
-      | inr unordered ↦ inr (λ ordered. unordered (c.staged_in_place.ensures.free_in_order ordered))
+      | inr unordered ↦ inr (λ ordered. unordered (c.read_in_place.ensures.reads.read.free_in_order ordered))
     ]
 
 pub store-requires-2-clause-rules : goal.store-requires-2-clause-rules
@@ -89,9 +89,9 @@ returns-clause-raised g t c =
     let some = some_at_cut c.args.level c.args.place c.in_ok-node.node c.as_slice-entries.result.now c.begun_count-begun.result _ c.as_slice-entries.ensures.value
     c.in_ok-node.ensures.node c.if-level-eq1.false c.begun_count-begun.ensures in
     IfOk-weaker c.store-2.result _ _ (λ second stored tells least stands once.
-    index_result c.args.level (g.S.Pages.map c.args.stage.now) (g.S.Pages.map c.staged_in_place.new.stage) (g.S.Pages.map c.add_below.new.stage) (g.S.Pages.map c.store-2.new.stage) c.args.page least c.args.value
+    index_result c.args.level (g.S.Pages.map c.args.stage.now) (g.S.Pages.map c.read_in_place.new.pages) (g.S.Pages.map c.add_below.new.stage) (g.S.Pages.map c.store-2.new.stage) c.args.page least c.args.value
     c.begun_count-begun.result c.child_before-child.result c.args.place c.inner_place-inner.result c.in_ok-node.node c.as_slice-entries.result.now c.add_beside.new.entries.items c.in_ok-second.second second
-    c.requires.level c.if-level-eq1.false c.staged_in_place.ensures.map (c.in_ok-node.ensures.found tells) c.in_ok-node.ensures.node
+    c.requires.level c.if-level-eq1.false c.read_in_place.ensures.reads.read.map (c.in_ok-node.ensures.found tells) c.in_ok-node.ensures.node
     c.as_slice-entries.ensures.value c.begun_count-begun.ensures some c.requires.place.0 c.requires.place.1
     c.inner_place-inner.ensures.low c.inner_place-inner.ensures.high c.inner_place-inner.ensures.sought (c.child_before-child.ensures _ c.begun_count-begun.ensures)
     c.in_ok-second.ensures.second c.add_beside.ensures (c.in_ok-second.ensures.raised (search rules)) stands once (stored (search rules))) c.store-2.ensures.stored
@@ -114,4 +114,4 @@ returns-clause-full g t c =
     (entries_on-spelled (g.S.Pages.map c.args.stage.now) c.args.page c.in_ok-node.node c.in_ok-node.ensures.node.fits.typed c.in_ok-node.ensures.node.fits.rules (c.in_ok-node.ensures.found tells))
     c.in_ok-node.ensures.node.fits.rules.few c.add_beside.ensures is_second
     (c.child_before-child.ensures _ c.begun_count-begun.ensures ∙ ap (λ (es : List SbEntry). child_at es c.args.place.sought) c.as_slice-entries.ensures.value) c.inner_place-inner.ensures.sought
-    (subst (λ (m : PageMap). WasFull c.in_ok-second.second (IsFullBelow (c.args.level - 1) m c.child_before-child.result c.inner_place-inner.result.sought)) c.staged_in_place.ensures.map (c.in_ok-second.ensures.full (search rules)))) c.store-2.ensures.second
+    (subst (λ (m : PageMap). WasFull c.in_ok-second.second (IsFullBelow (c.args.level - 1) m c.child_before-child.result c.inner_place-inner.result.sought)) c.read_in_place.ensures.reads.read.map (c.in_ok-second.ensures.full (search rules)))) c.store-2.ensures.second

@@ -1,7 +1,7 @@
 use Rattle.std.proofs.Common.{◌≡◌, ◌≤◌, ◌<◌, ◌^◌, inl, inr, IsTrue, length, ℕ, List, [], ◌∷◌, Err, arith, sym, subst, ap, ◌∙◌, refl}
 use Rattle.std.proofs.lemmas.Result.{err_from_is_err_and}
 use Rattle.bw_types.specs.declared.point.Point.{Point}
-use Rattle.page_ports.specs.declared.page.StageFault.TheVariants.{Damaged, PageLimit}
+use Rattle.page_ports.specs.declared.page.StageFault.TheVariants.{Damaged}
 use Rattle.page_layout.specs.Damage.{IsDamagedBelow}
 use Rattle.sb_tree.specs.declared.place.Place.{Place}
 use Rattle.sb_tree.specs.Damage.{FitsPlace, LeadsTo, IsFullBelow}
@@ -24,14 +24,6 @@ pub returns-then-tree-eq0-clause-balanced : goal.returns-then-tree-eq0-clause-ba
 returns-then-tree-eq0-clause-balanced g c = λ tells points s few balanced.
     balanced_first c.args.tree.now c.grown.result c.grown.ensures.levels c.grown.ensures.count
 
-pub returns-in_err-add_below-clause-limit_passed : goal.returns-in_err-add_below-clause-limit_passed
-returns-in_err-add_below-clause-limit_passed g c = λ points n e tells s few balanced.
-    let p = err_from_is_err_and c.from_residual-in_err-add_below.result c.from_residual-in_err-add_below.ensures.1 in
-    let same = exit_error c.from_residual-in_err-add_below.result c.in_err-add_below.field-0.0 (PageLimit n) p e in
-    let why = c.in_err-add_below.ensures.page_limit n (ap Err same) in
-    let low = few_levels (g.S.Pages.map c.args.stage.now) c.args.tree.now points s few balanced in
-    omega (arith, why.0, why.2, low)
-
 pub returns-in_err-add_below-clause-damaged : goal.returns-in_err-add_below-clause-damaged
 returns-in_err-add_below-clause-damaged g c = λ page e tells.
     let p = err_from_is_err_and c.from_residual-in_err-add_below.result c.from_residual-in_err-add_below.ensures.1 in
@@ -50,10 +42,6 @@ returns-in_err-add_below-clause-sound g c = λ points page tells s few balanced 
           (subst (λ (q : Place). IsDamagedBelow FitsPlace LeadsTo (g.S.Pages.map c.args.stage.now) c.args.tree.now.levels q c.args.tree.now.root page) c.root_place-place.ensures why)
       | inr unordered ↦ unordered ordered
     ]
-
-pub returns-in_err-add_below-clause-at_most : goal.returns-in_err-add_below-clause-at_most
-returns-in_err-add_below-clause-at_most g c = λ points tells s few balanced.
-    omega (arith, few_levels (g.S.Pages.map c.args.stage.now) c.args.tree.now points s few balanced, c.add_below.ensures.growth)
 
 pub returns-then-tree-ge16-clause-damaged : goal.returns-then-tree-ge16-clause-damaged
 returns-then-tree-ge16-clause-damaged g c = λ page e tells.
@@ -80,25 +68,9 @@ returns-then-tree-ge16-clause-sound g c = λ points page tells s few balanced or
           omega (arith, three, w.if-tree-lt3.true)
     ]
 
-pub returns-then-tree-ge16-clause-at_most : goal.returns-then-tree-ge16-clause-at_most
-returns-then-tree-ge16-clause-at_most g c = λ points tells s few balanced.
-    omega (arith, few_levels (g.S.Pages.map c.args.stage.now) c.args.tree.now points s few balanced, c.add_below.ensures.growth)
-
 pub new_root-requires-clause-pages : goal.new_root-requires-clause-pages
 new_root-requires-clause-pages g c =
     (c.if-tree-lt3.false, (second_of_tree c.args.version c.root_place-place.result c.in_ok-add_below.field-0 c.in-Some.second c.root_place-place.ensures c.in-Some.is c.in_ok-add_below.ensures.second).0)
-
-pub returns-in_err-root-in-Some-clause-limit_passed : goal.returns-in_err-root-in-Some-clause-limit_passed
-returns-in_err-root-in-Some-clause-limit_passed g c = λ points n e tells s few balanced.
-    let p = err_from_is_err_and c.from_residual-in_err-root-in-Some.result c.from_residual-in_err-root-in-Some.ensures.1 in
-    let same = exit_error c.from_residual-in_err-root-in-Some.result c.in_err-root-in-Some.field-0.0 (PageLimit n) p e in
-    let why = c.in_err-root-in-Some.ensures.page_limit n (ap Err same) in
-    let low = few_levels (g.S.Pages.map c.args.stage.now) c.args.tree.now points s few balanced in
-    omega (arith, why.0, why.2, low, c.add_below.ensures.growth, c.add_below.ensures.limit)
-
-pub returns-in_err-root-in-Some-clause-at_most : goal.returns-in_err-root-in-Some-clause-at_most
-returns-in_err-root-in-Some-clause-at_most g c = λ points tells s few balanced.
-    omega (arith, few_levels (g.S.Pages.map c.args.stage.now) c.args.tree.now points s few balanced, c.add_below.ensures.growth, c.new_root.ensures.at_most_one)
 
 pub returns-in-None-clause-stands : goal.returns-in-None-clause-stands
 returns-in-None-clause-stands g c = λ tells points p s few version weight.
@@ -122,10 +94,6 @@ returns-in-None-clause-change g c = λ tells points s.
     (grown_none c.args.tree.now c.grown-in-None.result (g.S.Pages.map c.args.stage.now) (g.S.Pages.map c.add_below.new.stage) c.args.version c.args.value c.in_ok-add_below.field-0 c.in-None.is some
     c.grown-in-None.ensures.root c.grown-in-None.ensures.levels r).change
 
-pub returns-in-None-clause-at_most : goal.returns-in-None-clause-at_most
-returns-in-None-clause-at_most g c = λ points tells s few balanced.
-    omega (arith, few_levels (g.S.Pages.map c.args.stage.now) c.args.tree.now points s few balanced, c.add_below.ensures.growth)
-
 grown_above : (g : Given.Over) (c : goal.After-grown-in-Some g) → IsTrue (g.S.Pages.tells c.args.stage.now) → (points : List Point) → SbStands (g.S.Pages.map c.args.stage.now) c.args.tree.now points
     → Grown c.args.tree.now.levels c.grown-in-Some.result.levels (g.S.Pages.map c.args.stage.now) (g.S.Pages.map c.new_root.new.stage) c.args.tree.now.root c.grown-in-Some.result.root c.args.version c.args.value
 grown_above g c tells points s =
@@ -137,7 +105,7 @@ grown_above g c tells points s =
     let second = second_of_tree c.args.version c.root_place-place.result c.in_ok-add_below.field-0 c.in-Some.second c.root_place-place.ensures c.in-Some.is c.in_ok-add_below.ensures.second in
     grown_some c.args.tree.now c.grown-in-Some.result (g.S.Pages.map c.args.stage.now) (g.S.Pages.map c.add_below.new.stage) (g.S.Pages.map c.new_root.new.stage) c.in_ok-root-in-Some.root c.args.version c.args.value
     c.in_ok-add_below.field-0 c.in-Some.second c.in-Some.is some c.if-tree-ge16.false c.grown-in-Some.ensures.root c.grown-in-Some.ensures.levels c.if-tree-lt3.false fits second r
-    (c.in_ok-root-in-Some.ensures.made (c.add_below.ensures.tells ∙ tells))
+    (c.in_ok-root-in-Some.ensures.made (c.add_below.ensures.grows.went_on.tells ∙ tells))
 
 stands_above : (g : Given.Over) (c : goal.After-grown-in-Some g) → IsTrue (g.S.Pages.tells c.args.stage.now) → (points : List Point) (p : Point) → SbStands (g.S.Pages.map c.args.stage.now) c.args.tree.now points
     → length points < 2 ^ 31 → p.version ≡ c.args.version → p.weight ≡ c.args.value → SbStands (g.S.Pages.map c.new_root.new.stage) c.grown-in-Some.result (p ∷ points)
@@ -156,13 +124,9 @@ returns-in_ok-root-in-Some-clause-balanced g c = λ tells points s few balanced.
     let second = second_of_tree c.args.version c.root_place-place.result c.in_ok-add_below.field-0 c.in-Some.second c.root_place-place.ensures c.in-Some.is c.in_ok-add_below.ensures.second in
     let p : Point = record { keys = []; version = c.args.version; weight = c.args.value } in
     let stands = stands_above g c tells points p s few refl refl in
-    let made = c.in_ok-root-in-Some.ensures.made (c.add_below.ensures.tells ∙ tells) in
+    let made = c.in_ok-root-in-Some.ensures.made (c.add_below.ensures.grows.went_on.tells ∙ tells) in
     balanced_split c.args.tree.now.levels (g.S.Pages.map c.new_root.new.stage) c.grown-in-Some.result (p ∷ points) c.args.tree.now.root c.in-Some.second some c.if-tree-ge16.false c.grown-in-Some.ensures.levels stands
     c.if-tree-lt3.false fits second (ap (g.S.Pages.map c.new_root.new.stage) c.grown-in-Some.ensures.root ∙ made.1)
 
 pub returns-in_ok-root-in-Some-clause-change : goal.returns-in_ok-root-in-Some-clause-change
 returns-in_ok-root-in-Some-clause-change g c = λ tells points s. (grown_above g c tells points s).change
-
-pub returns-in_ok-root-in-Some-clause-at_most : goal.returns-in_ok-root-in-Some-clause-at_most
-returns-in_ok-root-in-Some-clause-at_most g c = λ points tells s few balanced.
-    omega (arith, few_levels (g.S.Pages.map c.args.stage.now) c.args.tree.now points s few balanced, c.add_below.ensures.growth, c.new_root.ensures.at_most_one)

@@ -7,14 +7,14 @@ use Rattle.page_ports.specs.Frame.{Replaces}
 use Rattle.page_ports.specs.declared.page.StageFault.TheVariants.{Damaged}
 use Rattle.page_layout.specs.declared.sb_node.SbEntry.{SbEntry}
 use Rattle.page_layout.specs.Footprint.{NamesNoneTwice}
-use Rattle.sb_tree.proofs.Exits.{exit_error}
+use Rattle.sb_tree.proofs.Exits.{exit_error, read_damaged}
 use Rattle.sb_tree.proofs.Freeing.{own_pages, pages-spelled, free_step, damaged_child, damaged_itself}
 use Rattle.sb_tree.proofs.free.+free_below.Goals as goal
 
 pub returns-in_err-node-clause-damaged : goal.returns-in_err-node-clause-damaged
 returns-in_err-node-clause-damaged g t c = λ damaged e tells once.
     let p = err_from_is_err_and c.from_residual.result c.from_residual.ensures.1 in
-    let same = exit_error c.from_residual.result c.in_err-node.field-0.0 (Damaged damaged) p e in
+    let same = read_damaged c.from_residual.result c.in_err-node.field-0.0 damaged p e in
     let why = c.in_err-node.ensures.damaged damaged (ap Err same) in
     damaged_itself c.args.level (g.S.Pages.map c.args.stage.now) c.args.page damaged (omega (arith, c.if-level-eq0.false)) why.0 (why.1 tells)
 
@@ -25,10 +25,10 @@ returns-in_err-free_below-clause-damaged g t c = λ damaged e tells once.
     let same = exit_error c.from_residual-in_err-free_below.result c.in_err-free_below.field-0.0 (Damaged damaged) p e in
     let some : 1 ≤ c.args.level = omega (arith, c.if-level-eq0.false) in
     let entries = c.as_slice-entry-items.result.now in
-    let whole = pages-spelled c.args.level m c.args.page c.in_ok-node.node some (c.in_ok-node.ensures.found tells) c.in_ok-node.ensures.node
+    let whole = pages-spelled c.args.level m c.args.page c.in_ok-node.node some (c.in_ok-node.ensures.found tells) c.in_ok-node.ensures.fits
     ∙ ap (λ (es : List SbEntry). c.args.page ∷ flat_map (own_pages (c.args.level - 1) m) es) (sym c.as_slice-entry-items.ensures.value) in
     damaged_child c.args.level m (g.S.Pages.map c.loop-entry.stage) c.args.page damaged c.in_ok-node.node entries c.loop-entry.entry-index _ some
-    (c.in_ok-node.ensures.found tells) c.in_ok-node.ensures.node c.as_slice-entry-items.ensures.value c.loop-entry-test.true
+    (c.in_ok-node.ensures.found tells) c.in_ok-node.ensures.fits c.as_slice-entry-items.ensures.value c.loop-entry-test.true
     (subst NamesNoneTwice whole once) (c.loop-entry.invariant.freed tells once)
     (λ mine. c.in_err-free_below.ensures.damaged damaged (ap Err same) (search rules) mine)
 
@@ -38,18 +38,12 @@ loop-entry-preserved g t c = record {
       let m : PageMap = g.S.Pages.map c.args.stage.now in
       let some : 1 ≤ c.args.level = omega (arith, c.if-level-eq0.false) in
       let entries = c.as_slice-entry-items.result.now in
-      let whole = pages-spelled c.args.level m c.args.page c.in_ok-node.node some (c.in_ok-node.ensures.found tells) c.in_ok-node.ensures.node
+      let whole = pages-spelled c.args.level m c.args.page c.in_ok-node.node some (c.in_ok-node.ensures.found tells) c.in_ok-node.ensures.fits
       ∙ ap (λ (es : List SbEntry). c.args.page ∷ flat_map (own_pages (c.args.level - 1) m) es) (sym c.as_slice-entry-items.ensures.value) in
       free_step (c.args.level - 1) c.args.page m (g.S.Pages.map c.loop-entry.stage) (g.S.Pages.map c.free_below.new.stage) entries c.loop-entry.entry-index _
       c.loop-entry-test.true (subst NamesNoneTwice whole once) (c.loop-entry.invariant.freed tells once)
       (λ mine. c.in_ok-free_below.ensures.freed (search rules) mine);
-  tells = search rules;
-  base = search rules;
-  allotted = search rules;
-  limit = search rules;
-  gets = search rules;
-  faults = search rules;
-  free_in_order = search rules;
+  went_on = search rules;
 }
 
 pub returns-clause-freed : goal.returns-clause-freed
@@ -57,7 +51,7 @@ returns-clause-freed g t c = λ tells once.
     let m : PageMap = g.S.Pages.map c.args.stage.now in
     let some : 1 ≤ c.args.level = omega (arith, c.if-level-eq0.false) in
     let entries = c.as_slice-entry-items.result.now in
-    let whole = pages-spelled c.args.level m c.args.page c.in_ok-node.node some (c.in_ok-node.ensures.found tells) c.in_ok-node.ensures.node
+    let whole = pages-spelled c.args.level m c.args.page c.in_ok-node.node some (c.in_ok-node.ensures.found tells) c.in_ok-node.ensures.fits
     ∙ ap (λ (es : List SbEntry). c.args.page ∷ flat_map (own_pages (c.args.level - 1) m) es) (sym c.as_slice-entry-items.ensures.value) in
     let all : take c.loop-entry.entry-index entries ≡ entries = take_all c.loop-entry.entry-index entries (omega (arith, c.loop-entry-test.false)) in
     let freed = subst (λ (es : List SbEntry). Replaces (c.args.page ∷ flat_map (own_pages (c.args.level - 1) m) es) [] m (g.S.Pages.map c.loop-entry.stage)) all (c.loop-entry.invariant.freed tells once) in

@@ -37,7 +37,7 @@ returns-in_err-below-clause-damaged g t c = λ damaged e tells.
     let leads = leads_at_cut c.args.place c.inner_place-inner.result c.in_ok-node.node entries c.begun_count-begun.result c.child_before-child.result c.as_slice-entries.ensures.value
     c.begun_count-begun.ensures (c.child_before-child.ensures _ c.begun_count-begun.ensures) c.inner_place-inner.ensures.low c.inner_place-inner.ensures.high c.inner_place-inner.ensures.sought in
     let why = c.in_err-below.ensures.damaged damaged (ap Err same) (search rules) in
-    let below = subst (λ (m : PageMap). IsDamagedBelow FitsPlace LeadsTo m (c.args.level - 1) c.inner_place-inner.result c.child_before-child.result damaged) c.node_in_place.ensures.map why in
+    let below = subst (λ (m : PageMap). IsDamagedBelow FitsPlace LeadsTo m (c.args.level - 1) c.inner_place-inner.result c.child_before-child.result damaged) c.read_in_place.ensures.reads.read.map why in
     damaged_further (g.P.Pages.map c.args.pages.now) c.args.level c.args.page c.child_before-child.result c.args.place c.inner_place-inner.result c.in_ok-node.node damaged
     (omega (arith, c.if-level-eq0.false)) (c.in_ok-node.ensures.found tells) c.in_ok-node.ensures.node leads below
 
@@ -45,8 +45,8 @@ pub returns-clause-value : goal.returns-clause-value
 returns-clause-value g t c = λ tells.
     let v = c.args.place.sought in
     let total = c.in_ok-below.ensures.value (search rules) in
-    let same_place = ap (λ (w : ℕ). total_below (c.args.level - 1) (g.P.Pages.map c.node_in_place.new.pages) c.child_before-child.result w % 2 ^ 128) c.inner_place-inner.ensures.sought in
-    let same_map = ap (λ (m : PageMap). total_below (c.args.level - 1) m c.child_before-child.result v % 2 ^ 128) c.node_in_place.ensures.map in
+    let same_place = ap (λ (w : ℕ). total_below (c.args.level - 1) (g.P.Pages.map c.read_in_place.new.pages) c.child_before-child.result w % 2 ^ 128) c.inner_place-inner.ensures.sought in
+    let same_map = ap (λ (m : PageMap). total_below (c.args.level - 1) m c.child_before-child.result v % 2 ^ 128) c.read_in_place.ensures.reads.read.map in
     index_value (g.P.Pages.map c.args.pages.now) c.args.level c.args.page v c.begun_count-begun.result c.total_of-value.result c.in_ok-below.below c.child_before-child.result
     c.in_ok-node.node c.as_slice-entries.result.now c.as_slice-entries.ensures.value (omega (arith, c.if-level-eq0.false))
     (c.in_ok-node.ensures.found tells) c.in_ok-node.ensures.node.fits c.begun_count-begun.ensures

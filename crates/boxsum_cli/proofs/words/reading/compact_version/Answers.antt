@@ -1,23 +1,21 @@
-use Rattle.std.proofs.Common.{◌≡◌, ◌∙◌, ap, sym, subst, map}
-use Rattle.std.proofs.lemmas.Result.{err_from_is_err_and}
+use Rattle.std.proofs.Common.{◌∙◌, ap, codes, map}
 use Rattle.std.specs.String.{string_bytes}
-use Rattle.clap.specs.Words.{App, app_of}
-use Rattle.boxsum_cli.specs.Command.{value_from}
-use Rattle.boxsum_cli.specs.Reading.{ReadsCompact, compact_words}
-use Rattle.boxsum_cli.proofs.WordsReadBack.{reads_compact}
+use Rattle.clap.proofs.WalkLemmas.{first_value-rows}
+use Rattle.clap.specs.Words.{app_of, found_of}
+use Rattle.boxsum_cli.specs.Command.{compact_table, read_by, version_from, version_of}
+use Rattle.boxsum_cli.specs.Reading.{compact_app, version_in}
+use Rattle.boxsum_cli.proofs.WordsTables.{compact_reads, reads_none, reads_some}
 use Rattle.boxsum_cli.proofs.words.reading.compact_version.Goals as goal
 
-pub returns-in_err-text : goal.returns-in_err-text
-returns-in_err-text c =
-    let word = c.args.word.now in
-    let reads : ReadsCompact (app_of c.in_ok-compact_command.field-0) word = subst (λ (app : App). ReadsCompact app word) (sym c.in_ok-compact_command.ensures) (reads_compact word) in
-    let words : map string_bytes c.as_slice.result.now ≡ compact_words word = ap (map string_bytes) c.as_slice.ensures.value ∙ c.in_ok-words.ensures in
-    let p = err_from_is_err_and c.from_residual-in_err-text.result c.from_residual-in_err-text.ensures.1 in
-    rw (p.1, p.2) (c.in_err-text.ensures word reads words)
+pub returns-in-None : goal.returns-in-None
+returns-in-None c =
+    let words = map string_bytes c.args.words.now in
+    reads_none (app_of c.in_ok-compact_command.field-0) compact_app words c.in_ok-found.field-0 version_in (read_by compact_table version_of words) c.in-None.is c.in_ok-found.ensures
+    c.in_ok-compact_command.ensures (compact_reads words)
 
-pub returns : goal.returns
-returns c =
-    let word = c.args.word.now in
-    let reads : ReadsCompact (app_of c.in_ok-compact_command.field-0) word = subst (λ (app : App). ReadsCompact app word) (sym c.in_ok-compact_command.ensures) (reads_compact word) in
-    let words : map string_bytes c.as_slice.result.now ≡ compact_words word = ap (map string_bytes) c.as_slice.ensures.value ∙ c.in_ok-words.ensures in
-    c.version.ensures ∙ ap (value_from 0 4294967295) (c.in_ok-text.ensures word reads words)
+pub returns-in-Some : goal.returns-in-Some
+returns-in-Some c =
+    let words = map string_bytes c.args.words.now in
+    c.version.ensures ∙ ap version_from (c.get_str.ensures ∙ first_value-rows (found_of c.in-Some.matches) (codes "version"))
+    ∙ reads_some (app_of c.in_ok-compact_command.field-0) compact_app words c.in_ok-found.field-0 version_in (read_by compact_table version_of words) c.in-Some.matches c.in-Some.is c.in_ok-found.ensures
+    c.in_ok-compact_command.ensures (compact_reads words)

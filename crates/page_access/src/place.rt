@@ -1,0 +1,14 @@
+//! Places by which calls reach nodes.
+ghost use Rattle.std.specs.Prelude.{◌↔◌, ℕ, IsTrue};
+
+use page_layout::TreePage;
+
+/// The place by which a call reaches a node of a tree.
+pub trait PlaceFor<T: TreePage>: Copy {
+    /// A node of this level keeps to the place.
+    ghost admits: { ℕ → Self → T → Type 0 };
+
+    /// Whether a node of this level keeps to the place.
+    fn admits(&self, level: u8, node: &T) -> bool
+        ensures { IsTrue result ↔ admits level self.now node.now };
+}
