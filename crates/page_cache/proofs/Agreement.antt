@@ -47,10 +47,3 @@ renewed-agrees old new k w is area agrees = λ p b h. by_answer (k == p)
     (sym (is p ∙ ap (λ c. if c then option_map (λ _. w) (old p) else old p) y) ∙ h))))
     (λ n. beside area k p w b (λ e. eqb-false k p n (sym e))
     (agrees p b (sym (is p ∙ ap (λ c. if c then option_map (λ _. w) (old p) else old p) n) ∙ h)))
-
--- where the page is not kept
-pub renewed-none : (kept : PageMap) (k : ℕ) (w : List ℕ) → kept k ≡ None → (p : ℕ) → kept p ≡ renewed kept k w p
-renewed-none kept k w none p = by_answer (k == p)
-    (λ y. let here : kept p ≡ None = subst (λ q. kept q ≡ None) (eqb-true k p y) none in
-    here ∙ sym (ap (λ c. if c then option_map (λ _. w) (kept p) else kept p) y ∙ ap (option_map (λ _. w)) here))
-    (λ n. sym (ap (λ c. if c then option_map (λ _. w) (kept p) else kept p) n))

@@ -1,13 +1,25 @@
 -- Which pages a cache keeps, and how it agrees with a disk.
-use Rattle.std.specs.Prelude.{◌≡◌, ◌⊎◌, ℕ, ◌<◌, ◌==◌, length, nat_eq, if◌then◌else◌, List, Some, option_map}
+use Rattle.std.specs.Prelude.{◌≡◌, ◌⊎◌, ℕ, ◌<◌, ◌≤◌, ◌==◌, true, length, nat_eq, if◌then◌else◌, List, Some, IsSome, option_map}
+use Rattle.std.specs.Box.{box_value}
 use Rattle.std.specs.Map.{lookup}
+use Rattle.page_ports.specs.Frame.{names_page}
 use Rattle.page_ports.specs.Pages.{PageMap}
 use Rattle.page_disk.specs.Image.{PageList, page_at}
 use Rattle.page_cache.specs.declared.cache.Cache.{Cache}
 
 -- the pages that it keeps, with their bytes
 abbrev pub kept_pages : Cache → PageMap
-kept_pages cache = λ page. lookup (nat_eq page) cache.pages.entries
+kept_pages cache = λ page. option_map (λ kept. box_value kept) (lookup (nat_eq page) cache.pages.entries)
+
+-- how many pages it keeps at most
+abbrev pub capacity : Cache → ℕ
+capacity cache = cache.pages.cap
+
+-- At most so many pages are kept: some list of no more pages names each that is.
+pub record KeepsAtMost (kept : PageMap) (most : ℕ) : Type 0 where
+  pub pages : List ℕ
+  pub few : length pages ≤ most
+  pub all : (page : ℕ) → IsSome (kept page) → names_page pages page ≡ true
 
 -- Each page that is kept is as the area has it.
 abbrev pub Agrees : PageMap → PageList → Type 0

@@ -1,8 +1,9 @@
 //! The pages that were used last.
-ghost use Rattle.std.specs.Prelude.{◌≡◌, ◌≢◌, ◌⊎◌, ◌+◌, ◌-◌, ◌^◌, ◌<◌, ◌≤◌, ℕ, List, length, min, Some, None, Ok, Err, IsTrue, IfOk, OnOk, OnErr, is_some};
+ghost use Rattle.std.specs.Prelude.{◌≡◌, ◌≢◌, ◌⊎◌, ◌+◌, ◌-◌, ◌^◌, ◌<◌, ◌≤◌, ℕ, List, length, min, Some, None, Ok, Err, IsTrue, IfOk, IfSome, OnOk, OnErr, is_some};
+ghost use Rattle.std.specs.Box.{box_value};
 ghost use Rattle.page_ports.specs.Pages.{Rose};
 ghost use Rattle.page_disk.specs.Image.{PageList, page_at, written_at};
-ghost use Rattle.page_cache.specs.Cache.{Agrees, KeepsAtMostAlso, kept_pages, renewed};
+ghost use Rattle.page_cache.specs.Cache.{Agrees, KeepsAtMost, KeepsAtMostAlso, capacity, kept_pages, renewed};
 
 use lru::LruCache;
 use page_disk::{Area, Disk};
@@ -17,7 +18,10 @@ pub struct NoMemory;
 /// A cache of pages of a disk's Pages area.
 #[derive(Drop)]
 pub struct Cache {
-    pages: LruCache<u64, Page>,
+    pages: LruCache<u64, Box<Page>>,
+    // The room of the page that gave way last, for the next one.
+    spare: Option<Box<Page>>,
+    alloc: Global,
 }
 
 impl Cache {
@@ -25,11 +29,17 @@ impl Cache {
     pub fn new(alloc: Global, pages: usize) -> Result<Cache, NoMemory>
         requires { pages ≢ 0 }
         ensures none { IfOk result (λ cache. (page : ℕ) → kept_pages cache page ≡ None) }
+        ensures capacity { IfOk result (λ cache. capacity cache ≡ pages) }
+        ensures few { IfOk result (λ cache. KeepsAtMost (kept_pages cache) pages) }
         ensures agrees { IfOk result (λ cache. (area : PageList) → Agrees (kept_pages cache) area) }
     {
         let capacity = NonZeroUsize::new(pages).unwrap();
         match LruCache::new(alloc, capacity) {
-            Ok(pages) => Ok(Cache { pages }),
+            Ok(pages) => Ok(Cache {
+                pages,
+                spare: None,
+                alloc,
+            }),
             Err(_) => Err(NoMemory),
         }
     }
@@ -40,21 +50,51 @@ impl Cache {
         ensures hit { (bytes : List ℕ) → kept_pages self.old page ≡ Some bytes → buf.new ≡ bytes }
         ensures miss { kept_pages self.old page ≡ None → buf.new ≡ buf.old }
         ensures same { (p : ℕ) → kept_pages self.new p ≡ kept_pages self.old p }
+        ensures capacity { capacity self.new ≡ capacity self.old }
     {
         match self.pages.get(&page) {
             Some(kept) => {
-                *buf = *kept;
+                *buf = **kept;
                 true
             }
             None => false,
         }
     }
 
+    // A copy of the page, in the room of the page that gave way last where there is one.
+    fn copied(&mut self, buf: &Page) -> Option<Box<Page>>
+        ensures value { IfSome result (λ copy. box_value copy ≡ buf.now) }
+        ensures pages { self.new.pages ≡ self.old.pages }
+    {
+        match self.spare.take() {
+            Some(mut room) => {
+                *room = *buf;
+                Some(room)
+            }
+            None => Box::new(self.alloc, *buf).ok(),
+        }
+    }
+
     // Keeps the page where there is memory for it.
     fn keep(&mut self, page: u64, buf: &Page)
-        ensures { KeepsAtMostAlso (kept_pages self.old) (kept_pages self.new) page buf.now }
+        ensures also { KeepsAtMostAlso (kept_pages self.old) (kept_pages self.new) page buf.now }
+        ensures capacity { capacity self.new ≡ capacity self.old }
     {
-        let _ = self.pages.put(page, *buf);
+        let Some(copy) = self.copied(buf) else {
+            return;
+        };
+        match self.pages.push(page, copy) {
+            Ok(Some((_, room))) => self.spare = Some(room),
+            Ok(None) => {}
+            Err(failed) => self.spare = Some(failed.value.1),
+        }
+    }
+
+    /// Proves that no more pages are kept than the capacity says; it does nothing when it runs.
+    fn is_few(&self)
+        ensures { KeepsAtMost (kept_pages self.now) (capacity self.now) }
+    {
+        let _len = self.pages.len();
     }
 
     /// Reads a page of the Pages area into `buf`, as the disk has it, with no call on the disk where
@@ -78,6 +118,8 @@ impl Cache {
             × ((p : ℕ) → kept_pages self.new p ≡ kept_pages self.old p) }
         ensures keeps { OnOk result (KeepsAtMostAlso (kept_pages self.old) (kept_pages self.new) page buf.new) }
         ensures keeps_err { OnErr result ((p : ℕ) → kept_pages self.new p ≡ kept_pages self.old p) }
+        ensures capacity { capacity self.new ≡ capacity self.old }
+        ensures few { KeepsAtMost (kept_pages self.new) (capacity self.new) }
 
         ensures at_most_one { D.reads disk.new ≤ D.reads disk.old + 1 }
         ensures reads { D.reads disk.old ≤ D.reads disk.new }
@@ -89,15 +131,28 @@ impl Cache {
         ensures moments { D.moments disk.new ≡ D.moments disk.old }
     {
         if self.recall(page, buf) {
+            self.is_few();
             return Ok(());
         }
+        self.is_few();
         match disk.read(Area::Pages, page, buf) {
             Ok(true) => {
                 self.keep(page, buf);
+                self.is_few();
                 Ok(())
             }
             Ok(false) => Err(PageFault::Damaged(page)),
             Err(_) => Err(PageFault::Disk),
+        }
+    }
+
+    // Overwrites the page where it is kept.
+    fn rewrite(&mut self, page: u64, buf: &Page)
+        ensures pages { (p : ℕ) → kept_pages self.new p ≡ renewed (kept_pages self.old) page buf.now p }
+        ensures capacity { capacity self.new ≡ capacity self.old }
+    {
+        if let Some(kept) = self.pages.peek_mut(&page) {
+            **kept = *buf;
         }
     }
 
@@ -108,9 +163,10 @@ impl Cache {
         ensures pages { (p : ℕ) → kept_pages self.new p ≡ renewed (kept_pages self.old) page buf.now p }
         ensures agrees { (area : PageList) → Agrees (kept_pages self.old) area
             → Agrees (kept_pages self.new) (written_at area page buf.now) }
+        ensures capacity { capacity self.new ≡ capacity self.old }
+        ensures few { KeepsAtMost (kept_pages self.new) (capacity self.new) }
     {
-        if let Some(kept) = self.pages.peek_mut(&page) {
-            *kept = *buf;
-        }
+        self.rewrite(page, buf);
+        self.is_few();
     }
 }

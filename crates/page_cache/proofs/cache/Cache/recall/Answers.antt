@@ -1,13 +1,12 @@
 use Rattle.std.proofs.Common.{◌∙◌, ap, nat_eq, ℕ, List}
-use Rattle.std.specs.Map.{lookup}
 use Rattle.lru.specs.LruCache.{LruCache}
-use Rattle.page_cache.proofs.Kept.{at-promoted}
+use Rattle.page_cache.proofs.Kept.{Room, kept, kept-promoted}
 use Rattle.page_cache.proofs.cache.Cache.recall.Goals as goal
 
 pub returns-in-Some-clause-same : goal.returns-in-Some-clause-same
-returns-in-Some-clause-same c = λ p. ap (λ (l : LruCache ℕ (List ℕ)). lookup (nat_eq p) l.entries) c.get.follows.holds-at-none
-    ∙ at-promoted c.args.page p c.args.self.now.pages.entries
+returns-in-Some-clause-same c = λ p. ap (λ (l : LruCache ℕ Room). kept l.entries p) c.get.follows.holds-at-none
+    ∙ kept-promoted c.args.page p c.args.self.now.pages.entries
 
 pub returns-in-None-clause-same : goal.returns-in-None-clause-same
-returns-in-None-clause-same c = λ p. ap (λ (l : LruCache ℕ (List ℕ)). lookup (nat_eq p) l.entries) c.get.follows.holds-at-none
-    ∙ at-promoted c.args.page p c.args.self.now.pages.entries
+returns-in-None-clause-same c = λ p. ap (λ (l : LruCache ℕ Room). kept l.entries p) c.get.follows.holds-at-none
+    ∙ kept-promoted c.args.page p c.args.self.now.pages.entries
