@@ -1,19 +1,29 @@
 -- A space that was opened.
-use Rattle.std.proofs.Common.{◌≡◌, sym, subst, IsTrue}
+use Rattle.std.proofs.Common.{◌≡◌, ◌≢◌, sym, subst, IsTrue}
 use Rattle.std.specs.Prelude.{Result, Ok, Err, IfOk, IfErr}
 use Rattle.page_disk.specs.declared.disk.Disk.{Ghosts}
 use Rattle.page_disk.specs.Image.{PageList, Image}
-use Rattle.redo_journal.specs.Settled.{SettlesTo}
+use Rattle.redo_journal.specs.Gates.{gate_of}
+use Rattle.redo_journal.specs.declared.gate.Gate.TheVariants.{Idle}
+use Rattle.redo_journal.specs.Settled.{SettlesTo, SettlesToOne}
 use Rattle.page_space.specs.declared.space.Space.{Space}
 use Rattle.page_space.specs.declared.refusal.OpenRefused.{OpenRefused}
 use Rattle.page_space.specs.declared.refusal.OpenFault.{OpenFault}
 use Rattle.page_space.specs.declared.refusal.OpenFault.TheVariants.{Disk, Empty, Damaged, NoMemory, BadJournal}
 use Rattle.page_space.specs.Faults.{AtNoMemory}
-use Rattle.page_space.specs.Opening.{IsSomeSpace, StandsWhole}
+use Rattle.page_space.specs.Opening.{IsSomeSpace, StandsAlike, StandsWhole}
 use Rattle.page_space.specs.Refused.{opened_disk}
 use Rattle.page_space.specs.Space.{HoldsSpace}
 use Rattle.page_space.specs.Shown.{map_of, IsInOrder}
+use Rattle.page_space.proofs.Settled.{idle_settles}
 use Rattle.page_space.proofs.Standing.{is_space}
+
+-- Both disks stand for the pages of the one in between, which is idle.
+stands_after : (x idle after : Image) (told : Type 0) → SettlesToOne → after ≡ idle → (told → SettlesTo x idle.pages) → (told → gate_of idle ≡ Idle)
+    → told → StandsAlike x after
+stands_after x idle after told one same settles closed = λ h pages stands.
+    subst (λ y. SettlesTo y pages) (sym same)
+    (subst (λ ps. SettlesTo idle ps) (sym (one x pages idle.pages stands (settles h))) (idle_settles idle (closed h)))
 
 module _ {D : Type 0} {g : Ghosts D} where
   pub opened_holds : (r : Result (Space D g) (OpenRefused D)) (disk : D) (x : Image) (told : Type 0) → (told → IsTrue (g.tells (opened_disk r)))
@@ -31,6 +41,12 @@ module _ {D : Type 0} {g : Ghosts D} where
       → IfOk r (λ space. told → SettlesTo x (g.image space.disk).pages)
   opened_settles (Ok s) disk x told image settles = λ h. subst (λ y. SettlesTo x y.pages) (sym image) (settles h)
   opened_settles (Err r) disk x told image settles = tt
+
+  pub opened_stands : (r : Result (Space D g) (OpenRefused D)) (disk : D) (x : Image) (told : Type 0) → SettlesToOne
+      → g.image (opened_disk r) ≡ g.image disk → (told → SettlesTo x (g.image disk).pages) → (told → gate_of (g.image disk) ≡ Idle)
+      → IfErr r (λ refused. refused.fault ≢ Disk → told → StandsAlike x (g.image refused.disk))
+  opened_stands (Ok s) disk x told one image settles idle = tt
+  opened_stands (Err r) disk x told one image settles idle = λ _. stands_after x (g.image disk) (g.image r.disk) told one image settles idle
 
 whole_here : (fault : OpenFault) (x : Image) (pages : PageList) (told told' : Type 0) → (told → told') → (told → SettlesTo x pages)
     → AtNoMemory fault (told' → IsSomeSpace pages) → AtNoMemory fault (told → StandsWhole x)

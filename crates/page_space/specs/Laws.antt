@@ -1,14 +1,16 @@
 -- What is so of every space.
-use Rattle.std.specs.Prelude.{◌≡◌}
+use Rattle.std.specs.Prelude.{◌≡◌, ℕ, false}
 use Rattle.bw_types.specs.declared.params.Params.{Params}
 use Rattle.bw_types.specs.Fits.{IsInRange}
 use Rattle.page_ports.specs.Pages.{PageMap, empty_map}
 use Rattle.page_disk.specs.Image.{PageList, Image, page_at}
 use Rattle.page_layout.specs.Meta.{IsMeta, IsTyped, meta_page}
 use Rattle.page_layout.specs.declared.meta.Meta.{Meta}
-use Rattle.redo_journal.specs.Gates.{IsCreated}
+use Rattle.redo_journal.specs.Gates.{IsCreated, is_empty}
 use Rattle.redo_journal.specs.Settled.{SettlesTo}
 use Rattle.page_space.specs.Chain.{FreeInOrder}
+use Rattle.page_space.specs.Opening.{StandsDamagedAt}
+use Rattle.page_space.specs.Settling.{IsBadAt}
 use Rattle.page_space.specs.Space.{HoldsSpace, params_page}
 
 -- A warehouse that was made with these params and a meta page by which no page was given out yet is a
@@ -26,3 +28,13 @@ HoldsOne = (x : Image) (params params' : Params) (meta meta' : Meta) (map map' :
 abbrev pub HoldsOrder : Type 0
 HoldsOrder = (x : Image) (pages : PageList) (params : Params) (meta : Meta) (map : PageMap)
     → HoldsSpace x params meta map (Unit {0}) → SettlesTo x pages → FreeInOrder (page_at pages) meta.allotted meta.free
+
+-- A disk that holds a space is not empty, its journal is not bad, and the pages that it stands for are not
+-- damaged: an opening of it is refused only where the device fails or there is no memory.
+pub record Opens (x : Image) : Type 0 where
+  pub not_empty : is_empty x ≡ false
+  pub not_bad : (page : ℕ) → IsBadAt x page → ⊥
+  pub not_damaged : (page : ℕ) → StandsDamagedAt x page → ⊥
+
+abbrev pub HeldOpens : Type 0
+HeldOpens = (x : Image) (params : Params) (meta : Meta) (map : PageMap) → HoldsSpace x params meta map ⊥ → Opens x

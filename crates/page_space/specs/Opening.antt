@@ -40,6 +40,10 @@ IsDamagedAt pages page =
 abbrev pub StandsDamagedAt : Image → ℕ → Type 0
 StandsDamagedAt x page = (pages : PageList) × (SettlesTo x pages × IsDamagedAt pages page)
 
+-- Whatever pages the one disk stands for, the other stands for too.
+abbrev pub StandsAlike : Image → Image → Type 0
+StandsAlike old new = (pages : PageList) → SettlesTo old pages → SettlesTo new pages
+
 -- These pages are a space.
 abbrev pub IsSomeSpace : PageList → Type 0
 IsSomeSpace pages = (params : Params) × ((meta : Meta) × IsSpace pages params meta (pages_in_use (page_at pages) meta.allotted) ⊥)

@@ -26,6 +26,14 @@ pub record SpellsMeta (bytes : List ℕ) (meta : Meta) : Type 0 where
   pub typed : IsTyped meta
   pub spelled : bytes ≡ meta_page meta
 
+-- The params are in range, and the meta page keeps its rules, by which no more pages are given out than
+-- the params allow.
+pub record AreRoots (params : Params) (meta : Meta) : Type 0 where
+  pub in_range : IsInRange params
+  pub rules : IsMeta meta
+  pub typed : IsTyped meta
+  pub few : meta.allotted ≤ params.pages
+
 -- These pages are a space: with these params, this meta page and this map of the pages in use. Where
 -- `ordered` holds, its free pages are in order.
 pub record IsSpace (pages : PageList) (params : Params) (meta : Meta) (map : PageMap) (ordered : Type 0) : Type 0 where

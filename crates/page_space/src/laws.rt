@@ -1,5 +1,5 @@
 //! What is so of every space.
-ghost use Rattle.page_space.specs.Laws.{CreatedHolds, HoldsOne, HoldsOrder};
+ghost use Rattle.page_space.specs.Laws.{CreatedHolds, HeldOpens, HoldsOne, HoldsOrder};
 
 use page_layout::{Meta, Spelled, Super};
 use redo_journal::settling_laws;
@@ -18,4 +18,13 @@ pub fn holds_one()
     settling_laws();
     Super::one_spelling();
     Meta::one_spelling();
+}
+
+/// Proves that an opening of a disk which holds a space is refused only where the device fails or there
+/// is no memory; it does nothing when it runs.
+pub fn held_opens()
+    ensures { HeldOpens }
+{
+    settling_laws();
+    Super::one_spelling();
 }

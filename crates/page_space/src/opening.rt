@@ -1,5 +1,5 @@
 //! The opening of a space on a disk.
-ghost use Rattle.std.specs.Prelude.{◌≡◌, true, ◌⊎◌, ◌+◌, ◌*◌, ◌≤◌, ◌<◌, ℕ, length, Ok, Err, IsTrue, IfOk, IfErr, OnOk, OnErr};
+ghost use Rattle.std.specs.Prelude.{◌≡◌, ◌≢◌, true, ◌⊎◌, ◌+◌, ◌*◌, ◌≤◌, ◌<◌, ℕ, length, Ok, Err, IsTrue, IfOk, IfErr, OnOk, OnErr};
 ghost use Rattle.bw_types.specs.Fits.{IsInRange};
 ghost use Rattle.page_disk.specs.Image.{PageList, page_at};
 ghost use Rattle.page_disk.specs.Since.{LeavesNow, LeavesOnly};
@@ -7,7 +7,7 @@ ghost use Rattle.redo_journal.specs.Gates.{gate_of, is_empty};
 ghost use Rattle.redo_journal.specs.Settled.{SettlesTo};
 ghost use Rattle.redo_journal.specs.declared.gate.Gate.TheVariants.{Idle};
 ghost use Rattle.page_layout.specs.Meta.{IsMeta, IsTyped, meta_page};
-ghost use Rattle.page_space.specs.Opening.{HasNoMeta, HasNoParams, IsDamagedAt, IsSomeSpace, OnDamaged, RisesAtDisk, StandsDamagedAt, StandsWhole};
+ghost use Rattle.page_space.specs.Opening.{HasNoMeta, HasNoParams, IsDamagedAt, IsSomeSpace, OnDamaged, RisesAtDisk, StandsAlike, StandsDamagedAt, StandsWhole};
 ghost use Rattle.page_space.specs.Faults.{AtBadJournal, AtDamaged, AtEmpty, AtNoMemory};
 ghost use Rattle.page_space.specs.Refused.{RisesAtOpening, opened_disk};
 ghost use Rattle.page_space.specs.Settling.{HasNoReplay, IsBadAt, replay_reads};
@@ -21,6 +21,7 @@ use page_cache::Cache;
 use page_disk::{Area, Disk};
 use page_layout::{Meta, Spelled, Super};
 use page_ports::{Page, PageFault, blank_page};
+use redo_journal::settling_laws;
 use std::alloc::Global;
 
 /// How many pages a space keeps in memory.
@@ -155,7 +156,7 @@ fn open_settled<D: Disk>(alloc: Global, mut disk: D) -> Result<Space<D>, OpenRef
 }
 
 impl<D: Disk> Space<D> {
-    ghost use Rattle.page_space.specs.Space.{HoldsSpace};
+    ghost use Rattle.page_space.specs.Space.{AreRoots, HoldsSpace};
     ghost use Rattle.page_space.specs.Shown.{disk_of, params_of, meta_of, map_of, IsInOrder};
 
     /// Opens the space on a disk: syncs it, replays its journal where that is open, and reads the
@@ -168,16 +169,21 @@ impl<D: Disk> Space<D> {
     /// page, or one by which more pages are given out than there are or than the limit allows.
     /// `NoMemory` comes only where none of these is so.
     ///
-    /// A crash at any moment leaves a disk that stands for the same pages. Four reads at most, and as
+    /// A crash at any moment leaves a disk that stands for the same pages, and so does the disk that a
+    /// refusal hands back, unless the device failed. Four reads at most, and as
     /// many more for a replay as twice the journal has pages.
     pub fn open_on(alloc: Global, mut disk: D) -> Result<Space<D>, OpenRefused<D>>
         ensures holds { IfOk result (λ space. IsTrue (D.tells disk)
             → HoldsSpace (D.image disk) (params_of space) (meta_of space) (map_of space) (IsInOrder space)) }
         ensures settles { IfOk result (λ space. IsTrue (D.tells disk) → SettlesTo (D.image disk) (D.image (disk_of space)).pages) }
+        ensures roots { IfOk result (λ space. AreRoots (params_of space) (meta_of space)) }
         ensures idle { IfOk result (λ space. IsTrue (D.tells disk) → gate_of (D.image (disk_of space)) ≡ Idle) }
         ensures settled { IfOk result (λ space. LeavesNow (D.moments (disk_of space)) (D.image (disk_of space))) }
         ensures any_moment { IsTrue (D.tells disk) → (pages : PageList) → SettlesTo (D.image disk) pages
             → LeavesOnly (λ x. SettlesTo x pages) (D.moments disk) (D.moments (opened_disk result)) }
+        // A disk that is refused while the device did not fail stands for the pages that it stood for.
+        ensures stands { IfErr result (λ refused. refused.fault ≢ OpenFault.Disk
+            → IsTrue (D.tells disk) → StandsAlike (D.image disk) (D.image refused.disk)) }
         // Where nothing is replayed, the disk is as it was.
         ensures untouched { IsTrue (D.tells disk) → HasNoReplay (D.image disk) → D.image (opened_disk result) ≡ D.image disk }
         ensures untouched_moments { IsTrue (D.tells disk) → HasNoReplay (D.image disk)
@@ -191,6 +197,8 @@ impl<D: Disk> Space<D> {
         ensures reads_stay_or_rise { D.reads disk ≤ D.reads (opened_disk result) }
         ensures tells { D.tells (opened_disk result) ≡ D.tells disk }
     {
+        // A disk stands for one list of pages.
+        settling_laws();
         match settle(&mut disk) {
             Ok(()) => open_settled(alloc, disk),
             Err(fault) => Err(OpenRefused { fault, disk }),

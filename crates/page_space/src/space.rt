@@ -11,7 +11,6 @@ ghost use Rattle.redo_journal.specs.declared.gate.Gate.TheVariants.{Idle};
 ghost use Rattle.std.proofs.Props.{props};
 ghost use Rattle.page_space.specs.Ranges.{IsInRange-prop};
 ghost use Rattle.page_space.specs.Space.{params_page};
-ghost use Rattle.page_space.specs.InUse.{pages_in_use};
 
 use bw_types::Params;
 use page_cache::Cache;
@@ -48,19 +47,21 @@ pub struct Space<D: Disk> {
 }
 
 impl<D: Disk> Space<D> {
-    ghost use Rattle.page_space.specs.Space.{HoldsSpace};
+    ghost use Rattle.page_space.specs.Space.{AreRoots, HoldsSpace};
     ghost use Rattle.page_space.specs.Shown.{disk_of, params_of, meta_of, begun_of, map_of, IsInOrder};
 
     /// What the warehouse was made for.
     pub fn params(&self) -> Params
-        ensures { result ≡ params_of self.now }
+        ensures value { result ≡ params_of self.now }
+        ensures in_range { IsInRange result }
     {
         self.params
     }
 
     /// The meta page.
     pub fn meta(&self) -> &Meta
-        ensures { result.now ≡ meta_of self.now }
+        ensures value { result.now ≡ meta_of self.now }
+        ensures roots { AreRoots (params_of self.now) result.now }
     {
         &self.meta
     }
@@ -79,10 +80,14 @@ impl<D: Disk> Space<D> {
         disk
     }
 
-    /// Proves that the disk stands for the space; it does nothing when it runs.
+    /// Proves that the disk stands for the space, with nothing to replay and nothing pending, and that the
+    /// params and the meta page keep their rules; it does nothing when it runs.
     pub fn is_held(&self)
-        ensures { IsTrue (D.tells (disk_of self.now)) → HoldsSpace (D.image (disk_of self.now)) (params_of self.now) (meta_of self.now)
+        ensures held { IsTrue (D.tells (disk_of self.now)) → HoldsSpace (D.image (disk_of self.now)) (params_of self.now) (meta_of self.now)
             (map_of self.now) (IsInOrder self.now) }
+        ensures idle { IsTrue (D.tells (disk_of self.now)) → gate_of (D.image (disk_of self.now)) ≡ Idle }
+        ensures settled { LeavesNow (D.moments (disk_of self.now)) (D.image (disk_of self.now)) }
+        ensures roots { AreRoots (params_of self.now) (meta_of self.now) }
     {}
 
     /// Reads a page as the disk has it, in use or not, at most once from the disk.
@@ -102,17 +107,26 @@ impl<D: Disk> Space<D> {
 }
 
 impl<D: Disk> Pages for Space<D> {
-    ghost tells = { λ space. D.tells space.disk };
+    ghost use Rattle.page_space.specs.Begun.{Begun};
+    ghost use Rattle.page_space.specs.Shown.{disk_of, params_of, meta_of, begun_of, map_of, IsInOrder};
 
-    ghost map = { λ space. pages_in_use (page_at (D.image space.disk).pages) space.meta.allotted };
+    ghost tells = { λ space. D.tells (disk_of space) };
 
-    ghost gets = { λ space. D.reads space.disk };
+    ghost map = { λ space. map_of space };
 
-    ghost faults = { λ space. D.faults space.disk };
+    ghost gets = { λ space. D.reads (disk_of space) };
 
-    ghost Base = { Unit {0} };
+    ghost faults = { λ space. D.faults (disk_of space) };
 
-    ghost base = { λ _. tt };
+    ghost allotted = { λ space. (meta_of space).allotted };
+
+    ghost limit = { λ space. (params_of space).pages };
+
+    ghost free_in_order = { λ space. IsInOrder space };
+
+    ghost Base = { Begun };
+
+    ghost base = { λ space. begun_of space };
 
     fn get(&mut self, page: u64, buf: &mut Page) -> Result<(), PageFault> {
         if page < 3 || page >= self.meta.allotted {

@@ -5,6 +5,7 @@ ghost use Rattle.page_layout.specs.FreePage.{next_fits};
 ghost use Rattle.redo_journal.specs.Images.{image_map};
 ghost use Rattle.page_space.specs.Bytes.{bytes_with};
 ghost use Rattle.page_space.specs.MetaSet.{FitsBesideCounts, with_counts_of};
+ghost use Rattle.page_space.specs.Space.{AreRoots};
 
 use crate::Space;
 use crate::copying::copied;
@@ -39,6 +40,7 @@ impl<D: Disk> Space<D> {
         ensures meta { staged_meta result ≡ meta_of self }
         ensures map { staged_map result ≡ map_of self }
         ensures in_order { IsInOrder self → IsStagedInOrder result }
+        ensures roots { AreRoots (base_of result).params (base_of result).meta }
     {
         Staged {
             images: Images::new(self.alloc),
