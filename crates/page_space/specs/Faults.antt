@@ -1,23 +1,16 @@
 -- The faults of an opening.
-use Rattle.std.specs.Prelude.{◌≡◌, ℕ, ◌≤◌, Result, Ok, Err}
+use Rattle.std.specs.Prelude.{◌≡◌, ℕ, ◌≤◌}
 use Rattle.page_ports.specs.Pages.{Rose}
-use Rattle.page_ports.specs.declared.page.PageFault.{PageFault}
-use Rattle.page_ports.specs.declared.page.PageFault.TheVariants as page
 use Rattle.page_space.specs.declared.refusal.OpenFault.{OpenFault}
 use Rattle.page_space.specs.declared.refusal.OpenFault.TheVariants.{Disk, Empty, Damaged, NoMemory, BadJournal}
 
--- the same fault
-abbrev pub fault_of : PageFault → OpenFault
-fault_of page.Disk = Disk
-fault_of (page.Damaged n) = Damaged n
-
--- The faults rose where the device failed, and else are as before.
-abbrev pub RisesAtFault : OpenFault → ℕ → ℕ → Type 0
-RisesAtFault Disk old new = Rose old new × (old ≤ new)
-RisesAtFault Empty old new = new ≡ old
-RisesAtFault (Damaged n) old new = new ≡ old
-RisesAtFault NoMemory old new = new ≡ old
-RisesAtFault (BadJournal n) old new = new ≡ old
+-- The count of faults rose where the device failed, and else it is as before.
+abbrev pub CountsDisk : OpenFault → ℕ → ℕ → Type 0
+CountsDisk Disk old new = Rose old new × (old ≤ new)
+CountsDisk Empty old new = new ≡ old
+CountsDisk (Damaged n) old new = new ≡ old
+CountsDisk NoMemory old new = new ≡ old
+CountsDisk (BadJournal n) old new = new ≡ old
 
 -- Where the fault is that a page is damaged, this holds of it.
 abbrev pub AtDamaged : OpenFault → (ℕ → Type 0) → Type 0
@@ -50,8 +43,3 @@ AtNoMemory Empty P = Unit {0}
 AtNoMemory (Damaged n) P = Unit {0}
 AtNoMemory NoMemory P = P
 AtNoMemory (BadJournal n) P = Unit {0}
-
--- The faults rose where the answer is that the device failed, and else are as before.
-abbrev pub FaultRises : {T : Type 0} → Result T OpenFault → ℕ → ℕ → Type 0
-FaultRises (Ok x) old new = new ≡ old
-FaultRises (Err fault) old new = RisesAtFault fault old new

@@ -1,5 +1,6 @@
 pub mod Begun
 pub mod Bytes
+pub mod Calls
 pub mod Chain
 pub mod ChainLaws
 pub mod Faults

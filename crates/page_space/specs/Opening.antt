@@ -1,26 +1,11 @@
 -- The answers of an opening.
-use Rattle.std.specs.Prelude.{◌≡◌, ◌⊎◌, ℕ, ◌≤◌, length, Result, Ok, Err}
+use Rattle.std.specs.Prelude.{◌≡◌, ◌⊎◌, ℕ, ◌≤◌, length}
 use Rattle.bw_types.specs.declared.params.Params.{Params}
-use Rattle.page_ports.specs.Pages.{Rose}
-use Rattle.page_ports.specs.declared.page.PageFault.{PageFault}
-use Rattle.page_ports.specs.declared.page.PageFault.TheVariants.{Disk, Damaged}
 use Rattle.page_disk.specs.Image.{PageList, Image, page_at}
 use Rattle.redo_journal.specs.Settled.{SettlesTo}
 use Rattle.page_layout.specs.declared.meta.Meta.{Meta}
 use Rattle.page_space.specs.InUse.{pages_in_use}
 use Rattle.page_space.specs.Space.{IsSpace, SpellsParams, SpellsMeta}
-
--- Where the answer is that a page is damaged, this holds of it.
-abbrev pub OnDamaged : {T : Type 0} → Result T PageFault → (ℕ → Type 0) → Type 0
-OnDamaged (Ok x) P = Unit {0}
-OnDamaged (Err Disk) P = Unit {0}
-OnDamaged (Err (Damaged page)) P = P page
-
--- The faults rose where the device failed, and else are as before.
-abbrev pub RisesAtDisk : {T : Type 0} → Result T PageFault → ℕ → ℕ → Type 0
-RisesAtDisk (Ok x) old new = new ≡ old
-RisesAtDisk (Err Disk) old new = Rose old new × (old ≤ new)
-RisesAtDisk (Err (Damaged page)) old new = new ≡ old
 
 -- Page 1 of the area is no superblock.
 abbrev pub HasNoParams : PageList → Type 0

@@ -1,16 +1,18 @@
 //! The pages of a stage that are given out and freed.
 ghost use Rattle.std.specs.Prelude.{◌≡◌, ◌≢◌, ◌⊎◌, ◌+◌, ◌≤◌, ◌<◌, ℕ, List, Some, None, Ok, Err, IsTrue, IsSome, OnOk, OnErr, IfOk, slice_index};
-ghost use Rattle.page_ports.specs.Pages.{Rose, put_page, remove_page, blank_bytes};
+ghost use Rattle.page_ports.specs.Calls.{Changes, OnlyReads};
+ghost use Rattle.page_ports.specs.Pages.{put_page, remove_page, blank_bytes};
 ghost use Rattle.page_layout.specs.FreePage.{IsTyped, next_fits};
 ghost use Rattle.page_layout.specs.declared.free_page.FreePage.{FreePage};
 ghost use Rattle.page_ports.specs.declared.page.TheConstants.{FREE_PAGE};
 ghost use Rattle.page_space.specs.Bytes.{bytes_with};
+ghost use Rattle.page_space.specs.Calls.{KeepsChanges};
 ghost use Rattle.page_space.specs.Chain.{LeadsOn, FreeInOrder};
 
 use crate::Staged;
 use page_disk::Disk;
 use page_layout::{FreePage, Spelled};
-use page_ports::{Page, PageFault, StageFault, blank_page};
+use page_ports::{Page, PageFault, Pages, StageFault, blank_page};
 
 // A page that can be given out, and what the stage keeps when it is: the first free page then and the
 // number of pages given out.
@@ -19,18 +21,6 @@ struct Choice {
     page: u64,
     free: u64,
     allotted: u64,
-}
-
-// The same refusal of a stage.
-fn staged_fault(fault: PageFault) -> StageFault
-    ensures disk { result ≡ StageFault.Disk → fault ≡ PageFault.Disk }
-    ensures damaged { (p : ℕ) → result ≡ StageFault.Damaged p → fault ≡ PageFault.Damaged p }
-    ensures page_limit { (n : ℕ) → result ≢ StageFault.PageLimit n }
-{
-    match fault {
-        PageFault::Disk => StageFault::Disk,
-        PageFault::Damaged(page) => StageFault::Damaged(page),
-    }
 }
 
 impl<D: Disk> Staged<D> {
@@ -44,16 +34,11 @@ impl<D: Disk> Staged<D> {
             → LeadsOn (staged_bytes self.old) (staged_meta self.old).allotted page (record { next = next })) }
         ensures only { IfOk result (λ next. IsTrue (D.tells (disk_under self.old)) → (free : FreePage)
             → LeadsOn (staged_bytes self.old) (staged_meta self.old).allotted page free → next ≡ free.next) }
-        ensures disk { result ≡ Err PageFault.Disk → Rose (D.faults (disk_under self.old)) (D.faults (disk_under self.new)) }
         ensures damaged { (p : ℕ) → result ≡ Err (PageFault.Damaged p) → (p ≡ page)
             × (IsTrue (D.tells (disk_under self.old)) → (free : FreePage)
             → LeadsOn (staged_bytes self.old) (staged_meta self.old).allotted page free → ⊥) }
-        ensures reads { D.reads (disk_under self.old) ≤ D.reads (disk_under self.new) }
-        ensures faults { D.faults (disk_under self.old) ≤ D.faults (disk_under self.new) }
-        ensures base { base_of self.new ≡ base_of self.old }
-        ensures bytes { staged_bytes self.new ≡ staged_bytes self.old }
-        ensures images { self.new.images ≡ self.old.images }
-        ensures meta { staged_meta self.new ≡ staged_meta self.old }
+        ensures reads { OnlyReads ⟦<Staged<D> as Pages>⟧ 1 self.old self.new result }
+        ensures keeps { KeepsChanges self.old self.new }
     {
         if page < 3 || page >= self.meta.allotted {
             return Err(PageFault::Damaged(page));
@@ -80,32 +65,24 @@ impl<D: Disk> Staged<D> {
         ensures unused { IfOk result (λ next. IsTrue (D.tells (disk_under self.old)) → staged_map self.old next.page ≡ None) }
         ensures order { IfOk result (λ next. IsTrue (D.tells (disk_under self.old)) → IsStagedInOrder self.old
             → FreeInOrder (bytes_with (staged_bytes self.old) next.page blank_bytes) next.allotted next.free) }
-        ensures disk { result ≡ Err StageFault.Disk → Rose (D.faults (disk_under self.old)) (D.faults (disk_under self.new)) }
-        ensures page_limit { (n : ℕ) → result ≡ Err (StageFault.PageLimit n) → (n ≡ (staged_meta self.old).allotted)
-            × ((staged_meta self.old).allotted ≡ (base_of self.old).params.pages) × ((staged_meta self.old).free ≡ 0) }
+        ensures page_limit { (n : ℕ) → result ≡ Err (StageFault.PageLimit n) → (staged_meta self.old).free ≡ 0 }
         ensures at_limit { (staged_meta self.old).free ≡ 0 → (staged_meta self.old).allotted ≡ (base_of self.old).params.pages
             → result ≡ Err (StageFault.PageLimit (staged_meta self.old).allotted) }
         ensures damaged { (p : ℕ) → result ≡ Err (StageFault.Damaged p) → (p ≡ (staged_meta self.old).free)
             × (IsTrue (D.tells (disk_under self.old)) → ¬ IsStagedInOrder self.old) }
         ensures damaged_first { (p : ℕ) → result ≡ Err (StageFault.Damaged p) → IsTrue (D.tells (disk_under self.old)) → (free : FreePage)
             → LeadsOn (staged_bytes self.old) (staged_meta self.old).allotted (staged_meta self.old).free free → ⊥ }
-        ensures reads { D.reads (disk_under self.old) ≤ D.reads (disk_under self.new) }
-        ensures faults { D.faults (disk_under self.old) ≤ D.faults (disk_under self.new) }
-        ensures base { base_of self.new ≡ base_of self.old }
-        ensures bytes { staged_bytes self.new ≡ staged_bytes self.old }
-        ensures images { self.new.images ≡ self.old.images }
-        ensures meta { staged_meta self.new ≡ staged_meta self.old }
+        ensures changes { Changes ⟦<Staged<D> as Pages>⟧ 1 self.old self.new result }
+        ensures keeps { KeepsChanges self.old self.new }
     {
         let page = self.meta.free;
         if page != 0 {
-            return match self.next_free(page) {
-                Ok(free) => Ok(Choice {
-                    page,
-                    free,
-                    allotted: self.meta.allotted,
-                }),
-                Err(fault) => Err(staged_fault(fault)),
-            };
+            let free = self.next_free(page)?;
+            return Ok(Choice {
+                page,
+                free,
+                allotted: self.meta.allotted,
+            });
         }
         let allotted = self.meta.allotted;
         if allotted >= self.space.params.pages {
@@ -134,20 +111,14 @@ impl<D: Disk> Staged<D> {
             → IfOk result (λ page. (page ≡ (staged_meta self.old).allotted) × ((staged_meta self.new).allotted ≡ (staged_meta self.old).allotted + 1)) }
         ensures err { OnErr result (staged_meta self.new ≡ staged_meta self.old) }
         ensures err_bytes { OnErr result (staged_bytes self.new ≡ staged_bytes self.old) }
-        ensures disk { result ≡ Err StageFault.Disk → Rose (D.faults (disk_under self.old)) (D.faults (disk_under self.new)) }
-        ensures page_limit { (n : ℕ) → result ≡ Err (StageFault.PageLimit n) → (n ≡ (staged_meta self.old).allotted)
-            × ((staged_meta self.old).allotted ≡ (base_of self.old).params.pages) × ((staged_meta self.old).free ≡ 0) }
+        ensures page_limit { (n : ℕ) → result ≡ Err (StageFault.PageLimit n) → (staged_meta self.old).free ≡ 0 }
         ensures at_limit { (staged_meta self.old).free ≡ 0 → (staged_meta self.old).allotted ≡ (base_of self.old).params.pages
             → result ≡ Err (StageFault.PageLimit (staged_meta self.old).allotted) }
         ensures damaged { (p : ℕ) → result ≡ Err (StageFault.Damaged p) → (p ≡ (staged_meta self.old).free)
             × (IsTrue (D.tells (disk_under self.old)) → ¬ IsStagedInOrder self.old) }
-        ensures grows { ((staged_meta self.old).allotted ≤ (staged_meta self.new).allotted) × ((staged_meta self.new).allotted ≤ (staged_meta self.old).allotted + 1) }
         ensures damaged_first { (p : ℕ) → result ≡ Err (StageFault.Damaged p) → IsTrue (D.tells (disk_under self.old)) → (free : FreePage)
             → LeadsOn (staged_bytes self.old) (staged_meta self.old).allotted (staged_meta self.old).free free → ⊥ }
-        ensures reads { D.reads (disk_under self.old) ≤ D.reads (disk_under self.new) }
-        ensures faults { D.faults (disk_under self.old) ≤ D.faults (disk_under self.new) }
-        ensures base { base_of self.new ≡ base_of self.old }
-        ensures in_order { IsTrue (D.tells (disk_under self.old)) → IsStagedInOrder self.old → IsStagedInOrder self.new }
+        ensures changes { Changes ⟦<Staged<D> as Pages>⟧ 1 self.old self.new result }
     {
         let next = self.next_page()?;
         if self.put_image(next.page, &blank_page()).is_err() {
@@ -178,10 +149,8 @@ impl<D: Disk> Staged<D> {
         ensures err_bytes { OnErr result (staged_bytes self.new ≡ staged_bytes self.old) }
         ensures refusals { OnErr result ((result ≡ Err StageFault.NoMemory) ⊎ (result ≡ Err (StageFault.Damaged page))) }
         ensures damaged { result ≡ Err (StageFault.Damaged page) → IsTrue (D.tells (disk_under self.old)) → staged_map self.old page ≡ None }
-        ensures allotted { (staged_meta self.new).allotted ≡ (staged_meta self.old).allotted }
         ensures disk { disk_under self.new ≡ disk_under self.old }
-        ensures base { base_of self.new ≡ base_of self.old }
-        ensures in_order { IsTrue (D.tells (disk_under self.old)) → IsStagedInOrder self.old → IsStagedInOrder self.new }
+        ensures changes { Changes ⟦<Staged<D> as Pages>⟧ 0 self.old self.new result }
     {
         if page < 3 || page >= self.meta.allotted {
             return Err(StageFault::Damaged(page));
@@ -207,8 +176,7 @@ impl<D: Disk> Staged<D> {
         ensures damaged { result ≡ Err (StageFault.Damaged page) → IsTrue (D.tells (disk_under self.old)) → staged_map self.old page ≡ None }
         ensures meta { staged_meta self.new ≡ staged_meta self.old }
         ensures disk { disk_under self.new ≡ disk_under self.old }
-        ensures base { base_of self.new ≡ base_of self.old }
-        ensures in_order { IsTrue (D.tells (disk_under self.old)) → IsStagedInOrder self.old → IsStagedInOrder self.new }
+        ensures changes { Changes ⟦<Staged<D> as Pages>⟧ 0 self.old self.new result }
     {
         if page < 3 || page >= self.meta.allotted {
             return Err(StageFault::Damaged(page));

@@ -1,5 +1,5 @@
 //! The opening of a space on a disk.
-ghost use Rattle.std.specs.Prelude.{◌≡◌, ◌≢◌, true, ◌⊎◌, ◌+◌, ◌*◌, ◌≤◌, ◌<◌, ℕ, length, Ok, Err, IsTrue, IfOk, IfErr, OnOk, OnErr};
+ghost use Rattle.std.specs.Prelude.{◌≡◌, ◌≢◌, true, ◌⊎◌, ◌+◌, ◌*◌, ◌≤◌, ◌<◌, ℕ, length, Ok, Err, IsTrue, IfOk, IfErr, OnOk, OnErr, MatchResult};
 ghost use Rattle.bw_types.specs.Fits.{IsInRange};
 ghost use Rattle.page_disk.specs.Image.{PageList, page_at};
 ghost use Rattle.page_disk.specs.Since.{LeavesNow, LeavesOnly};
@@ -7,20 +7,20 @@ ghost use Rattle.redo_journal.specs.Gates.{gate_of, is_empty};
 ghost use Rattle.redo_journal.specs.Settled.{SettlesTo};
 ghost use Rattle.redo_journal.specs.declared.gate.Gate.TheVariants.{Idle};
 ghost use Rattle.page_layout.specs.Meta.{IsMeta, IsTyped, meta_page};
-ghost use Rattle.page_space.specs.Opening.{HasNoMeta, HasNoParams, IsDamagedAt, IsSomeSpace, OnDamaged, RisesAtDisk, StandsAlike, StandsDamagedAt, StandsWhole};
-ghost use Rattle.page_space.specs.Faults.{AtBadJournal, AtDamaged, AtEmpty, AtNoMemory};
-ghost use Rattle.page_space.specs.Refused.{RisesAtOpening, opened_disk};
+ghost use Rattle.page_space.specs.Calls.{DiskWasRead};
+ghost use Rattle.page_space.specs.Opening.{HasNoMeta, HasNoParams, IsDamagedAt, IsSomeSpace, StandsAlike, StandsDamagedAt, StandsWhole};
+ghost use Rattle.page_space.specs.Faults.{AtBadJournal, AtDamaged, AtEmpty, AtNoMemory, CountsDisk};
+ghost use Rattle.page_space.specs.Refused.{opened_disk};
 ghost use Rattle.page_space.specs.Settling.{HasNoReplay, IsBadAt, replay_reads};
 ghost use Rattle.page_space.specs.Space.{params_page};
 
-use crate::refusal::open_fault;
 use crate::settling::settle;
 use crate::{OpenFault, OpenRefused, Space};
 use bw_types::Params;
 use page_cache::Cache;
 use page_disk::{Area, Disk};
 use page_layout::{Meta, Spelled, Super};
-use page_ports::{Page, PageFault, blank_page};
+use page_ports::{Page, blank_page};
 use redo_journal::settling_laws;
 use std::alloc::Global;
 
@@ -34,75 +34,66 @@ const SUPER_PAGE: u64 = 1;
 pub(crate) const META_PAGE: u64 = 2;
 
 // Reads a page of the Pages area, which past the end is all zeros. One read.
-fn read_page<D: Disk>(disk: &mut D, page: u64) -> Result<Page, PageFault>
+fn read_page<D: Disk>(disk: &mut D, page: u64) -> Result<Page, OpenFault>
     ensures ok { IfOk result (λ bytes. IsTrue (D.tells disk.old) → page < length (D.image disk.old).pages
         → bytes ≡ page_at (D.image disk.old).pages page) }
-    ensures damaged { OnDamaged result (λ _. ⊥) }
-    ensures faults { RisesAtDisk result (D.faults disk.old) (D.faults disk.new) }
-    ensures reads { (D.reads disk.old ≤ D.reads disk.new) × (D.reads disk.new ≤ D.reads disk.old + 1) }
-    ensures tells { D.tells disk.new ≡ D.tells disk.old }
-    ensures image { D.image disk.new ≡ D.image disk.old }
-    ensures moments { D.moments disk.new ≡ D.moments disk.old }
+    ensures only { IfErr result (λ fault. fault ≡ OpenFault.Disk) }
+    ensures faults { MatchResult result (λ _. D.faults disk.new ≡ D.faults disk.old) (λ fault. CountsDisk fault (D.faults disk.old) (D.faults disk.new)) }
+    ensures read { DiskWasRead D.Disk 1 disk.old disk.new }
 {
     let mut bytes = blank_page();
     match disk.read(Area::Pages, page, &mut bytes) {
         Ok(_) => Ok(bytes),
-        Err(_) => Err(PageFault::Disk),
+        Err(_) => Err(OpenFault::Disk),
     }
 }
 
 // The params in the superblock. Damaged carries 1, and comes exactly where that is no superblock.
-fn read_params<D: Disk>(disk: &mut D) -> Result<Params, PageFault>
+fn read_params<D: Disk>(disk: &mut D) -> Result<Params, OpenFault>
     requires { IsTrue (D.tells disk.old) → 3 ≤ length (D.image disk.old).pages }
     ensures rules { IfOk result (λ params. IsInRange params) }
     ensures ok { IfOk result (λ params. IsTrue (D.tells disk.old) → page_at (D.image disk.old).pages 1 ≡ params_page params) }
-    ensures damaged { OnDamaged result (λ page. (page ≡ 1) × (IsTrue (D.tells disk.old)
-        → HasNoParams (D.image disk.old).pages)) }
-    ensures faults { RisesAtDisk result (D.faults disk.old) (D.faults disk.new) }
-    ensures reads { (D.reads disk.old ≤ D.reads disk.new) × (D.reads disk.new ≤ D.reads disk.old + 1) }
-    ensures tells { D.tells disk.new ≡ D.tells disk.old }
-    ensures image { D.image disk.new ≡ D.image disk.old }
-    ensures moments { D.moments disk.new ≡ D.moments disk.old }
+    ensures damaged { IfErr result (λ fault. AtDamaged fault (λ page. (page ≡ 1) × (IsTrue (D.tells disk.old) → HasNoParams (D.image disk.old).pages))) }
+    ensures only { IfErr result (λ fault. AtEmpty fault ⊥ × AtBadJournal fault (λ _. ⊥) × AtNoMemory fault ⊥) }
+    ensures faults { MatchResult result (λ _. D.faults disk.new ≡ D.faults disk.old) (λ fault. CountsDisk fault (D.faults disk.old) (D.faults disk.new)) }
+    ensures read { DiskWasRead D.Disk 1 disk.old disk.new }
 {
     let page = read_page(disk, SUPER_PAGE)?;
     match Super::read(&page) {
         Some(found) => Ok(found.params),
-        None => Err(PageFault::Damaged(SUPER_PAGE)),
+        None => Err(OpenFault::Damaged(SUPER_PAGE)),
     }
 }
 
 // The meta page. Damaged carries 2, and comes exactly where that is no meta page or one by which more
 // pages are given out than the area has or the limit allows.
-fn read_meta<D: Disk>(disk: &mut D, limit: u64) -> Result<Meta, PageFault>
+fn read_meta<D: Disk>(disk: &mut D, limit: u64) -> Result<Meta, OpenFault>
     requires { IsTrue (D.tells disk.old) → 3 ≤ length (D.image disk.old).pages }
     ensures rules { IfOk result (λ meta. IsMeta meta) }
     ensures typed { IfOk result (λ meta. IsTyped meta) }
     ensures few { IfOk result (λ meta. meta.allotted ≤ limit) }
     ensures ok { IfOk result (λ meta. IsTrue (D.tells disk.old) → (page_at (D.image disk.old).pages 2 ≡ meta_page meta)
         × (meta.allotted ≤ length (D.image disk.old).pages)) }
-    ensures damaged { OnDamaged result (λ page. (page ≡ 2) × (IsTrue (D.tells disk.old)
-        → HasNoMeta (D.image disk.old).pages limit)) }
-    ensures faults { RisesAtDisk result (D.faults disk.old) (D.faults disk.new) }
-    ensures reads { (D.reads disk.old ≤ D.reads disk.new) × (D.reads disk.new ≤ D.reads disk.old + 1) }
-    ensures tells { D.tells disk.new ≡ D.tells disk.old }
-    ensures image { D.image disk.new ≡ D.image disk.old }
-    ensures moments { D.moments disk.new ≡ D.moments disk.old }
+    ensures damaged { IfErr result (λ fault. AtDamaged fault (λ page. (page ≡ 2) × (IsTrue (D.tells disk.old) → HasNoMeta (D.image disk.old).pages limit))) }
+    ensures only { IfErr result (λ fault. AtEmpty fault ⊥ × AtBadJournal fault (λ _. ⊥) × AtNoMemory fault ⊥) }
+    ensures faults { MatchResult result (λ _. D.faults disk.new ≡ D.faults disk.old) (λ fault. CountsDisk fault (D.faults disk.old) (D.faults disk.new)) }
+    ensures read { DiskWasRead D.Disk 1 disk.old disk.new }
 {
     let Ok(pages) = disk.len(Area::Pages) else {
-        return Err(PageFault::Disk);
+        return Err(OpenFault::Disk);
     };
     let page = read_page(disk, META_PAGE)?;
     let Some(meta) = Meta::read(&page) else {
-        return Err(PageFault::Damaged(META_PAGE));
+        return Err(OpenFault::Damaged(META_PAGE));
     };
     if meta.allotted > pages || meta.allotted > limit {
-        return Err(PageFault::Damaged(META_PAGE));
+        return Err(OpenFault::Damaged(META_PAGE));
     }
     Ok(meta)
 }
 
 // The params and the meta page. Damaged carries the first of the two pages that is none.
-fn read_roots<D: Disk>(disk: &mut D) -> Result<(Params, Meta), PageFault>
+fn read_roots<D: Disk>(disk: &mut D) -> Result<(Params, Meta), OpenFault>
     requires { IsTrue (D.tells disk.old) → 3 ≤ length (D.image disk.old).pages }
     ensures in_range { IfOk result (λ found. IsInRange found.0) }
     ensures rules { IfOk result (λ found. IsMeta found.1) }
@@ -111,12 +102,10 @@ fn read_roots<D: Disk>(disk: &mut D) -> Result<(Params, Meta), PageFault>
     ensures superblock { IfOk result (λ found. IsTrue (D.tells disk.old) → page_at (D.image disk.old).pages 1 ≡ params_page found.0) }
     ensures roots { IfOk result (λ found. IsTrue (D.tells disk.old) → page_at (D.image disk.old).pages 2 ≡ meta_page found.1) }
     ensures there { IfOk result (λ found. IsTrue (D.tells disk.old) → found.1.allotted ≤ length (D.image disk.old).pages) }
-    ensures damaged { OnDamaged result (λ page. IsTrue (D.tells disk.old) → IsDamagedAt (D.image disk.old).pages page) }
-    ensures faults { RisesAtDisk result (D.faults disk.old) (D.faults disk.new) }
-    ensures reads { (D.reads disk.old ≤ D.reads disk.new) × (D.reads disk.new ≤ D.reads disk.old + 2) }
-    ensures tells { D.tells disk.new ≡ D.tells disk.old }
-    ensures image { D.image disk.new ≡ D.image disk.old }
-    ensures moments { D.moments disk.new ≡ D.moments disk.old }
+    ensures damaged { IfErr result (λ fault. AtDamaged fault (λ page. IsTrue (D.tells disk.old) → IsDamagedAt (D.image disk.old).pages page)) }
+    ensures only { IfErr result (λ fault. AtEmpty fault ⊥ × AtBadJournal fault (λ _. ⊥) × AtNoMemory fault ⊥) }
+    ensures faults { MatchResult result (λ _. D.faults disk.new ≡ D.faults disk.old) (λ fault. CountsDisk fault (D.faults disk.old) (D.faults disk.new)) }
+    ensures read { DiskWasRead D.Disk 2 disk.old disk.new }
 {
     let params = read_params(disk)?;
     let meta = read_meta(disk, params.pages)?;
@@ -131,11 +120,9 @@ fn open_settled<D: Disk>(alloc: Global, mut disk: D) -> Result<Space<D>, OpenRef
     ensures no_memory { IfErr result (λ refused. AtNoMemory refused.fault (IsTrue (D.tells disk) → IsSomeSpace (D.image disk).pages)) }
     ensures not_empty { IfErr result (λ refused. AtEmpty refused.fault ⊥) }
     ensures not_bad { IfErr result (λ refused. AtBadJournal refused.fault (λ _. ⊥)) }
-    ensures faults { RisesAtOpening result (D.faults disk) (D.faults (opened_disk result)) }
-    ensures reads { (D.reads disk ≤ D.reads (opened_disk result)) × (D.reads (opened_disk result) ≤ D.reads disk + 2) }
-    ensures tells { D.tells (opened_disk result) ≡ D.tells disk }
-    ensures image { D.image (opened_disk result) ≡ D.image disk }
-    ensures moments { D.moments (opened_disk result) ≡ D.moments disk }
+    ensures faults { MatchResult result (λ _. D.faults (opened_disk result) ≡ D.faults disk)
+        (λ refused. CountsDisk refused.fault (D.faults disk) (D.faults (opened_disk result))) }
+    ensures read { DiskWasRead D.Disk 2 disk (opened_disk result) }
 {
     let fault = match read_roots(&mut disk) {
         Ok((params, meta)) => match Cache::new(alloc, CACHE_PAGES) {
@@ -150,7 +137,7 @@ fn open_settled<D: Disk>(alloc: Global, mut disk: D) -> Result<Space<D>, OpenRef
             }
             Err(_) => OpenFault::NoMemory,
         },
-        Err(fault) => open_fault(fault),
+        Err(fault) => fault,
     };
     Err(OpenRefused { fault, disk })
 }
@@ -192,7 +179,8 @@ impl<D: Disk> Space<D> {
         ensures bad_journal { IfErr result (λ refused. AtBadJournal refused.fault (λ page. IsTrue (D.tells disk) → IsBadAt (D.image disk) page)) }
         ensures damaged { IfErr result (λ refused. AtDamaged refused.fault (λ page. IsTrue (D.tells disk) → StandsDamagedAt (D.image disk) page)) }
         ensures no_memory { IfErr result (λ refused. AtNoMemory refused.fault (IsTrue (D.tells disk) → StandsWhole (D.image disk))) }
-        ensures faults { RisesAtOpening result (D.faults disk) (D.faults (opened_disk result)) }
+        ensures faults { MatchResult result (λ _. D.faults (opened_disk result) ≡ D.faults disk)
+            (λ refused. CountsDisk refused.fault (D.faults disk) (D.faults (opened_disk result))) }
         ensures reads { IsTrue (D.tells disk) → D.reads (opened_disk result) ≤ D.reads disk + 4 + replay_reads (D.image disk) }
         ensures reads_stay_or_rise { D.reads disk ≤ D.reads (opened_disk result) }
         ensures tells { D.tells (opened_disk result) ≡ D.tells disk }

@@ -1,8 +1,4 @@
 //! Why a disk was not opened.
-ghost use Rattle.std.specs.Prelude.{◌≡◌};
-ghost use Rattle.page_space.specs.Faults.{fault_of};
-
-use page_ports::PageFault;
 
 /// Why a disk was not opened.
 #[derive(Clone, Copy, Debug, PartialEq, Eq)]
@@ -25,13 +21,4 @@ pub enum OpenFault {
 pub struct OpenRefused<D> {
     pub fault: OpenFault,
     pub disk: D,
-}
-
-pub(crate) fn open_fault(fault: PageFault) -> OpenFault
-    ensures { result ≡ fault_of fault }
-{
-    match fault {
-        PageFault::Disk => OpenFault::Disk,
-        PageFault::Damaged(page) => OpenFault::Damaged(page),
-    }
 }

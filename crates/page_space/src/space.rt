@@ -1,7 +1,7 @@
 //! The committed pages of a disk.
 ghost use Rattle.std.specs.Prelude.{◌≡◌, ◌⊎◌, ◌+◌, ◌≤◌, ◌<◌, ℕ, List, length, Some, None, Ok, Err, IsTrue, OnOk};
 ghost use Rattle.bw_types.specs.Fits.{IsInRange};
-ghost use Rattle.page_ports.specs.Pages.{PageMap, Rose};
+ghost use Rattle.page_ports.specs.Calls.{OnlyReads};
 ghost use Rattle.page_disk.specs.Image.{Image, page_at};
 ghost use Rattle.page_disk.specs.Since.{LeavesNow};
 ghost use Rattle.page_cache.specs.Cache.{Agrees, kept_pages};
@@ -94,13 +94,9 @@ impl<D: Disk> Space<D> {
     pub(crate) fn read(&mut self, page: u64, buf: &mut Page) -> Result<(), PageFault>
         ensures ok { OnOk result (IsTrue (D.tells (disk_of self.old))
             → buf.new ≡ page_at (D.image (disk_of self.old)).pages page) }
-        ensures disk { result ≡ Err PageFault.Disk → Rose (D.faults (disk_of self.old)) (D.faults (disk_of self.new)) }
         ensures damaged { (p : ℕ) → result ≡ Err (PageFault.Damaged p)
             → (p ≡ page) × (IsTrue (D.tells (disk_of self.old)) → length (D.image (disk_of self.old)).pages ≤ page) }
-        ensures at_most_one { D.reads (disk_of self.new) ≤ D.reads (disk_of self.old) + 1 }
-        ensures reads { D.reads (disk_of self.old) ≤ D.reads (disk_of self.new) }
-        ensures faults { D.faults (disk_of self.old) ≤ D.faults (disk_of self.new) }
-        ensures same { begun_of self.new ≡ begun_of self.old }
+        ensures reads { OnlyReads ⟦<Space<D> as Pages>⟧ 1 self.old self.new result }
     {
         self.cache.get(&mut self.disk, page, buf)
     }

@@ -1,6 +1,7 @@
 //! A stage of changes on a space.
 ghost use Rattle.std.specs.Prelude.{◌≡◌, ◌⊎◌, ◌+◌, ◌≤◌, ◌<◌, ℕ, List, length, Some, None, Ok, Err, IsTrue, IsSome, OnOk, OnErr, IfOk};
-ghost use Rattle.page_ports.specs.Pages.{PageMap, Rose, put_page};
+ghost use Rattle.page_ports.specs.Calls.{OnlyReads};
+ghost use Rattle.page_ports.specs.Pages.{PageMap, put_page};
 ghost use Rattle.page_layout.specs.FreePage.{next_fits};
 ghost use Rattle.redo_journal.specs.Images.{image_map};
 ghost use Rattle.page_space.specs.Bytes.{bytes_with};
@@ -12,7 +13,7 @@ use crate::copying::copied;
 use crate::opening::META_PAGE;
 use page_disk::Disk;
 use page_layout::{Meta, Spelled};
-use page_ports::{Page, PageFault, blank_page};
+use page_ports::{Page, PageFault, Pages, blank_page};
 use redo_journal::{Images, NoMemory};
 
 /// Changes on a space that are not committed yet: the images of the pages that are changed, and the
@@ -51,21 +52,16 @@ impl<D: Disk> Space<D> {
 }
 
 impl<D: Disk> Staged<D> {
+    ghost use Rattle.page_space.specs.Calls.{KeepsChanges};
     ghost use Rattle.page_space.specs.Shown.{disk_of, begun_of, base_of, disk_under, staged_meta, staged_bytes, staged_map, IsStagedInOrder, IsMetaSet};
 
     /// Reads a page, in use or not: its image where there is one, and else as the disk has it.
     pub(crate) fn read(&mut self, page: u64, buf: &mut Page) -> Result<(), PageFault>
         ensures ok { OnOk result (IsTrue (D.tells (disk_under self.old)) → buf.new ≡ staged_bytes self.old page) }
-        ensures disk { result ≡ Err PageFault.Disk → Rose (D.faults (disk_under self.old)) (D.faults (disk_under self.new)) }
         ensures damaged { (p : ℕ) → result ≡ Err (PageFault.Damaged p)
             → (p ≡ page) × (IsTrue (D.tells (disk_under self.old)) → (staged_meta self.old).allotted ≤ page) }
-        ensures at_most_one { D.reads (disk_under self.new) ≤ D.reads (disk_under self.old) + 1 }
-        ensures reads { D.reads (disk_under self.old) ≤ D.reads (disk_under self.new) }
-        ensures faults { D.faults (disk_under self.old) ≤ D.faults (disk_under self.new) }
-        ensures base { base_of self.new ≡ base_of self.old }
-        ensures bytes { staged_bytes self.new ≡ staged_bytes self.old }
-        ensures images { self.new.images ≡ self.old.images }
-        ensures meta { staged_meta self.new ≡ staged_meta self.old }
+        ensures reads { OnlyReads ⟦<Staged<D> as Pages>⟧ 1 self.old self.new result }
+        ensures keeps { KeepsChanges self.old self.new }
     {
         if let Some(image) = self.images.get(page) {
             *buf = *image;

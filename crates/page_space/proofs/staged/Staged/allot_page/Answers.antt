@@ -1,4 +1,4 @@
-use Rattle.std.proofs.Common.{◌≡◌, ℕ, ◌≤◌, List, refl, ap, sym, ◌∙◌, subst, arith}
+use Rattle.std.proofs.Common.{◌≡◌, ℕ, ◌≤◌, List, refl, ap, sym, ◌∙◌, subst, arith, rules}
 use Rattle.redo_journal.specs.Images.{image_map}
 use Rattle.page_layout.specs.declared.meta.Meta.{Meta}
 use Rattle.page_space.specs.Bytes.{PageBytes, bytes_with}
@@ -10,7 +10,7 @@ use Rattle.page_space.proofs.staged.Staged.allot_page.Goals as goal
 
 pub invariant_of-self-clause-fresh : goal.invariant_of-self-clause-fresh
 invariant_of-self-clause-fresh g c =
-    let same : c.put_image.new.self.meta.allotted ≡ c.args.self.now.meta.allotted = ap (λ (m : Meta). m.allotted) (c.put_image.ensures.meta ∙ c.next_page.ensures.meta) in
+    let same : c.put_image.new.self.meta.allotted ≡ c.args.self.now.meta.allotted = ap (λ (m : Meta). m.allotted) (c.put_image.ensures.meta ∙ c.next_page.ensures.keeps.meta) in
     fresh_more (image_map c.next_page.new.self.images) (image_map c.put_image.new.self.images) c.in_ok-next.next.page c.blank_page.result
     c.put_image.new.self.space.meta.allotted c.put_image.new.self.meta.allotted c.args.self.now.meta.allotted c.in_ok-next.next.allotted
     (on_ok c.put_image.result _ (sym c.is_err.ensures.value ∙ c.if-is_err.false) c.put_image.ensures.ok)
@@ -18,7 +18,7 @@ invariant_of-self-clause-fresh g c =
 
 pub invariant_of-self-clause-within : goal.invariant_of-self-clause-within
 invariant_of-self-clause-within g c =
-    let same : c.put_image.new.self.meta.allotted ≡ c.args.self.now.meta.allotted = ap (λ (m : Meta). m.allotted) (c.put_image.ensures.meta ∙ c.next_page.ensures.meta) in
+    let same : c.put_image.new.self.meta.allotted ≡ c.args.self.now.meta.allotted = ap (λ (m : Meta). m.allotted) (c.put_image.ensures.meta ∙ c.next_page.ensures.keeps.meta) in
     let more : c.args.self.now.meta.allotted ≤ c.in_ok-next.next.allotted = c.in_ok-next.ensures.grows.0 in
     within_more (image_map c.put_image.new.self.images) c.put_image.new.self.meta.allotted c.in_ok-next.next.allotted (omega arith) c.put_image.new.self.within
 
@@ -26,7 +26,7 @@ invariant_of-self-clause-within g c =
 changed : (g : _) (c : goal.After-self-3-1 g) → staged_bytes c.put_image.new.self ≡ bytes_with (staged_bytes c.args.self.now) c.in_ok-next.next.page blank_bytes
 changed g c =
     on_ok c.put_image.result _ (sym c.is_err.ensures.value ∙ c.if-is_err.false) c.put_image.ensures.bytes
-    ∙ ap (λ (b : PageBytes). bytes_with b c.in_ok-next.next.page c.blank_page.result) c.next_page.ensures.bytes
+    ∙ ap (λ (b : PageBytes). bytes_with b c.in_ok-next.next.page c.blank_page.result) c.next_page.ensures.keeps.bytes
     ∙ ap (λ (i : List ℕ). bytes_with (staged_bytes c.args.self.now) c.in_ok-next.next.page i) c.blank_page.ensures
 
 pub returns-clause-ok : goal.returns-clause-ok
@@ -37,6 +37,18 @@ returns-clause-ok g c = λ told. (
       c.in_ok-next.ensures.ends.0 c.in_ok-next.ensures.ends.1 (blank_kind blank_bytes refl),
 )
 
-pub returns-clause-in_order : goal.returns-clause-in_order
-returns-clause-in_order g c = λ told h.
-    subst (λ (b : PageBytes). FreeInOrder b c.in_ok-next.next.allotted c.in_ok-next.next.free) (sym (changed g c)) (c.in_ok-next.ensures.order told h)
+pub returns-clause-changes : goal.returns-clause-changes
+returns-clause-changes g c = record {
+  went_on = record {
+    tells = search rules;
+    base = search rules;
+    limit = search rules;
+    free_in_order = λ told h. subst (λ (b : PageBytes). FreeInOrder b c.in_ok-next.next.allotted c.in_ok-next.next.free) (sym (changed g c)) (c.in_ok-next.ensures.order told h);
+    allotted = c.in_ok-next.ensures.grows.0;
+    at_most = c.in_ok-next.ensures.grows.1;
+    gets = search rules;
+    faults = search rules;
+  };
+  disk = search rules;
+  page_limit = search rules;
+}

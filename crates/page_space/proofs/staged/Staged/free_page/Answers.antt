@@ -1,4 +1,4 @@
-use Rattle.std.proofs.Common.{IsTrue, ℕ, List, ap, sym, ◌∙◌, subst}
+use Rattle.std.proofs.Common.{IsTrue, ℕ, List, ap, sym, ◌∙◌, subst, rules}
 use Rattle.page_layout.specs.FreePage.{next_fits}
 use Rattle.page_layout.specs.declared.meta.Meta.{Meta}
 use Rattle.page_layout.specs.declared.free_page.FreePage.{FreePage}
@@ -16,11 +16,24 @@ returns-clause-ok g c = λ told.
     (on_ok c.put_image.result _ (sym c.is_err.ensures.value ∙ c.if-is_err.false) c.put_image.ensures.bytes)
     c.args.self.now.meta.allotted (ap (λ (x : List ℕ). slice_index x 0) c.write.ensures)
 
-pub returns-clause-in_order : goal.returns-clause-in_order
-returns-clause-in_order g c = λ told h.
-    subst (λ (m : Meta). FreeInOrder (staged_bytes c.put_image.new.self) m.allotted c.args.page) (sym c.put_image.ensures.meta)
-    (freed_order (staged_bytes c.args.self.now) (staged_bytes c.put_image.new.self) c.args.page c.write.new.page
-    (on_ok c.put_image.result _ (sym c.is_err.ensures.value ∙ c.if-is_err.false) c.put_image.ensures.bytes)
-    c.args.self.now.meta.allotted c.first_free.result c.if-page-lt3.false c.if-page-self.false
-    (subst (λ (f : FreePage). IsTrue (next_fits f.next)) (sym c.first_free.ensures.value) c.args.self.now.first) c.first_free.ensures.typed c.write.ensures (c.requires told)
-    (subst (λ (f : FreePage). FreeInOrder (staged_bytes c.args.self.now) c.args.self.now.meta.allotted f.next) (sym c.first_free.ensures.value) h))
+pub returns-clause-changes : goal.returns-clause-changes
+returns-clause-changes g c = record {
+  went_on = record {
+    tells = search rules;
+    base = search rules;
+    limit = search rules;
+    free_in_order = λ told h.
+        subst (λ (m : Meta). FreeInOrder (staged_bytes c.put_image.new.self) m.allotted c.args.page) (sym c.put_image.ensures.meta)
+        (freed_order (staged_bytes c.args.self.now) (staged_bytes c.put_image.new.self) c.args.page c.write.new.page
+        (on_ok c.put_image.result _ (sym c.is_err.ensures.value ∙ c.if-is_err.false) c.put_image.ensures.bytes)
+        c.args.self.now.meta.allotted c.first_free.result c.if-page-lt3.false c.if-page-self.false
+        (subst (λ (f : FreePage). IsTrue (next_fits f.next)) (sym c.first_free.ensures.value) c.args.self.now.first) c.first_free.ensures.typed c.write.ensures (c.requires told)
+        (subst (λ (f : FreePage). FreeInOrder (staged_bytes c.args.self.now) c.args.self.now.meta.allotted f.next) (sym c.first_free.ensures.value) h));
+    allotted = search rules;
+    at_most = search rules;
+    gets = search rules;
+    faults = search rules;
+  };
+  disk = search rules;
+  page_limit = search rules;
+}
