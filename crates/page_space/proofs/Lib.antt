@@ -7,3 +7,4 @@ pub mod Settled
 pub mod Staging
 pub mod Standing
 pub mod Unique
+pub mod Walking

@@ -1,5 +1,5 @@
 -- What stands under a stage.
-use Rattle.std.specs.Prelude.{Bool, List}
+use Rattle.std.specs.Prelude.{ℕ, Bool, List}
 use Rattle.bw_types.specs.declared.params.Params.{Params}
 use Rattle.page_ports.specs.Pages.{PageMap}
 use Rattle.page_disk.specs.Image.{Image, page_at}
@@ -7,7 +7,7 @@ use Rattle.page_disk.specs.Moment.{Moment}
 use Rattle.page_layout.specs.declared.meta.Meta.{Meta}
 use Rattle.page_space.specs.Bytes.{PageBytes}
 use Rattle.page_space.specs.InUse.{pages_in_use}
-use Rattle.page_space.specs.Chain.{FreeInOrder}
+use Rattle.page_space.specs.Chain.{FreeInOrder, chain_from}
 
 -- The space that a stage began on: whether its disk tells, the image and the moments so far, its params
 -- and its meta page.
@@ -29,3 +29,7 @@ map_under begun = pages_in_use (bytes_under begun) begun.meta.allotted
 -- Its free pages are in order.
 abbrev pub OrderedUnder : Begun → Type 0
 OrderedUnder begun = FreeInOrder (bytes_under begun) begun.meta.allotted begun.meta.free
+
+-- its chain of free pages
+abbrev pub chain_under : Begun → List ℕ
+chain_under begun = chain_from (bytes_under begun) begun.meta.allotted begun.meta.free

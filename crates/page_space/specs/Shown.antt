@@ -1,5 +1,5 @@
 -- What a space and a stage show.
-use Rattle.std.specs.Prelude.{Result, Ok, Err}
+use Rattle.std.specs.Prelude.{ℕ, List, Result, Ok, Err}
 use Rattle.bw_types.specs.declared.params.Params.{Params}
 use Rattle.page_ports.specs.Pages.{PageMap}
 use Rattle.page_disk.specs.declared.disk.Disk.{Ghosts}
@@ -8,10 +8,10 @@ use Rattle.redo_journal.specs.Images.{image_map}
 use Rattle.redo_journal.specs.Placing.{placed_at}
 use Rattle.page_space.specs.declared.space.Space.{Space}
 use Rattle.page_space.specs.declared.staged.Staged.{Staged}
-use Rattle.page_space.specs.Begun.{Begun, map_under, OrderedUnder}
+use Rattle.page_space.specs.Begun.{Begun, map_under, chain_under, OrderedUnder}
 use Rattle.page_space.specs.Bytes.{PageBytes}
 use Rattle.page_space.specs.InUse.{pages_in_use}
-use Rattle.page_space.specs.Chain.{FreeInOrder}
+use Rattle.page_space.specs.Chain.{FreeInOrder, chain_from}
 use Rattle.page_space.specs.MetaSet.{HasMeta}
 
 module _ {D : Type 0} {g : Ghosts D} where
@@ -38,6 +38,10 @@ module _ {D : Type 0} {g : Ghosts D} where
   abbrev pub map_of : Space D g → PageMap
   map_of space = map_under (begun_of space)
 
+  -- the chain of free pages
+  abbrev pub chain_of : Space D g → List ℕ
+  chain_of space = chain_under (begun_of space)
+
   -- The free pages are in order.
   abbrev pub IsInOrder : Space D g → Type 0
   IsInOrder space = OrderedUnder (begun_of space)
@@ -61,6 +65,10 @@ module _ {D : Type 0} {g : Ghosts D} where
   -- the pages in use
   abbrev pub staged_map : Staged D g → PageMap
   staged_map staged = pages_in_use (staged_bytes staged) staged.meta.allotted
+
+  -- the chain of free pages
+  abbrev pub staged_chain : Staged D g → List ℕ
+  staged_chain staged = chain_from (staged_bytes staged) staged.meta.allotted staged.meta.free
 
   -- The free pages are in order.
   abbrev pub IsStagedInOrder : Staged D g → Type 0
