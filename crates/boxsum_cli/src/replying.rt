@@ -1,7 +1,7 @@
 // Writing replies.
 
 ghost use Rattle.std.specs.Prelude.{◌≡◌, ◌++◌, ◌⊎◌, IsTrue, IfSome, Some, None};
-ghost use Rattle.byte_ports.specs.Count.{Rose};
+ghost use Rattle.counts.specs.Count.{Rose};
 ghost use Rattle.csv_rows.specs.Machine.{replied};
 ghost use Rattle.boxsum_cli.specs.Runs.{WritesPart};
 

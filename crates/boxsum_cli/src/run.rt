@@ -1,7 +1,7 @@
 // The top call.
 
 ghost use Rattle.std.specs.Prelude.{◌≡◌, ℕ, ◌+◌, ◌<◌, ◌++◌, ◌⊎◌, [], IsTrue, Some, None, length, map, string_bytes};
-ghost use Rattle.byte_ports.specs.Count.{Rose};
+ghost use Rattle.counts.specs.Count.{Rose};
 ghost use Rattle.csv_rows.specs.Machine.{text};
 ghost use Rattle.bw_types.specs.declared.params.Params.{Params};
 ghost use Rattle.boxsum_cli.specs.Command.{built_command};

@@ -1,7 +1,7 @@
 // Serving an input: line after line is read, taken by the machine and replied.
 
 ghost use Rattle.std.specs.Prelude.{◌≡◌, ℕ, ◌+◌, ◌<◌, ◌≤◌, ◌++◌, ◌⊎◌, ◌≢◌, [], IsTrue, IfSome, Some, None, length};
-ghost use Rattle.byte_ports.specs.Count.{Rose};
+ghost use Rattle.counts.specs.Count.{Rose};
 ghost use Rattle.csv_rows.specs.Lines.{lines, PassesNoLineFeed};
 ghost use Rattle.csv_rows.specs.Reader.{to_come};
 ghost use Rattle.csv_rows.specs.Machine.{step, replied, replies};

@@ -1,7 +1,7 @@
 //! A sink in memory.
 ghost use Rattle.std.specs.Prelude.{◌≡◌, ◌==◌, ◌++◌, ◌≤◌, IsTrue, OnOk, OnErr, [], is_err};
 ghost use Rattle.std.specs.List.{list_any};
-ghost use Rattle.byte_ports.specs.Count.{raised};
+ghost use Rattle.counts.specs.Count.{raised};
 
 use crate::ports::{Failed, Sink};
 use std::alloc::Global;

@@ -1,7 +1,7 @@
 //! A source in memory.
 ghost use Rattle.std.specs.Prelude.{◌≡◌, ◌==◌, ◌++◌, ◌<◌, ◌≤◌, [], min, length, take, IfOk, OnOk, OnErr, is_err};
 ghost use Rattle.std.specs.List.{list_any};
-ghost use Rattle.byte_ports.specs.Count.{raised};
+ghost use Rattle.counts.specs.Count.{raised};
 
 use crate::ports::{Failed, Source};
 use std::marker::Model;

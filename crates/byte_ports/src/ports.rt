@@ -1,6 +1,6 @@
 //! The two traits, and their one failure.
 ghost use Rattle.std.specs.Prelude.{◌≡◌, ℕ, ◌<◌, ◌≤◌, List, [], ◌++◌, Bool, IsTrue, length, take, IfOk, OnOk, OnErr};
-ghost use Rattle.byte_ports.specs.Count.{Rose};
+ghost use Rattle.counts.specs.Count.{Rose};
 
 /// A source or a sink has failed.
 #[derive(Clone, Copy, Debug, PartialEq, Eq)]

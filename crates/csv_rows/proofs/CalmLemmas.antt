@@ -1,6 +1,6 @@
 -- How what is known of a source at one call and at the next joins.
 use Rattle.std.proofs.Common.{ℕ, Bool, List, ◌∙◌, subst}
-use Rattle.byte_ports.specs.Count.{Rose}
+use Rattle.counts.specs.Count.{Rose}
 use Rattle.csv_rows.specs.Reader.{IsCalm}
 use Rattle.csv_rows.specs.Intake.{IsStop}
 use Rattle.csv_rows.specs.declared.lines.intake.Stop.{Stop}

@@ -1,6 +1,6 @@
 -- What contracts see of the buffer between a source and its lines.
 use Rattle.std.specs.Prelude.{◌≡◌, ℕ, ◌+◌, ◌<◌, Bool, true, IsTrue, List, [], ◌++◌, length, take, slice_index}
-use Rattle.byte_ports.specs.Count.{Rose}
+use Rattle.counts.specs.Count.{Rose}
 use Rattle.csv_rows.specs.Lines.{is_line_feed, HasNoLineFeed}
 use Rattle.csv_rows.specs.Reader.{IsCalm}
 use Rattle.csv_rows.specs.declared.lines.intake.Stop.{Stop}

@@ -1,6 +1,6 @@
 -- What contracts see of a reader of lines, and what each of its answers says.
 use Rattle.std.specs.Prelude.{◌≡◌, ℕ, ◌<◌, ⊤, Bool, IsTrue, List, [], ◌++◌, length, Option, None, Some, IfSome}
-use Rattle.byte_ports.specs.Count.{Rose}
+use Rattle.counts.specs.Count.{Rose}
 use Rattle.csv_rows.specs.Lines.{TakesLine, PassesNoLineFeed}
 use Rattle.csv_rows.specs.declared.lines.Line.{Line}
 use Rattle.csv_rows.specs.declared.lines.Line.TheVariants.{Text, Long, End, Fault, Limit}

@@ -1,12 +1,12 @@
 -- What calls on pages and on stages leave as they found it, and what their refusals tell.
-use Rattle.std.specs.Prelude.{◌≡◌, ℕ, ◌+◌, ◌≤◌, ◌<◌, IsTrue, Result, Err}
+use Rattle.std.specs.Prelude.{◌≡◌, ℕ, ◌+◌, ◌≤◌, ◌<◌, false, IsTrue, None, Result, Err}
 use Rattle.page_ports.specs.declared.page.PageFault.{PageFault}
 use Rattle.page_ports.specs.declared.page.PageFault.TheVariants as page_fault
 use Rattle.page_ports.specs.declared.page.StageFault.{StageFault}
 use Rattle.page_ports.specs.declared.page.StageFault.TheVariants.{Disk, PageLimit}
 use Rattle.page_ports.specs.declared.pages.Pages.{Ghosts}
-use Rattle.page_ports.specs.Frame.{KeepsPages}
-use Rattle.page_ports.specs.Pages.{Rose}
+use Rattle.page_ports.specs.Frame.{KeepsPages, names_page}
+use Rattle.counts.specs.Count.{Rose}
 
 -- The pages were read, by at most so many gets, and are as they were.
 pub record WasRead {P : Type 0} (g : Ghosts P) (most : ℕ) (old new : P) : Type 0 where
@@ -15,6 +15,7 @@ pub record WasRead {P : Type 0} (g : Ghosts P) (most : ℕ) (old new : P) : Type
   pub base : g.base new ≡ g.base old
   pub limit : g.limit new ≡ g.limit old
   pub allotted : g.allotted new ≡ g.allotted old
+  pub chain : g.chain new ≡ g.chain old
   pub free_in_order : g.free_in_order old → g.free_in_order new
   pub gets : g.gets old ≤ g.gets new
   pub at_most : g.gets new ≤ g.gets old + most
@@ -26,12 +27,25 @@ pub record OnlyReads {P T : Type 0} (g : Ghosts P) (most : ℕ) (old new : P) (r
   pub read : WasRead g most old new
   pub disk : result ≡ Err page_fault.Disk → Rose (g.faults old) (g.faults new)
 
--- The stage went on over its base, and at most so many page numbers more are given out.
+-- The free pages are in order, where the map is told.
+abbrev pub IsInOrder : {P : Type 0} → Ghosts P → P → Type 0
+IsInOrder g stage = IsTrue (g.tells stage) × g.free_in_order stage
+
+-- This page was given out, is in the map no more, and can never be given out again.
+pub record IsForgotten {P : Type 0} (g : Ghosts P) (stage : P) (page : ℕ) : Type 0 where
+  pub from_three : 3 ≤ page
+  pub given_out : page < g.allotted stage
+  pub gone : g.map stage page ≡ None
+  pub unchained : names_page (g.chain stage) page ≡ false
+
+-- The stage went on over its base, and at most so many page numbers more are given out. No page is
+-- forgotten that was not before.
 pub record WentOn {P : Type 0} (g : Ghosts P) (most : ℕ) (old new : P) : Type 0 where
   pub tells : g.tells new ≡ g.tells old
   pub base : g.base new ≡ g.base old
   pub limit : g.limit new ≡ g.limit old
   pub free_in_order : IsTrue (g.tells old) → g.free_in_order old → g.free_in_order new
+  pub none_forgotten : IsTrue (g.tells old) → g.free_in_order old → (page : ℕ) → IsForgotten g new page → IsForgotten g old page
   pub allotted : g.allotted old ≤ g.allotted new
   pub at_most : g.allotted new ≤ g.allotted old + most
   pub gets : g.gets old ≤ g.gets new

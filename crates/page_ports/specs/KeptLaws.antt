@@ -8,7 +8,7 @@ use Rattle.page_ports.specs.Pages.{put_page}
 use Rattle.page_ports.specs.Kept.{map_of}
 
 -- A page that is in the map has a place in the list.
-map_of-place : (kept : List (Option (List ℕ))) (page : ℕ) → IsSome (map_of kept page) → (3 ≤ page) × (page - 3 < length kept)
+pub map_of-place : (kept : List (Option (List ℕ))) (page : ℕ) → IsSome (map_of kept page) → (3 ≤ page) × (page - 3 < length kept)
 map_of-place kept page h = elim (cases_lt page 3) [
   | inl low ↦ let below : nat_le 3 page ≡ false = lt-leb _ _ low in
       let none : map_of kept page ≡ None = rw below refl in

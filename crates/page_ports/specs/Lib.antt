@@ -1,4 +1,6 @@
 pub mod Calls
+pub mod Chain
+pub mod ChainLaws
 pub mod Faults
 pub mod Frame
 pub mod FrameLaws
@@ -6,3 +8,5 @@ pub mod Kept
 pub mod KeptLaws
 pub mod MemStage
 pub mod Pages
+pub mod Spare
+pub mod SpareLaws

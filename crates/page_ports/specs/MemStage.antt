@@ -1,5 +1,5 @@
 -- What a `MemStage` shows.
-use Rattle.std.specs.Prelude.{ℕ, ◌+◌, length}
+use Rattle.std.specs.Prelude.{ℕ, ◌+◌, List, length, reverse}
 use Rattle.page_ports.specs.Pages.{PageMap}
 use Rattle.page_ports.specs.Kept.{map_of}
 use Rattle.page_ports.specs.declared.mem_stage.MemStage.{MemStage}
@@ -12,6 +12,10 @@ page_limit stage = stage.limit
 
 abbrev pub allotted_pages : MemStage → ℕ
 allotted_pages stage = 3 + length stage.pages.items
+
+-- the pages that were freed, the last one first
+abbrev pub chain_of : MemStage → List ℕ
+chain_of stage = reverse stage.freed.items
 
 abbrev pub get_count : MemStage → ℕ
 get_count stage = stage.gets

@@ -1,24 +1,28 @@
 //! A stage in memory.
-ghost use Rattle.std.specs.Prelude.{◌≡◌, ◌+◌, ◌-◌, ◌≤◌, true, length, IsSome, Some, None, slice_set, option_copied, refl};
+ghost use Rattle.std.specs.Prelude.{◌≡◌, ◌+◌, ◌-◌, ◌≤◌, ◌<◌, ◌⊎◌, ◌++◌, ◌∷◌, [], true, length, reverse, IsTrue, IfOk, OnOk, OnErr, IsSome, Some, None, Err, slice_set, option_copied, refl};
 ghost use Rattle.page_ports.specs.Kept.{map_of};
-ghost use Rattle.page_ports.specs.Pages.{put_page, remove_page};
+ghost use Rattle.page_ports.specs.Pages.{blank_bytes, put_page, remove_page};
+ghost use Rattle.page_ports.specs.Spare.{are_spare};
 
 use crate::{FREE_PAGE, Page, PageFault, Pages, Stage, StageFault, blank_page};
 use std::alloc::Global;
 
-/// A stage that keeps its pages in memory, and does not give out a page again that was freed.
+/// A stage that keeps its pages in memory. The page that was freed last is given out again first.
 #[derive(Drop)]
 pub struct MemStage {
     // The page 3, the one after it, and so on. `None` was freed.
     pages: Vec<Option<Page>>,
+    // The pages that were freed and not given out again, in that order.
+    freed: Vec<u64>,
     gets: u64,
     limit: u64,
     ghost within: { 3 + length pages.items ≤ limit },
     ghost limit_fits: { limit ≤ 4294967295 },
+    ghost spare: { IsTrue (are_spare pages.items (reverse freed.items)) },
 }
 
 impl MemStage {
-    ghost use Rattle.page_ports.specs.MemStage.{page_map, page_limit, allotted_pages, get_count};
+    ghost use Rattle.page_ports.specs.MemStage.{page_map, page_limit, allotted_pages, chain_of, get_count};
     ghost use Rattle.page_ports.specs.Pages.{empty_map};
 
     /// A stage with no pages in its map, of which the numbers below 3 count as given out.
@@ -28,10 +32,12 @@ impl MemStage {
         ensures map { page_map result ≡ empty_map }
         ensures limit { page_limit result ≡ limit }
         ensures allotted { allotted_pages result ≡ 3 }
+        ensures chain { chain_of result ≡ [] }
         ensures gets { get_count result ≡ 0 }
     {
         MemStage {
             pages: Vec::new(alloc),
+            freed: Vec::new(alloc),
             gets: 0,
             limit,
         }
@@ -42,6 +48,27 @@ impl MemStage {
         ensures { result ≡ allotted_pages self.now }
     {
         3 + self.pages.len() as u64
+    }
+
+    // Gives out the first number that was never given out.
+    fn allot_new(&mut self) -> Result<u64, StageFault>
+        ensures number { IfOk result (λ page. page ≡ allotted_pages self.old) }
+        ensures pages { OnOk result (self.new.pages.items ≡ self.old.pages.items ++ Some blank_bytes ∷ []) }
+        ensures unchanged { OnErr result (self.new.pages.items ≡ self.old.pages.items) }
+        ensures freed { self.new.freed ≡ self.old.freed }
+        ensures gets { self.new.gets ≡ self.old.gets }
+        ensures limit { self.new.limit ≡ self.old.limit }
+        ensures refusals { OnErr result ((result ≡ Err StageFault.NoMemory)
+            ⊎ ((result ≡ Err (StageFault.PageLimit (allotted_pages self.old))) × (allotted_pages self.old ≡ page_limit self.old))) }
+    {
+        let allotted = self.allotted();
+        if allotted >= self.limit {
+            return Err(StageFault::PageLimit(allotted));
+        }
+        match self.pages.push(Some(blank_page())) {
+            Ok(()) => Ok(allotted),
+            Err(_) => Err(StageFault::NoMemory),
+        }
     }
 
     /// How many gets there were. The count stands still at its type's end.
@@ -61,10 +88,10 @@ fn page_in(pages: &[Option<Page>], page: u64) -> Option<&Page>
     pages.get((page - 3) as usize)?.as_ref()
 }
 
-// Writes or empties the place of a page that is there.
-fn set_page(pages: &mut [Option<Page>], page: u64, bytes: Option<Page>)
-    requires { IsSome (map_of pages.old page) }
-    ensures { pages.new ≡ slice_set pages.old (page - 3) bytes }
+// Fills or empties the place of a page.
+fn set_page(pages: &mut Vec<Option<Page>>, page: u64, bytes: Option<Page>)
+    requires { (3 ≤ page) × (page < 3 + length pages.old.items) }
+    ensures { pages.new.items ≡ slice_set pages.old.items (page - 3) bytes }
 {
     pages[(page - 3) as usize] = bytes;
 }
@@ -79,6 +106,8 @@ impl Pages for MemStage {
     ghost faults = { λ _. 0 };
 
     ghost allotted = { λ stage. 3 + length stage.pages.items };
+
+    ghost chain = { λ stage. reverse stage.freed.items };
 
     ghost limit = { λ stage. stage.limit };
 
@@ -110,13 +139,12 @@ impl Stage for MemStage {
     ghost limit_fits = { λ stage. stage.limit_fits };
 
     fn allot(&mut self) -> Result<u64, StageFault> {
-        let allotted = self.allotted();
-        if allotted >= self.limit {
-            return Err(StageFault::PageLimit(allotted));
-        }
-        match self.pages.push(Some(blank_page())) {
-            Ok(()) => Ok(allotted),
-            Err(_) => Err(StageFault::NoMemory),
+        match self.freed.pop() {
+            Some(page) => {
+                set_page(&mut self.pages, page, Some(blank_page()));
+                Ok(page)
+            }
+            None => self.allot_new(),
         }
     }
 
@@ -126,7 +154,12 @@ impl Stage for MemStage {
     }
 
     fn free(&mut self, page: u64) -> Result<(), StageFault> {
-        set_page(&mut self.pages, page, None);
-        Ok(())
+        match self.freed.push(page) {
+            Ok(()) => {
+                set_page(&mut self.pages, page, None);
+                Ok(())
+            }
+            Err(_) => Err(StageFault::NoMemory),
+        }
     }
 }

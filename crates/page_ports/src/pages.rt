@@ -1,6 +1,7 @@
 //! What can be read by pages.
-ghost use Rattle.std.specs.Prelude.{◌≡◌, ◌+◌, ◌≤◌, ℕ, Bool, Some, None, Err, IsTrue, OnOk};
-ghost use Rattle.page_ports.specs.Pages.{PageMap, Rose};
+ghost use Rattle.std.specs.Prelude.{◌≡◌, ◌+◌, ◌≤◌, ℕ, Bool, List, [], Some, None, Err, IsTrue, OnOk};
+ghost use Rattle.counts.specs.Count.{Rose};
+ghost use Rattle.page_ports.specs.Pages.{PageMap};
 
 use crate::{Page, PageFault};
 
@@ -25,7 +26,11 @@ pub trait Pages {
     /// At most how many page numbers there may be.
     ghost limit: { Self → ℕ } = { λ _. 0 };
 
-    /// The record of the free pages is in order, so that each of them can be given out.
+    /// The chain of free pages, the one to be given out next at its front.
+    ghost chain: { Self → List ℕ } = { λ _. [] };
+
+    /// The record of the free pages is in order, so that each of the chain can be given out. What the
+    /// chain says is claimed only where it is.
     ghost free_in_order: { Self → Type 0 } = { λ _. Unit {0} };
 
     /// What no call changes: where the pages came from.
@@ -53,5 +58,6 @@ pub trait Pages {
         ensures base { base self.new ≡ base self.old }
         ensures allotted { allotted self.new ≡ allotted self.old }
         ensures limit { limit self.new ≡ limit self.old }
+        ensures chain { chain self.new ≡ chain self.old }
         ensures free_in_order { free_in_order self.old → free_in_order self.new };
 }

@@ -101,3 +101,17 @@ fn a_freed_page_is_gone(rt: HostRuntime) -> Result<(), Fail> {
     assert_eq!(rt; stage.allotted(), 4);
     Ok(())
 }
+
+#[test]
+fn the_page_freed_last_is_given_out_first(rt: HostRuntime) -> Result<(), Fail> {
+    let mut stage = MemStage::new(rt.alloc(), 6);
+    assert_eq!(rt; written_and_freed(&mut stage), Ok(3));
+    assert_eq!(rt; written(&mut stage), Ok(3));
+    assert_eq!(rt; written_and_freed(&mut stage), Ok(4));
+    assert_eq!(rt; stage.allot(), Ok(4));
+    assert_eq!(rt; first_byte(&mut stage, 4), Ok(0));
+    assert_eq!(rt; first_byte(&mut stage, 3), Ok(7));
+    assert_eq!(rt; stage.allot(), Ok(5));
+    assert_eq!(rt; stage.allot(), Err(StageFault::PageLimit(6)));
+    Ok(())
+}

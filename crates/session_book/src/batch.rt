@@ -1,5 +1,5 @@
 ghost use Rattle.std.specs.Prelude.{◌≡◌, ℕ, ◌+◌, ◌^◌, ◌<◌, ◌≤◌, Bool, true, false, List, ◌++◌, Some, None, Err, IsTrue, IfOk, OnOk, nat_le, if◌then◌else◌};
-ghost use Rattle.page_ports.specs.Pages.{Rose};
+ghost use Rattle.counts.specs.Count.{Rose};
 ghost use Rattle.bw_types.specs.Fits.{IsInRange, object_fits, row_fits};
 ghost use Rattle.bw_types.specs.History.{flat_row};
 ghost use Rattle.bw_types.specs.Mass.{mass, mass_limit};

@@ -1,6 +1,6 @@
 //! The buffer between a source and its lines.
 ghost use Rattle.std.specs.Prelude.{◌≡◌, ◌+◌, ◌<◌, ◌≤◌, [], ◌++◌, IsTrue, length, take, drop, IfOk, IfErr, OnOk, OnErr};
-ghost use Rattle.byte_ports.specs.Count.{Rose};
+ghost use Rattle.counts.specs.Count.{Rose};
 
 use byte_ports::{Failed, Source};
 use std::marker::Model;
