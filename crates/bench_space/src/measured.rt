@@ -73,6 +73,10 @@ fn measure_files(rt: &HostRuntime, pages: &mut Vec<u64>) -> Result<Option<()>> {
     let Some(space) = commit_new(space, pages, PAGES) else {
         return Ok(None);
     };
+    // A get is counted where it gives sevens.
+    let Some(space) = commit_again(space, pages.as_slice(), 2) else {
+        return Ok(None);
+    };
     let Some(space) = measure_commits(rt, space, first_of(pages.as_slice(), 1), 300)? else {
         return Ok(None);
     };

@@ -1,7 +1,7 @@
 //! The pages that were used last.
 ghost use Rattle.std.specs.Prelude.{◌≡◌, ◌≢◌, ◌⊎◌, ◌+◌, ◌-◌, ◌^◌, ◌<◌, ◌≤◌, ℕ, List, length, min, Some, None, Ok, Err, IsTrue, IfOk, IfSome, OnOk, OnErr, is_some};
 ghost use Rattle.std.specs.Box.{box_value};
-ghost use Rattle.page_ports.specs.Pages.{Rose};
+ghost use Rattle.counts.specs.Count.{Rose};
 ghost use Rattle.page_disk.specs.Image.{PageList, page_at, written_at};
 ghost use Rattle.page_cache.specs.Cache.{Agrees, KeepsAtMost, KeepsAtMostAlso, capacity, kept_pages, renewed};
 

@@ -1,6 +1,6 @@
 -- What a page more or less makes of the map and of the chain.
-use Rattle.std.proofs.Common.{◌≡◌, ◌≢◌, ℕ, ◌<◌, ◌≤◌, List, [], IsSome, false, sym, ◌∙◌, ap, subst, inl, inr, arith}
-use Rattle.std.specs.Prelude.{Result, Ok, Err, OnOk, IfOk, is_err, is_some, slice_index}
+use Rattle.std.proofs.Common.{◌≡◌, ◌≢◌, ℕ, ◌<◌, ◌≤◌, List, [], IsSome, true, false, sym, ◌∙◌, ap, subst, inl, inr, arith}
+use Rattle.std.specs.Prelude.{Result, Ok, Err, OnOk, OnErr, IfOk, is_err, is_some, slice_index}
 use Rattle.page_ports.specs.Pages.{PageMap, put_page, remove_page, blank_bytes}
 use Rattle.std.proofs.lemmas.Bool.{cases_eq}
 use Rattle.page_space.proofs.Staging.{LieWithin, put_here}
@@ -16,6 +16,14 @@ use Rattle.page_space.specs.ChainLaws.{free_kind, order_taken, order_beside, ord
 pub on_ok : {T E : Type 0} (r : Result T E) (P : Type 0) → is_err r ≡ false → OnOk r P → P
 on_ok (Ok x) P fine h = h
 on_ok (Err e) P fine h = cc
+
+-- What an error promises holds where the answer is one.
+pub on_err : {T E : Type 0} (r : Result T E) (P : Type 0) → is_err r ≡ true → OnErr r P → P
+on_err (Ok x) P fails h = cc
+on_err (Err e) P fails h = h
+
+pub err_same : {T E : Type 0} (r : Result T E) (x y : E) → r ≡ Err x → r ≡ Err y → x ≡ y
+err_same r x y h e = cc
 
 pub blank_kind : (image : List ℕ) → image ≡ blank_bytes → slice_index image 0 ≢ 9
 unfolding blank_bytes

@@ -1,6 +1,6 @@
 -- The faults of an opening.
 use Rattle.std.specs.Prelude.{◌≡◌, ℕ, ◌≤◌}
-use Rattle.page_ports.specs.Pages.{Rose}
+use Rattle.counts.specs.Count.{Rose}
 use Rattle.page_space.specs.declared.refusal.OpenFault.{OpenFault}
 use Rattle.page_space.specs.declared.refusal.OpenFault.TheVariants.{Disk, Empty, Damaged, NoMemory, BadJournal}
 

@@ -1,7 +1,6 @@
 //! A commit of a stage.
 ghost use Rattle.std.specs.Prelude.{◌≡◌, ◌⊎◌, ◌+◌, ◌≤◌, ◌<◌, ℕ, Ok, Err, IsTrue, IsSome, IfOk, OnOk, OnErr};
-ghost use Rattle.page_ports.specs.Pages.{Rose};
-ghost use Rattle.page_disk.specs.Disk.{CountsFault};
+ghost use Rattle.counts.specs.Count.{CountsFault};
 ghost use Rattle.page_disk.specs.Since.{LeavesNow, LeavesOnly};
 ghost use Rattle.page_cache.specs.Cache.{kept_pages};
 ghost use Rattle.redo_journal.specs.Images.{image_map};
@@ -27,7 +26,7 @@ fn renew_all(cache: &mut Cache, images: &Images)
 }
 
 impl<D: Disk> Staged<D> {
-    ghost use Rattle.page_space.specs.Shown.{disk_of, params_of, meta_of, begun_of, map_of, IsInOrder, base_of, disk_under, staged_meta, staged_map, IsStagedInOrder, IsMetaSet, disk_out};
+    ghost use Rattle.page_space.specs.Shown.{disk_of, params_of, meta_of, begun_of, map_of, chain_of, IsInOrder, base_of, disk_under, staged_meta, staged_map, staged_chain, IsStagedInOrder, IsMetaSet, disk_out};
 
     /// Commits the changes: all of them, or none. `set_meta` has to be the last call that changed the
     /// stage.
@@ -39,6 +38,7 @@ impl<D: Disk> Staged<D> {
         ensures map { IfOk result (λ space. IsTrue (D.tells (disk_under self)) → map_of space ≡ staged_map self) }
         ensures meta { IfOk result (λ space. meta_of space ≡ staged_meta self) }
         ensures params { IfOk result (λ space. params_of space ≡ (base_of self).params) }
+        ensures chain { IfOk result (λ space. IsTrue (D.tells (disk_under self)) → chain_of space ≡ staged_chain self) }
         ensures in_order { IfOk result (λ space. IsTrue (D.tells (disk_under self)) → IsStagedInOrder self → IsInOrder space) }
         ensures holds { IfOk result (λ space. IsTrue (D.tells (disk_under self))
             → HoldsSpace (D.image (disk_of space)) (params_of space) (meta_of space) (map_of space) (IsStagedInOrder self)) }

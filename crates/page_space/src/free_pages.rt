@@ -1,13 +1,14 @@
 //! The pages of a stage that are given out and freed.
-ghost use Rattle.std.specs.Prelude.{◌≡◌, ◌≢◌, ◌⊎◌, ◌+◌, ◌≤◌, ◌<◌, ℕ, List, Some, None, Ok, Err, IsTrue, IsSome, OnOk, OnErr, IfOk, slice_index};
+ghost use Rattle.std.specs.Prelude.{◌≡◌, ◌≢◌, ◌⊎◌, ◌+◌, ◌≤◌, ◌<◌, ℕ, List, ◌∷◌, Some, None, Ok, Err, IsTrue, IsSome, OnOk, OnErr, IfOk, slice_index};
 ghost use Rattle.page_ports.specs.Calls.{Changes, OnlyReads};
+ghost use Rattle.page_ports.specs.Chain.{TakesFirst};
 ghost use Rattle.page_ports.specs.Pages.{put_page, remove_page, blank_bytes};
 ghost use Rattle.page_layout.specs.FreePage.{IsTyped, next_fits};
 ghost use Rattle.page_layout.specs.declared.free_page.FreePage.{FreePage};
 ghost use Rattle.page_ports.specs.declared.page.TheConstants.{FREE_PAGE};
 ghost use Rattle.page_space.specs.Bytes.{bytes_with};
 ghost use Rattle.page_space.specs.Calls.{KeepsChanges};
-ghost use Rattle.page_space.specs.Chain.{LeadsOn, FreeInOrder};
+ghost use Rattle.page_space.specs.Chain.{LeadsOn, FreeInOrder, chain_from};
 
 use crate::Staged;
 use page_disk::Disk;
@@ -24,7 +25,7 @@ struct Choice {
 }
 
 impl<D: Disk> Staged<D> {
-    ghost use Rattle.page_space.specs.Shown.{base_of, disk_under, staged_meta, staged_bytes, staged_map, IsStagedInOrder};
+    ghost use Rattle.page_space.specs.Shown.{base_of, disk_under, staged_meta, staged_bytes, staged_chain, staged_map, IsStagedInOrder};
 
     // The page that a free page names as the next. Damaged comes where this is none.
     fn next_free(&mut self, page: u64) -> Result<u64, PageFault>
@@ -61,6 +62,9 @@ impl<D: Disk> Staged<D> {
             → IfOk result (λ next. (next.page ≡ (staged_meta self.old).free) × (next.allotted ≡ (staged_meta self.old).allotted)) }
         ensures chain_end { (staged_meta self.old).free ≡ 0
             → IfOk result (λ next. (next.page ≡ (staged_meta self.old).allotted) × (next.allotted ≡ (staged_meta self.old).allotted + 1) × (next.free ≡ 0)) }
+        ensures takes { IfOk result (λ next. IsTrue (D.tells (disk_under self.old)) → IsStagedInOrder self.old
+            → TakesFirst (staged_chain self.old) next.page (chain_from (bytes_with (staged_bytes self.old) next.page blank_bytes) next.allotted next.free)
+            (staged_meta self.old).allotted next.allotted) }
         ensures only { IfOk result (λ next. (p : ℕ) → next.page ≢ p → p < next.allotted → p < (staged_meta self.old).allotted) }
         ensures unused { IfOk result (λ next. IsTrue (D.tells (disk_under self.old)) → staged_map self.old next.page ≡ None) }
         ensures order { IfOk result (λ next. IsTrue (D.tells (disk_under self.old)) → IsStagedInOrder self.old
@@ -105,9 +109,12 @@ impl<D: Disk> Staged<D> {
         ensures ends { IfOk result (λ page. (3 ≤ page) × (page < (staged_meta self.new).allotted)) }
         ensures ok { IfOk result (λ page. IsTrue (D.tells (disk_under self.old))
             → (staged_map self.old page ≡ None) × (staged_map self.new ≡ put_page (staged_map self.old) page blank_bytes)) }
-        ensures chain { (staged_meta self.old).free ≢ 0
+        ensures chain { IfOk result (λ page. IsTrue (D.tells (disk_under self.old)) → IsStagedInOrder self.old
+            → TakesFirst (staged_chain self.old) page (staged_chain self.new) (staged_meta self.old).allotted (staged_meta self.new).allotted) }
+        // So it is where the chain is not in order, too.
+        ensures first { (staged_meta self.old).free ≢ 0
             → IfOk result (λ page. (page ≡ (staged_meta self.old).free) × ((staged_meta self.new).allotted ≡ (staged_meta self.old).allotted)) }
-        ensures chain_end { (staged_meta self.old).free ≡ 0
+        ensures no_first { (staged_meta self.old).free ≡ 0
             → IfOk result (λ page. (page ≡ (staged_meta self.old).allotted) × ((staged_meta self.new).allotted ≡ (staged_meta self.old).allotted + 1)) }
         ensures err { OnErr result (staged_meta self.new ≡ staged_meta self.old) }
         ensures err_bytes { OnErr result (staged_bytes self.new ≡ staged_bytes self.old) }
@@ -144,7 +151,9 @@ impl<D: Disk> Staged<D> {
     pub fn free_page(&mut self, page: u64) -> Result<(), StageFault>
         requires { IsTrue (D.tells (disk_under self.old)) → IsSome (staged_map self.old page) }
         ensures ok { OnOk result (IsTrue (D.tells (disk_under self.old)) → staged_map self.new ≡ remove_page (staged_map self.old) page) }
-        ensures chain { OnOk result ((staged_meta self.new).free ≡ page) }
+        ensures chain { OnOk result (IsTrue (D.tells (disk_under self.old)) → IsStagedInOrder self.old
+            → staged_chain self.new ≡ page ∷ staged_chain self.old) }
+        ensures first { OnOk result ((staged_meta self.new).free ≡ page) }
         ensures err { OnErr result (staged_meta self.new ≡ staged_meta self.old) }
         ensures err_bytes { OnErr result (staged_bytes self.new ≡ staged_bytes self.old) }
         ensures refusals { OnErr result ((result ≡ Err StageFault.NoMemory) ⊎ (result ≡ Err (StageFault.Damaged page))) }
@@ -175,6 +184,7 @@ impl<D: Disk> Staged<D> {
         ensures refusals { OnErr result ((result ≡ Err StageFault.NoMemory) ⊎ (result ≡ Err (StageFault.Damaged page))) }
         ensures damaged { result ≡ Err (StageFault.Damaged page) → IsTrue (D.tells (disk_under self.old)) → staged_map self.old page ≡ None }
         ensures meta { staged_meta self.new ≡ staged_meta self.old }
+        ensures chain { IsTrue (D.tells (disk_under self.old)) → staged_chain self.new ≡ staged_chain self.old }
         ensures disk { disk_under self.new ≡ disk_under self.old }
         ensures changes { Changes ⟦<Staged<D> as Pages>⟧ 0 self.old self.new result }
     {

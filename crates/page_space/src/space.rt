@@ -104,7 +104,7 @@ impl<D: Disk> Space<D> {
 
 impl<D: Disk> Pages for Space<D> {
     ghost use Rattle.page_space.specs.Begun.{Begun};
-    ghost use Rattle.page_space.specs.Shown.{disk_of, params_of, meta_of, begun_of, map_of, IsInOrder};
+    ghost use Rattle.page_space.specs.Shown.{disk_of, params_of, meta_of, begun_of, map_of, chain_of, IsInOrder};
 
     ghost tells = { λ space. D.tells (disk_of space) };
 
@@ -117,6 +117,8 @@ impl<D: Disk> Pages for Space<D> {
     ghost allotted = { λ space. (meta_of space).allotted };
 
     ghost limit = { λ space. (params_of space).pages };
+
+    ghost chain = { λ space. chain_of space };
 
     ghost free_in_order = { λ space. IsInOrder space };
 

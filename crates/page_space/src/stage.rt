@@ -1,6 +1,6 @@
 //! A stage on a space as a stage of pages.
 ghost use Rattle.std.specs.Prelude.{◌≡◌, ◌≢◌, ◌⊎◌, ◌+◌, ◌≤◌, ◌<◌, ℕ, List, Some, None, Ok, Err, IsTrue, IsSome, OnOk, OnErr, IfOk};
-ghost use Rattle.page_ports.specs.Pages.{Rose, put_page, remove_page, blank_bytes};
+ghost use Rattle.page_ports.specs.Pages.{put_page, remove_page, blank_bytes};
 ghost use Rattle.page_space.specs.Begun.{Begun};
 
 use crate::Staged;
@@ -8,7 +8,7 @@ use page_disk::Disk;
 use page_ports::{FREE_PAGE, Page, PageFault, Pages, Stage, StageFault};
 
 impl<D: Disk> Pages for Staged<D> {
-    ghost use Rattle.page_space.specs.Shown.{base_of, disk_under, staged_map, IsStagedInOrder};
+    ghost use Rattle.page_space.specs.Shown.{base_of, disk_under, staged_map, staged_chain, IsStagedInOrder};
 
     ghost tells = { λ staged. D.tells (disk_under staged) };
 
@@ -21,6 +21,8 @@ impl<D: Disk> Pages for Staged<D> {
     ghost allotted = { λ staged. staged.meta.allotted };
 
     ghost limit = { λ staged. staged.space.params.pages };
+
+    ghost chain = { λ staged. staged_chain staged };
 
     ghost free_in_order = { λ staged. IsStagedInOrder staged };
 

@@ -1,6 +1,6 @@
 //! A stage of changes on a space.
 ghost use Rattle.std.specs.Prelude.{◌≡◌, ◌⊎◌, ◌+◌, ◌≤◌, ◌<◌, ℕ, List, length, Some, None, Ok, Err, IsTrue, IsSome, OnOk, OnErr, IfOk};
-ghost use Rattle.page_ports.specs.Calls.{OnlyReads};
+ghost use Rattle.page_ports.specs.Calls.{OnlyReads, WentOn};
 ghost use Rattle.page_ports.specs.Pages.{PageMap, put_page};
 ghost use Rattle.page_layout.specs.FreePage.{next_fits};
 ghost use Rattle.redo_journal.specs.Images.{image_map};
@@ -32,7 +32,7 @@ pub struct Staged<D: Disk> {
 }
 
 impl<D: Disk> Space<D> {
-    ghost use Rattle.page_space.specs.Shown.{disk_of, meta_of, begun_of, map_of, IsInOrder, base_of, disk_under, staged_meta, staged_map, IsStagedInOrder};
+    ghost use Rattle.page_space.specs.Shown.{disk_of, meta_of, begun_of, map_of, chain_of, IsInOrder, base_of, disk_under, staged_meta, staged_map, staged_chain, IsStagedInOrder};
 
     /// Begins a stage on the space, which as yet changes nothing.
     pub fn begin(self) -> Staged<D>
@@ -40,6 +40,7 @@ impl<D: Disk> Space<D> {
         ensures disk { disk_under result ≡ disk_of self }
         ensures meta { staged_meta result ≡ meta_of self }
         ensures map { staged_map result ≡ map_of self }
+        ensures chain { staged_chain result ≡ chain_of self }
         ensures in_order { IsInOrder self → IsStagedInOrder result }
         ensures roots { AreRoots (base_of result).params (base_of result).meta }
     {
@@ -53,7 +54,7 @@ impl<D: Disk> Space<D> {
 
 impl<D: Disk> Staged<D> {
     ghost use Rattle.page_space.specs.Calls.{KeepsChanges};
-    ghost use Rattle.page_space.specs.Shown.{disk_of, begun_of, base_of, disk_under, staged_meta, staged_bytes, staged_map, IsStagedInOrder, IsMetaSet};
+    ghost use Rattle.page_space.specs.Shown.{disk_of, begun_of, base_of, disk_under, staged_meta, staged_bytes, staged_map, staged_chain, IsStagedInOrder, IsMetaSet};
 
     /// Reads a page, in use or not: its image where there is one, and else as the disk has it.
     pub(crate) fn read(&mut self, page: u64, buf: &mut Page) -> Result<(), PageFault>
@@ -76,6 +77,7 @@ impl<D: Disk> Staged<D> {
         requires high { page ≤ (staged_meta self.old).allotted }
         ensures ok { OnOk result (image_map self.new.images ≡ put_page (image_map self.old.images) page image.now) }
         ensures err { OnErr result (image_map self.new.images ≡ image_map self.old.images) }
+        ensures stays { OnErr result (WentOn ⟦<Staged<D> as Pages>⟧ 0 self.old self.new) }
         ensures bytes { OnOk result (staged_bytes self.new ≡ bytes_with (staged_bytes self.old) page image.now) }
         ensures space { self.new.space ≡ self.old.space }
         ensures meta { staged_meta self.new ≡ staged_meta self.old }
@@ -91,6 +93,7 @@ impl<D: Disk> Staged<D> {
         ensures set { OnOk result (IsMetaSet self.new) }
         ensures err { OnErr result (staged_meta self.new ≡ staged_meta self.old) }
         ensures map { staged_map self.new ≡ staged_map self.old }
+        ensures chain { staged_chain self.new ≡ staged_chain self.old }
         ensures in_order { IsStagedInOrder self.old → IsStagedInOrder self.new }
         ensures base { base_of self.new ≡ base_of self.old }
         ensures disk { disk_under self.new ≡ disk_under self.old }

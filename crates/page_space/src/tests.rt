@@ -24,7 +24,13 @@ const PARAMS: Params = Params {
 
 const SEVENS: Page = [7; 4096];
 
-const KINDS: [Torn; 3] = [Torn::Lost, Torn::Landed, Torn::Filled(255)];
+const KINDS: [Torn; 5] = [
+    Torn::Lost,
+    Torn::Landed,
+    Torn::Filled(0),
+    Torn::Filled(1),
+    Torn::Filled(255),
+];
 
 fn first_meta() -> Meta
     ensures rules { IsMeta result }
@@ -63,10 +69,10 @@ fn opened(alloc: Global, disk: MemDisk) -> Result<Space<MemDisk>, OpenFault> {
     }
 }
 
-fn first_byte<P: Pages>(pages: &mut P, page: u64) -> Result<u8, PageFault> {
+fn got<P: Pages>(pages: &mut P, page: u64) -> Result<Page, PageFault> {
     let mut buf = blank_page();
     pages.get(page, &mut buf)?;
-    Ok(buf[0])
+    Ok(buf)
 }
 
 // Sets the meta page, which ends the changes.
@@ -116,9 +122,9 @@ fn a_commit_is_found_again(rt: HostRuntime) -> Result<(), Fail> {
     let (staged, page) = with_page(space.begin())?;
     let space = committed(staged)?;
     let mut space = opened(rt.alloc(), space.into_disk())?;
-    assert_eq!(rt; first_byte(&mut space, page), Ok(7));
+    assert!(rt; got(&mut space, page) == Ok(SEVENS));
     let mut space = freed(space.begin(), page)?.abandon();
-    assert_eq!(rt; first_byte(&mut space, page), Ok(7));
+    assert!(rt; got(&mut space, page) == Ok(SEVENS));
     Ok(())
 }
 
@@ -129,11 +135,11 @@ fn a_freed_page_is_given_out_again(rt: HostRuntime) -> Result<(), Fail> {
     assert_eq!(rt; page, 3);
     let space = committed(staged)?;
     let mut space = committed(ended(freed(space.begin(), page)?)?)?;
-    assert_eq!(rt; first_byte(&mut space, page), Err(PageFault::Damaged(page)));
+    assert!(rt; got(&mut space, page) == Err(PageFault::Damaged(page)));
     assert_eq!(rt; (space.meta().allotted, space.meta().free), (4, 3));
     let mut staged = space.begin();
     assert_eq!(rt; staged.allot(), Ok(page));
-    assert_eq!(rt; first_byte(&mut staged, page), Ok(0));
+    assert!(rt; got(&mut staged, page) == Ok(blank_page()));
     let space = committed(ended(staged)?)?;
     assert_eq!(rt; (space.meta().allotted, space.meta().free), (4, 0));
     Ok(())
@@ -209,11 +215,10 @@ fn a_stop_of_a_commit_leaves_all_or_nothing(rt: HostRuntime) -> Result<(), Fail>
         for torn in KINDS {
             let (disk, done) = stopped(rt.alloc(), calls)?;
             let mut space = opened(rt.alloc(), disk.crash(torn))?;
-            let found = first_byte(&mut space, 3);
-            assert!(rt;
-                found == Ok(7) || (found == Err(PageFault::Damaged(3)) && !done),
-                "after {calls}"
-            );
+            let found = got(&mut space, 3);
+            let whole = found == Ok(SEVENS) && space.meta().allotted == 4;
+            let none = found == Err(PageFault::Damaged(3)) && space.meta().allotted == 3;
+            assert!(rt; whole || (none && !done), "after {calls}");
             assert!(rt; !done || calls > 16, "after {calls}");
             dones |= done as u64;
         }

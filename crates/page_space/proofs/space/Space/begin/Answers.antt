@@ -1,6 +1,7 @@
 use Rattle.std.proofs.Common.{ap}
 use Rattle.page_layout.specs.declared.meta.Meta.{Meta}
 use Rattle.page_space.proofs.Staging.{none_within, none_map, none_order}
+use Rattle.page_space.proofs.Walking.{none_chain}
 use Rattle.page_space.proofs.space.Space.begin.Goals as goal
 
 pub invariant_of-result-clause-within : goal.invariant_of-result-clause-within
@@ -13,4 +14,9 @@ returns-clause-map g c =
 pub returns-clause-in_order : goal.returns-clause-in_order
 returns-clause-in_order g c =
     none_order _ (g.D.Disk.image c.args.self.disk).pages _ _ _ _ c.new.ensures
+    (ap (λ (m : Meta). m.allotted) c.copied.ensures.value) (ap (λ (m : Meta). m.free) c.copied.ensures.value)
+
+pub returns-clause-chain : goal.returns-clause-chain
+returns-clause-chain g c =
+    none_chain _ (g.D.Disk.image c.args.self.disk).pages _ _ _ _ c.new.ensures
     (ap (λ (m : Meta). m.allotted) c.copied.ensures.value) (ap (λ (m : Meta). m.free) c.copied.ensures.value)

@@ -1,11 +1,16 @@
-use Rattle.std.proofs.Common.{◌≡◌, ℕ, ◌≤◌, List, refl, ap, sym, ◌∙◌, subst, arith, rules}
+use Rattle.std.proofs.Common.{◌≡◌, ℕ, Result, Err, ◌≤◌, List, refl, ap, sym, ◌∙◌, subst, arith, rules}
 use Rattle.redo_journal.specs.Images.{image_map}
 use Rattle.page_layout.specs.declared.meta.Meta.{Meta}
 use Rattle.page_space.specs.Bytes.{PageBytes, bytes_with}
-use Rattle.page_space.specs.Chain.{FreeInOrder}
-use Rattle.page_space.specs.Shown.{staged_bytes}
+use Rattle.page_space.specs.Chain.{FreeInOrder, chain_from}
+use Rattle.page_space.specs.Shown.{staged_bytes, staged_chain}
 use Rattle.page_ports.specs.Pages.{blank_bytes}
-use Rattle.page_space.proofs.Giving.{on_ok, blank_kind, given_map, fresh_more, within_more}
+use Rattle.page_space.proofs.Giving.{err_same, on_ok, on_err, blank_kind, given_map, fresh_more, within_more}
+use Rattle.std.proofs.lemmas.Result.{err_from_is_err_and}
+use Rattle.page_ports.specs.declared.page.StageFault.{StageFault}
+use Rattle.page_ports.specs.declared.page.StageFault.TheVariants.{Damaged}
+use Rattle.page_ports.specs.Chain.{TakesFirst}
+use Rattle.page_space.proofs.Walking.{taken_keeps}
 use Rattle.page_space.proofs.staged.Staged.allot_page.Goals as goal
 
 pub invariant_of-self-clause-fresh : goal.invariant_of-self-clause-fresh
@@ -37,6 +42,11 @@ returns-clause-ok g c = λ told. (
       c.in_ok-next.ensures.ends.0 c.in_ok-next.ensures.ends.1 (blank_kind blank_bytes refl),
 )
 
+pub returns-clause-chain : goal.returns-clause-chain
+returns-clause-chain g c = λ told h.
+    subst (λ (b : PageBytes). TakesFirst (staged_chain c.args.self.now) c.in_ok-next.next.page (chain_from b c.in_ok-next.next.allotted c.in_ok-next.next.free) c.args.self.now.meta.allotted c.in_ok-next.next.allotted)
+    (sym (changed g c)) (c.in_ok-next.ensures.takes told h)
+
 pub returns-clause-changes : goal.returns-clause-changes
 returns-clause-changes g c = record {
   went_on = record {
@@ -44,6 +54,7 @@ returns-clause-changes g c = record {
     base = search rules;
     limit = search rules;
     free_in_order = λ told h. subst (λ (b : PageBytes). FreeInOrder b c.in_ok-next.next.allotted c.in_ok-next.next.free) (sym (changed g c)) (c.in_ok-next.ensures.order told h);
+    none_forgotten = λ told h p lost. taken_keeps _ _ _ c.in_ok-next.next.page blank_bytes (returns-clause-ok g c told).1 (returns-clause-chain g c told h) p lost;
     allotted = c.in_ok-next.ensures.grows.0;
     at_most = c.in_ok-next.ensures.grows.1;
     gets = search rules;
@@ -52,3 +63,29 @@ returns-clause-changes g c = record {
   disk = search rules;
   page_limit = search rules;
 }
+
+pub returns-in_err-next-clause-damaged_first : goal.returns-in_err-next-clause-damaged_first
+returns-in_err-next-clause-damaged_first g c = λ p e.
+    let out = err_from_is_err_and c.from_residual.result c.from_residual.ensures.1 in
+    let same : out.0 ≡ Damaged p = err_same c.from_residual.result out.0 (Damaged p) out.1 e in
+    c.next_page.ensures.damaged_first p (c.in_err-next.was ∙ ap (λ (f : StageFault). Err f) (sym out.2 ∙ same))
+
+pub returns-then-is_err-clause-changes : goal.returns-then-is_err-clause-changes
+returns-then-is_err-clause-changes g c =
+    let next = c.next_page.ensures.changes.went_on in
+    let put = on_err c.put_image.result _ (sym c.is_err.ensures.value ∙ c.if-is_err.true) c.put_image.ensures.stays in
+    record {
+      went_on = record {
+        tells = put.tells ∙ next.tells;
+        base = put.base ∙ next.base;
+        limit = put.limit ∙ next.limit;
+        free_in_order = λ told h. put.free_in_order (next.tells ∙ told) (next.free_in_order told h);
+        none_forgotten = λ told h p lost. next.none_forgotten told h p (put.none_forgotten (next.tells ∙ told) (next.free_in_order told h) p lost);
+        allotted = omega (arith, put.allotted, next.allotted);
+        at_most = omega (arith, put.at_most, next.at_most);
+        gets = omega (arith, put.gets, next.gets);
+        faults = omega (arith, put.faults, next.faults);
+      };
+      disk = λ e. absurd cc;
+      page_limit = λ n e. absurd cc;
+    }

@@ -7,6 +7,7 @@ use Rattle.page_space.specs.Shown.{staged_map, IsStagedInOrder}
 use Rattle.page_space.proofs.Giving.{on_ok}
 use Rattle.page_space.proofs.Renewing.{renewed_agrees}
 use Rattle.page_space.proofs.Settled.{idle_settles}
+use Rattle.page_space.proofs.Walking.{next_chain}
 use Rattle.page_space.proofs.Standing.{next_of, holds_either}
 use Rattle.page_space.proofs.staged.Staged.commit.Goals as goal
 
@@ -60,6 +61,12 @@ made g c told = next_of c.args.self c.commit.result _ (sym c.is_err.ensures.valu
 
 pub returns-clause-map : goal.returns-clause-map
 returns-clause-map g c = λ told. sym (made g c told).in_use
+
+pub returns-clause-chain : goal.returns-clause-chain
+returns-clause-chain g c = λ told.
+    next_chain (image_map c.args.self.images) (g.D.Disk.image c.args.self.space.disk).pages (g.D.Disk.image c.commit.new.disk).pages
+    (on_ok c.commit.result _ (sym c.is_err.ensures.value ∙ c.if-is_err.false) c.commit.ensures.placed told)
+    c.args.self.meta.allotted c.args.self.meta.free (made g c told).there
 
 pub returns-clause-in_order : goal.returns-clause-in_order
 returns-clause-in_order g c = λ told h. (made g c told).in_order h
