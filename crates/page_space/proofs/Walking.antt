@@ -24,7 +24,8 @@ use Rattle.page_space.specs.Chain.{LeadsOn, IsChain, FreeInOrder, names_next, pa
 use Rattle.page_space.specs.Chain.{SpellsFree}
 use Rattle.page_space.specs.ChainLaws.{free_kind, chain_leads, chain_kept}
 use Rattle.page_space.specs.InUse.{is_given_out, is_free_kind}
-use Rattle.page_space.specs.InUseLaws.{bytes_at, bytes_beside}
+use Rattle.page_space.specs.InUseLaws.{bytes_at, bytes_beside, in_use-none}
+use Rattle.page_space.specs.Laws.{ChainIsFree}
 
 or_false : (a b : Bool) → (a || b) ≡ false → (a ≡ false) × (b ≡ false)
 or_false true b h = cc
@@ -72,6 +73,18 @@ walked b m first (page ∷ rest) (suc most) h few =
 
 pub in_order-walk : (b : PageBytes) (m first : ℕ) (h : FreeInOrder b m first) → chain_from b m first ≡ h.chain
 in_order-walk b m first h = walked b m first h.chain m h.leads (short b m first h.chain h.leads h.once)
+
+pub chain_free : ChainIsFree
+chain_free b m first h =
+    let same : h.chain ≡ chain_from b m first = sym (in_order-walk b m first h) in
+    let leads : IsChain b m first (chain_from b m first) = subst (λ (chain : List ℕ). IsChain b m first chain) same h.leads in
+    record {
+      leads = leads;
+      once = subst (λ (chain : List ℕ). NamesNoneTwice chain) same h.once;
+      given_out = λ page named. let l = chain_leads b m first (chain_from b m first) page leads named in (l.1.low, l.1.high);
+      not_in_use = λ page named. let l = chain_leads b m first (chain_from b m first) page leads named in
+          in_use-none b m page (λ used. used.kind (free_kind (b page) l.0 l.1.is_free));
+    }
 
 -- Without a first page there is none.
 pub none_walked : (b : PageBytes) (m first : ℕ) → first ≡ 0 → chain_from b m first ≡ []

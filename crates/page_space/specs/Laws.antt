@@ -1,5 +1,5 @@
 -- What is so of every space.
-use Rattle.std.specs.Prelude.{◌≡◌, ℕ, false}
+use Rattle.std.specs.Prelude.{◌≡◌, ℕ, ◌<◌, ◌≤◌, false, true, None}
 use Rattle.bw_types.specs.declared.params.Params.{Params}
 use Rattle.bw_types.specs.Fits.{IsInRange}
 use Rattle.page_ports.specs.Pages.{PageMap, empty_map}
@@ -8,7 +8,11 @@ use Rattle.page_layout.specs.Meta.{IsMeta, IsTyped, meta_page}
 use Rattle.page_layout.specs.declared.meta.Meta.{Meta}
 use Rattle.redo_journal.specs.Gates.{IsCreated, is_empty}
 use Rattle.redo_journal.specs.Settled.{SettlesTo}
-use Rattle.page_space.specs.Chain.{FreeInOrder}
+use Rattle.page_ports.specs.Frame.{names_page}
+use Rattle.page_layout.specs.Footprint.{NamesNoneTwice}
+use Rattle.page_space.specs.Bytes.{PageBytes}
+use Rattle.page_space.specs.InUse.{pages_in_use}
+use Rattle.page_space.specs.Chain.{FreeInOrder, IsChain, chain_from}
 use Rattle.page_space.specs.Opening.{StandsDamagedAt}
 use Rattle.page_space.specs.Settling.{IsBadAt}
 use Rattle.page_space.specs.Space.{HoldsSpace, params_page}
@@ -38,3 +42,14 @@ pub record Opens (x : Image) : Type 0 where
 
 abbrev pub HeldOpens : Type 0
 HeldOpens = (x : Image) (params : Params) (meta : Meta) (map : PageMap) → HoldsSpace x params meta map ⊥ → Opens x
+
+-- Where the free pages are in order, the chain leads from page to page to its end and names none twice;
+-- each of its pages was given out and is not in use.
+pub record IsChainOfFree (bytes : PageBytes) (allotted first : ℕ) : Type 0 where
+  pub leads : IsChain bytes allotted first (chain_from bytes allotted first)
+  pub once : NamesNoneTwice (chain_from bytes allotted first)
+  pub given_out : (page : ℕ) → names_page (chain_from bytes allotted first) page ≡ true → (3 ≤ page) × (page < allotted)
+  pub not_in_use : (page : ℕ) → names_page (chain_from bytes allotted first) page ≡ true → pages_in_use bytes allotted page ≡ None
+
+abbrev pub ChainIsFree : Type 0
+ChainIsFree = (bytes : PageBytes) (allotted first : ℕ) → FreeInOrder bytes allotted first → IsChainOfFree bytes allotted first

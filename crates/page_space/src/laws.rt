@@ -1,5 +1,5 @@
 //! What is so of every space.
-ghost use Rattle.page_space.specs.Laws.{CreatedHolds, HeldOpens, HoldsOne, HoldsOrder};
+ghost use Rattle.page_space.specs.Laws.{ChainIsFree, CreatedHolds, HeldOpens, HoldsOne, HoldsOrder};
 
 use page_layout::{Meta, Spelled, Super};
 use redo_journal::settling_laws;
@@ -28,3 +28,8 @@ pub fn held_opens()
     settling_laws();
     Super::one_spelling();
 }
+
+/// Proves what the chain of free pages is where they are in order; it does nothing when it runs.
+pub fn chain_is_free()
+    ensures { ChainIsFree }
+{}

@@ -18,7 +18,7 @@ mod staged;
 #[cfg(test)]
 mod tests;
 
-pub use laws::{created_holds, held_opens, holds_one};
+pub use laws::{chain_is_free, created_holds, held_opens, holds_one};
 pub use refusal::{OpenFault, OpenRefused};
 pub use space::Space;
 pub use staged::Staged;

@@ -157,7 +157,7 @@ impl<D: Disk> Space<D> {
     /// `NoMemory` comes only where none of these is so.
     ///
     /// A crash at any moment leaves a disk that stands for the same pages, and so does the disk that a
-    /// refusal hands back, unless the device failed. Four reads at most, and as
+    /// refusal hands back, with nothing pending, unless the device failed. Four reads at most, and as
     /// many more for a replay as twice the journal has pages.
     pub fn open_on(alloc: Global, mut disk: D) -> Result<Space<D>, OpenRefused<D>>
         ensures holds { IfOk result (λ space. IsTrue (D.tells disk)
@@ -171,6 +171,8 @@ impl<D: Disk> Space<D> {
         // A disk that is refused while the device did not fail stands for the pages that it stood for.
         ensures stands { IfErr result (λ refused. refused.fault ≢ OpenFault.Disk
             → IsTrue (D.tells disk) → StandsAlike (D.image disk) (D.image refused.disk)) }
+        ensures refused_settled { IfErr result (λ refused. refused.fault ≢ OpenFault.Disk
+            → IsTrue (D.tells disk) → LeavesNow (D.moments refused.disk) (D.image refused.disk)) }
         // Where nothing is replayed, the disk is as it was.
         ensures untouched { IsTrue (D.tells disk) → HasNoReplay (D.image disk) → D.image (opened_disk result) ≡ D.image disk }
         ensures untouched_moments { IsTrue (D.tells disk) → HasNoReplay (D.image disk)

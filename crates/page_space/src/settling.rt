@@ -23,6 +23,7 @@ fn replay_journal<D: Disk>(disk: &mut D) -> Result<(), OpenFault>
     ensures bad { IfErr result (λ fault. AtBadJournal fault (λ page. IsTrue (D.tells disk.old) → BreaksRulesAt (D.image disk.old) page)) }
     ensures only { IfErr result (λ fault. AtEmpty fault ⊥ × AtDamaged fault (λ _. ⊥) × AtNoMemory fault ⊥) }
     ensures refused { IfErr result (λ fault. fault ≢ OpenFault.Disk → IsTrue (D.tells disk.old) → D.image disk.new ≡ D.image disk.old) }
+    ensures refused_settled { IfErr result (λ fault. fault ≢ OpenFault.Disk → IsTrue (D.tells disk.old) → LeavesNow (D.moments disk.new) (D.image disk.new)) }
     ensures untouched { IsTrue (D.tells disk.old) → (page : ℕ) → BreaksRulesAt (D.image disk.old) page
         → (D.image disk.new ≡ D.image disk.old) × (D.moments disk.new ≡ D.moments disk.old) }
     ensures any_moment { (pages : PageList) → SettlesTo (D.image disk.old) pages
@@ -48,6 +49,7 @@ pub(crate) fn settle<D: Disk>(disk: &mut D) -> Result<(), OpenFault>
     ensures bad { IfErr result (λ fault. AtBadJournal fault (λ page. IsTrue (D.tells disk.old) → IsBadAt (D.image disk.old) page)) }
     ensures only { IfErr result (λ fault. AtDamaged fault (λ _. ⊥) × AtNoMemory fault ⊥) }
     ensures refused { IfErr result (λ fault. fault ≢ OpenFault.Disk → IsTrue (D.tells disk.old) → D.image disk.new ≡ D.image disk.old) }
+    ensures refused_settled { IfErr result (λ fault. fault ≢ OpenFault.Disk → IsTrue (D.tells disk.old) → LeavesNow (D.moments disk.new) (D.image disk.new)) }
     ensures untouched { IsTrue (D.tells disk.old) → HasNoReplay (D.image disk.old) → D.image disk.new ≡ D.image disk.old }
     ensures untouched_moments { IsTrue (D.tells disk.old) → HasNoReplay (D.image disk.old)
         → LeavesOnly (λ x. x ≡ D.image disk.old) (D.moments disk.old) (D.moments disk.new) }
