@@ -1,5 +1,6 @@
 pub mod Crash
 pub mod Disk
+pub mod FileDisk
 pub mod FileName
 pub mod History
 pub mod HistoryLaws
