@@ -1,3 +1,5 @@
+pub mod CallPlan
+pub mod Calls
 pub mod Crash
 pub mod Disk
 pub mod FileDisk
