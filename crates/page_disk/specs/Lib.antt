@@ -1,5 +1,8 @@
+pub mod CallPlan
+pub mod Calls
 pub mod Crash
 pub mod Disk
+pub mod FileDisk
 pub mod FileName
 pub mod History
 pub mod HistoryLaws

@@ -1,7 +1,7 @@
 -- What holds of each moment of a stretch of calls.
 use Rattle.std.specs.Prelude.{◌≡◌, ◌⊎◌, ℕ, ◌≤◌, List}
 use Rattle.page_disk.specs.Image.{Image}
-use Rattle.page_disk.specs.Moment.{Moment, MayBeLeft, MayBeLeftNow, MayBeLeftSince, clock_of, settled_moment}
+use Rattle.page_disk.specs.Moment.{Moment, MayBeLeft, MayBeLeftNow, MayBeLeftSince, clock_of, settled_moment, then_moment}
 
 -- A crash now leaves this image and no other: nothing is pending.
 abbrev pub LeavesNow : List Moment → Image → Type 0
@@ -20,3 +20,7 @@ SyncLeavesOne = (image x : Image) → MayBeLeft (settled_moment image) x → x �
 -- Since the clock's own time a crash may have left what it may leave now.
 abbrev pub SinceNowIsNow : Type 0
 SinceNowIsNow = (moments : List Moment) (x : Image) → MayBeLeftSince moments (clock_of moments) x → MayBeLeftNow moments x
+
+-- After a sync that succeeds nothing is pending.
+abbrev pub SyncSettles : Type 0
+SyncSettles = (image : Image) (moments : List Moment) → LeavesNow (then_moment (λ _. settled_moment image) moments) image

@@ -1,4 +1,5 @@
--- The laws of `LeavesOnly`, and of a disk with nothing pending.
+-- The laws of `LeavesOnly`, and of a disk with nothing pending. They are public for the proofs of the crates
+-- above: they speak of any fact about images, which no clause can, and a lemma cites no contract.
 use Rattle.std.specs.Prelude.{◌≡◌, ◌⊎◌, ◌≤◌, List, [], ◌∷◌, length, refl}
 use Rattle.std.proofs.Common.{◌∙◌, ap, inl, inr, arith}
 use Rattle.std.proofs.lemmas.List.{ext_get_or}

@@ -47,8 +47,13 @@ fn sync_folder<R: Files>(rt: &R) -> Result<(), Failed> {
 }
 
 impl<R: Files> FileDisk<R> {
+    ghost use Rattle.page_disk.specs.FileDisk.{read_count, fault_count};
+
     /// A disk over the files `boxsum.pages` and `boxsum.journal` in the working folder.
-    pub fn new(rt: R) -> FileDisk<R> {
+    pub fn new(rt: R) -> FileDisk<R>
+        ensures reads { read_count result ≡ 0 }
+        ensures faults { fault_count result ≡ 0 }
+    {
         FileDisk::named(rt, PAGES_FILE, JOURNAL_FILE)
     }
 
@@ -57,6 +62,8 @@ impl<R: Files> FileDisk<R> {
         requires differ { pages.now ≢ journal.now }
         requires pages { IsTrue (is_file_name pages.now) }
         requires journal { IsTrue (is_file_name journal.now) }
+        ensures reads { read_count result ≡ 0 }
+        ensures faults { fault_count result ≡ 0 }
     {
         FileDisk {
             rt,

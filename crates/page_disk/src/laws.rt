@@ -1,8 +1,9 @@
 //! What follows of the disk model, whatever the disk.
-ghost use Rattle.page_disk.specs.Since.{SinceNowIsNow, SyncLeavesOne};
+ghost use Rattle.page_disk.specs.Since.{SinceNowIsNow, SyncLeavesOne, SyncSettles};
 
-/// Proves two laws of the disk model; it does nothing when it runs.
+/// Proves laws of the disk model; it does nothing when it runs.
 pub fn crash_laws()
     ensures sync { SyncLeavesOne }
+    ensures settled { SyncSettles }
     ensures now { SinceNowIsNow }
 {}

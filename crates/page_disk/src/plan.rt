@@ -1,33 +1,43 @@
 //! Which of the calls to come fail.
+ghost use Rattle.std.specs.Prelude.{◌≡◌, []};
+ghost use Rattle.page_disk.specs.CallPlan.{call_fails, no_failures};
+ghost use Rattle.page_disk.specs.MemDisk.{shown_plan};
 
-/// Which of the calls from now on fail, counted from 1.
+use std::alloc::Global;
+
+/// The calls of some numbers fail, and all after the last. Both count from 1, after so many calls.
 #[derive(Drop)]
 pub(crate) struct Plan {
-    pub failing: Option<Vec<u64>>,
+    pub failing: Vec<u64>,
     pub failing_from: u64,
-    pub stop: Option<u64>,
+    pub last: Option<u64>,
+    pub last_from: u64,
 }
 
 impl Plan {
     /// No call fails.
-    pub fn none() -> Plan {
+    pub fn none(alloc: Global) -> Plan
+        ensures { shown_plan result ≡ no_failures }
+    {
         Plan {
-            failing: None,
+            failing: Vec::new(alloc),
             failing_from: 0,
-            stop: None,
+            last: None,
+            last_from: 0,
         }
     }
 
     /// Whether the call of this number fails.
-    pub fn fails(&self, call: u64) -> bool {
-        let listed = match &self.failing {
-            Some(calls) => calls.contains(&call.saturating_sub(self.failing_from)),
+    pub fn fails(&self, call: u64) -> bool
+        ensures { result ≡ call_fails (shown_plan self.now) call }
+    {
+        let number = call.saturating_sub(self.failing_from);
+        if self.failing.contains(&number) {
+            return true;
+        }
+        match self.last {
+            Some(last) => call.saturating_sub(self.last_from) > last,
             None => false,
-        };
-        let stopped = match self.stop {
-            Some(last) => call > last,
-            None => false,
-        };
-        listed || stopped
+        }
     }
 }

@@ -4,7 +4,7 @@ use Rattle.std.specs.Prelude.{unwrap_or, IsSome}
 use Rattle.page_disk.specs.Image.{PageList, Image, page_at}
 use Rattle.page_disk.specs.Moment.{Moment}
 use Rattle.page_disk.specs.Since.{LeavesOnly}
-use Rattle.page_disk.specs.SinceLaws.{LeavesOnly-weaken}
+use Rattle.page_disk.specs.SinceLaws.{LeavesOnly-then, LeavesOnly-weaken}
 use Rattle.redo_journal.specs.Gates.{is_open, is_blank, is_empty, gate_of}
 use Rattle.redo_journal.specs.declared.gate.Gate.TheVariants.{Idle, Armed}
 use Rattle.redo_journal.specs.Pending.{KeepsGate, DiffersInGate, IsInPlacing}
@@ -14,22 +14,12 @@ use Rattle.redo_journal.specs.declared.images.Images.{Images}
 use Rattle.redo_journal.specs.Images.{image_map, image_list}
 use Rattle.redo_journal.proofs.ImageLemmas.{image_map-is, images_reach}
 use Rattle.redo_journal.specs.Groups.{HoldsGroups, HoldsImages}
+use Rattle.redo_journal.specs.Committing.{HasGate, IsHeld, IsArmed, IsDone, BeforeOrAfter}
 use Rattle.redo_journal.specs.Settled.{SettlesTo, HoldsPages, IsReplayed}
-use Rattle.redo_journal.proofs.PlacingLemmas.{with_images-placed, placed-still}
+use Rattle.redo_journal.proofs.PlacingLemmas.{placed-one, with_images-placed, placed-still}
 use Rattle.redo_journal.proofs.GroupLemmas.{holds_same, holds_reach, same_still}
-use Rattle.redo_journal.proofs.SettledLemmas.{HasGate, idle_has, armed_has, has_idle, made_pages, body_settles, gate_settles, homes_settle, closing_settles}
+use Rattle.redo_journal.proofs.SettledLemmas.{idle_has, armed_has, has_idle, made_pages, body_settles, gate_settles, homes_settle, closing_settles}
 use Rattle.redo_journal.proofs.HomeLemmas.{reach_writable}
-
--- The gate is open before a journal that holds these images.
-pub record IsArmed (images : ImageList) (x : Image) : Type 0 where
-  pub gate : HasGate x true
-  pub held : HoldsImages x images
-
--- The journal holds these images and the gate may stand either way.
-pub record IsHeld (images : ImageList) (x : Image) : Type 0 where
-  pub made : is_empty x ≡ false
-  pub has_gate : 1 ≤ length x.journal
-  pub held : HoldsImages x images
 
 pub held_after_body : (images : ImageList) (start x : Image) → HasGate start false → KeepsGate start x
     → HoldsGroups (length start.pages) x.journal 1 0 images → IsHeld images x
@@ -59,13 +49,6 @@ armed_placed images x h =
     let made = made_pages x.pages h.gate.made in
     with_images-placed (length x.pages) 0 images x.pages (holds_reach h.held) (omega arith) (omega arith)
 
--- All images are in their places, behind the gate that is open still.
-pub record IsDone (images : ImageList) (x : Image) : Type 0 where
-  pub made : is_empty x ≡ false
-  pub has_gate : 1 ≤ length x.journal
-  pub held : HoldsImages x images
-  pub placed : ArePlaced (map_of images) x.pages x.pages
-
 pub done_after_homes : (images : ImageList) (between x : Image) → IsArmed images between → x.pages ≡ with_images between.pages images → x.journal ≡ between.journal
     → IsDone images x × ArePlaced (map_of images) between.pages x.pages
 done_after_homes images between x h pages journal =
@@ -93,8 +76,16 @@ idle_after_done images between x h only closed =
     let some : 1 ≤ length between.journal = h.has_gate in
     record { made = ap is_blank only.pages ∙ h.made; has_gate = omega arith; gate = closed }
 
-abbrev pub BeforeOrAfter : PageList → PageList → Image → Type 0
-BeforeOrAfter before after x = SettlesTo x before ⊎ SettlesTo x after
+-- The images are home, and the gate was written.
+pub brought_home : (images : ImageList) (start between x : Image) → IsArmed images start → between.pages ≡ with_images start.pages images
+    → DiffersInGate between x → ArePlaced (map_of images) start.pages x.pages
+brought_home images start between x h pages only =
+    subst (λ (p : PageList). ArePlaced (map_of images) start.pages p) (sym (only.pages ∙ pages)) (armed_placed images start h)
+
+pub idle_again : (images : ImageList) (start between x : Image) → IsArmed images start → between.pages ≡ with_images start.pages images
+    → between.journal ≡ start.journal → DiffersInGate between x → is_open x.journal ≡ false → gate_of x ≡ Idle
+idle_again images start between x h pages journal only closed =
+    has_idle x (idle_after_done images between x (done_after_homes images start between h pages journal).0 only closed)
 
 -- What a crash in each phase leaves.
 module _ (images : ImageList) (before after : PageList) where
@@ -126,10 +117,35 @@ close_stretch images after start old new done is h =
     LeavesOnly-weaken (DiffersInGate start) P old new
     (λ x only. subst (λ (p : PageList). SettlesTo x p) is (closing_settles start x images done.made done.has_gate done.held done.placed only)) h
 
-pub after_only : (before after : PageList) (old new : List Moment) → LeavesOnly (λ x. SettlesTo x after) old new → LeavesOnly (BeforeOrAfter before after) old new
-after_only before after old new h =
+-- The body, and then the gate.
+pub arm_stretch : (images : ImageList) (after : PageList) (start between : Image) (first second third : List Moment)
+    → HasGate start false → KeepsGate start between → IsHeld images between → ArePlaced (map_of images) start.pages after
+    → LeavesOnly (KeepsGate start) first second → LeavesOnly (DiffersInGate between) second third
+    → LeavesOnly (BeforeOrAfter start.pages after) first third
+arm_stretch images after start between first second third idle kept held placed f h =
+    LeavesOnly-then (BeforeOrAfter start.pages after) first second third
+    (body_stretch images start.pages after start first second (λ i. start.pages) idle f)
+    (gate_stretch images start.pages after between second third kept.pages held
+    (subst (λ (p : PageList). ArePlaced (map_of images) p after) (sym kept.pages) placed) h)
+
+-- The homes, and then the gate.
+pub home_stretch : (images : ImageList) (after : PageList) (start between : Image) (first second third : List Moment)
+    → IsArmed images start → IsDone images between × ArePlaced (map_of images) start.pages between.pages → ArePlaced (map_of images) start.pages after
+    → LeavesOnly (IsInPlacing (map_of images) start) first second → LeavesOnly (DiffersInGate between) second third
+    → LeavesOnly (λ x. SettlesTo x after) first third
+home_stretch images after start between first second third armed done placed f h =
     let P : Image → Type 0 = λ x. SettlesTo x after in
-    LeavesOnly-weaken P (BeforeOrAfter before after) old new (λ x s. inr s) h
+    LeavesOnly-then P first second third (homes_stretch images after start first second armed placed f)
+    (close_stretch images after between second third done.0 (placed-one (map_of images) start.pages between.pages after done.1 placed) h)
+
+-- The two halves of a commit.
+pub commit_stretch : (images : ImageList) (after before : PageList) (first second third : List Moment)
+    → LeavesOnly (BeforeOrAfter before after) first second → LeavesOnly (λ x. SettlesTo x after) second third
+    → LeavesOnly (BeforeOrAfter before after) first third
+commit_stretch images after before first second third f h =
+    let P : Image → Type 0 = λ x. SettlesTo x after in
+    LeavesOnly-then (BeforeOrAfter before after) first second third f
+    (LeavesOnly-weaken P (BeforeOrAfter before after) second third (λ x s. inr s) h)
 
 -- What an open journal holds.
 pub open_pages : (x : Image) (pages : PageList) → HasGate x true → SettlesTo x pages → HoldsPages x pages

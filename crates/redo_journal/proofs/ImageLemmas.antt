@@ -12,7 +12,8 @@ use Rattle.std.proofs.lemmas.Map.Keys.{sorted_head, sorted_tail}
 use Rattle.page_ports.specs.Pages.{PageMap}
 use Rattle.redo_journal.specs.declared.images.Images.{Images}
 use Rattle.redo_journal.specs.Images.{image_map, image_list}
-use Rattle.redo_journal.specs.Placing.{ImageList, homes_of, map_of, Ascend, AreInReach}
+use Rattle.page_disk.specs.Image.{PageList}
+use Rattle.redo_journal.specs.Placing.{ImageList, homes_of, map_of, Ascend, AreInReach, ArePlaced}
 use Rattle.redo_journal.proofs.PlacingLemmas.{absent}
 use Rattle.redo_journal.proofs.HomeLemmas.{among_first, among_rest}
 use Rattle.redo_journal.proofs.BodyLemmas.{keys-homes}
@@ -120,3 +121,6 @@ some_image (image ∷ images) page some = omega arith
 
 pub images_some : (images : Images) → (page : ℕ) × IsSome (image_map images page) → 0 < length (image_list images)
 images_some images some = some_image (image_list images) some.0 (subst (λ (m : PageMap). IsSome (m some.0)) (image_map-is images) some.1)
+
+pub in_list : (images : Images) (before after : PageList) → ArePlaced (image_map images) before after → ArePlaced (map_of (image_list images)) before after
+in_list images before after placed = subst (λ (m : PageMap). ArePlaced m before after) (image_map-is images) placed

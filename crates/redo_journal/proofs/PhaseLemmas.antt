@@ -119,17 +119,14 @@ left_in_opening t superblock meta image (m ∷ earlier) at told written idle x l
       | inr closed ↦ inl (blank_if_closed x.pages closed)
     ]
 
--- all phases but the last
-pub up_to_roots : (superblock meta : List ℕ) (t : Bool) (image : Image) (m0 m1 m2 m3 m4 : List Moment)
-    → TellsImage t image m0 → (IsTrue t → is_empty image ≡ true)
-    → m1 ≡ then_moment (λ _. settled_moment image) m0
-    → LeavesOnly (λ x. is_empty x ≡ true) m1 m2 → LeavesOnly (λ x. is_empty x ≡ true) m2 m3 → LeavesOnly (λ x. is_empty x ≡ true) m3 m4
-    → LeavesOnly (IsEmptyOrCreated superblock meta) m0 m4
-up_to_roots superblock meta t image m0 m1 m2 m3 m4 told empty synced f g h =
+-- all phases but the last, and then that one
+pub created_stretch : (superblock meta : List ℕ) (first second third : List Moment)
+    → LeavesOnly (λ x. is_empty x ≡ true) first second → LeavesOnly (IsEmptyOrCreated superblock meta) second third
+    → LeavesOnly (IsEmptyOrCreated superblock meta) first third
+created_stretch superblock meta first second third f h =
     let E : Image → Type 0 = λ x. is_empty x ≡ true in
-    LeavesOnly-weaken E (IsEmptyOrCreated superblock meta) m0 m4 (λ x e. inl e)
-    (LeavesOnly-then E m0 m1 m4 (one_sync E t image m0 m1 told empty (inr synced))
-    (LeavesOnly-then E m1 m2 m4 f (LeavesOnly-then E m2 m3 m4 g h)))
+    LeavesOnly-then (IsEmptyOrCreated superblock meta) first second third
+    (LeavesOnly-weaken E (IsEmptyOrCreated superblock meta) first second (λ x e. inl e) f) h
 
 pub idle_still : (x y z : Image) → HasIdleJournal x → y.journal ≡ x.journal → z.journal ≡ y.journal → HasIdleJournal z
 idle_still x y z idle a b =

@@ -13,6 +13,7 @@ use Rattle.redo_journal.specs.declared.gate.Gate.TheVariants.{Blank, NoJournal, 
 use Rattle.redo_journal.specs.Pending.{KeepsGate, DiffersInGate, IsInPlacing}
 use Rattle.redo_journal.specs.Placing.{ImageList, map_of, ArePlaced}
 use Rattle.redo_journal.specs.Groups.{HoldsImages}
+use Rattle.redo_journal.specs.Committing.{HasGate}
 use Rattle.redo_journal.specs.Settled.{SettlesTo, SettlesToOne}
 use Rattle.redo_journal.proofs.PlacingLemmas.{placed-one, placed-again, none_below}
 use Rattle.redo_journal.proofs.GroupLemmas.{OneSpelling, holds_one, holds_same, holds_reach, same_still}
@@ -35,12 +36,6 @@ armed_tests false false false e = absurd cc
 
 some_pages : (pages : PageList) → (length pages == 0) ≡ false → 1 ≤ length pages
 some_pages pages h = let ne : length pages ≢ 0 = eqb-false (length pages) 0 h in omega arith
-
--- A warehouse whose journal has a gate that is so.
-pub record HasGate (x : Image) (opens : Bool) : Type 0 where
-  pub made : is_empty x ≡ false
-  pub has_gate : 1 ≤ length x.journal
-  pub gate : is_open x.journal ≡ opens
 
 pub idle_has : (x : Image) → gate_of x ≡ Idle → HasGate x false
 idle_has x h = let t = idle_tests (is_empty x) (length x.journal == 0) (is_open x.journal) h in

@@ -1,3 +1,4 @@
+pub mod Committing
 pub mod Gates
 pub mod Groups
 pub mod Images

@@ -1,9 +1,10 @@
 //! A commit: all images or none.
-ghost use Rattle.std.specs.Prelude.{◌≡◌, ◌⊎◌, ◌≤◌, ◌+◌, ◌-◌, ◌<◌, ◌^◌, ℕ, IsTrue, IsSome, OnOk, length, take, drop};
+ghost use Rattle.std.specs.Prelude.{◌≡◌, ◌⊎◌, ◌≤◌, ◌+◌, ◌-◌, ◌<◌, ◌^◌, ℕ, false, IsTrue, IsSome, OnOk, length, take, drop};
 ghost use Rattle.page_layout.specs.Head.{IsTyped};
-ghost use Rattle.page_disk.specs.Disk.{CountsFault};
+ghost use Rattle.page_disk.specs.Calls.{Writes, any_error};
 ghost use Rattle.page_disk.specs.Image.{Image, PageList};
 ghost use Rattle.page_disk.specs.Since.{LeavesNow, LeavesOnly};
+ghost use Rattle.redo_journal.specs.Committing.{BeforeOrAfter, HasGate, IsArmed, IsHeld};
 ghost use Rattle.redo_journal.specs.Gates.{gate_of};
 ghost use Rattle.redo_journal.specs.declared.gate.Gate.TheVariants.{Idle};
 ghost use Rattle.redo_journal.specs.Images.{image_list, image_map};
@@ -58,9 +59,7 @@ fn write_images<D: Disk>(
         → (D.image disk.new).journal ≡ with_row (D.image disk.old).journal at (bytes_of (take count images.old))) }
     ensures pends { (start : Image) → AtNewest (BodyPends start) (D.moments disk.old)
         → LeavesOnly (KeepsGate start) (D.moments disk.old) (D.moments disk.new) × AtNewest (BodyPends start) (D.moments disk.new) }
-    ensures faults { CountsFault result (D.faults disk.old) (D.faults disk.new) }
-    ensures reads { D.reads disk.new ≡ D.reads disk.old }
-    ensures tells { D.tells disk.new ≡ D.tells disk.old }
+    ensures writes { Writes D.Disk any_error 0 disk.old disk.new result }
 {
     for i in 0..count {
         let (_, page) = images.next().unwrap();
@@ -78,9 +77,7 @@ fn write_groups<D: Disk>(disk: &mut D, images: &Images) -> Result<(), Failed>
     ensures kept { OnOk result (IsTrue (D.tells disk.old) → KeepsGate (D.image disk.old) (D.image disk.new)) }
     ensures pends { (start : Image) → AtNewest (BodyPends start) (D.moments disk.old)
         → LeavesOnly (KeepsGate start) (D.moments disk.old) (D.moments disk.new) × AtNewest (BodyPends start) (D.moments disk.new) }
-    ensures faults { CountsFault result (D.faults disk.old) (D.faults disk.new) }
-    ensures reads { D.reads disk.new ≡ D.reads disk.old }
-    ensures tells { D.tells disk.new ≡ D.tells disk.old }
+    ensures writes { Writes D.Disk any_error 0 disk.old disk.new result }
 {
     let mut homes = images.pages.keys();
     let mut rest = images.pages.iter();
@@ -102,16 +99,15 @@ fn write_groups<D: Disk>(disk: &mut D, images: &Images) -> Result<(), Failed>
 // Writes the body behind the closed gate, and makes sure of it.
 fn write_body<D: Disk>(disk: &mut D, images: &Images) -> Result<(), Failed>
     requires ascend { Ascend 0 (homes_of (image_list images.now)) }
-    requires has_gate { IsTrue (D.tells disk.old) → 1 ≤ length (D.image disk.old).journal }
+    requires some { 0 < length (image_list images.now) }
+    requires reach { IsTrue (D.tells disk.old) → AreInReach (length (D.image disk.old).pages) 0 (homes_of (image_list images.now)) }
+    requires idle { IsTrue (D.tells disk.old) → HasGate (D.image disk.old) false }
     requires settled { LeavesNow (D.moments disk.old) (D.image disk.old) }
-    ensures held { OnOk result (IsTrue (D.tells disk.old) → (len : ℕ) → AreInReach len 0 (homes_of (image_list images.now))
-        → 0 < length (image_list images.now) → HoldsGroups len (D.image disk.new).journal 1 0 (image_list images.now)) }
+    ensures held { OnOk result (IsTrue (D.tells disk.old) → IsHeld (image_list images.now) (D.image disk.new)) }
     ensures kept { OnOk result (IsTrue (D.tells disk.old) → KeepsGate (D.image disk.old) (D.image disk.new)) }
     ensures settled { OnOk result (LeavesNow (D.moments disk.new) (D.image disk.new)) }
     ensures any_moment { LeavesOnly (KeepsGate (D.image disk.old)) (D.moments disk.old) (D.moments disk.new) }
-    ensures faults { CountsFault result (D.faults disk.old) (D.faults disk.new) }
-    ensures reads { D.reads disk.new ≡ D.reads disk.old }
-    ensures tells { D.tells disk.new ≡ D.tells disk.old }
+    ensures writes { Writes D.Disk any_error 0 disk.old disk.new result }
 {
     write_groups(disk, images)?;
     disk.sync()?;
@@ -127,9 +123,7 @@ fn write_homes<D: Disk>(disk: &mut D, images: &Images) -> Result<(), Failed>
     ensures journal { OnOk result (IsTrue (D.tells disk.old) → (D.image disk.new).journal ≡ (D.image disk.old).journal) }
     ensures settled { OnOk result (LeavesNow (D.moments disk.new) (D.image disk.new)) }
     ensures any_moment { LeavesOnly (IsInPlacing (map_of (image_list images.now)) (D.image disk.old)) (D.moments disk.old) (D.moments disk.new) }
-    ensures faults { CountsFault result (D.faults disk.old) (D.faults disk.new) }
-    ensures reads { D.reads disk.new ≡ D.reads disk.old }
-    ensures tells { D.tells disk.new ≡ D.tells disk.old }
+    ensures writes { Writes D.Disk any_error 0 disk.old disk.new result }
 {
     for (home, page) in &images.pages {
         put_home(disk, *home, page)?;
@@ -144,6 +138,42 @@ fn are_ordered(images: &Images)
     ensures { Ascend 0 (homes_of (image_list images.now)) }
 {
     let _ = images.pages.len();
+}
+
+// Writes the body, and then the open gate.
+fn arm<D: Disk>(disk: &mut D, images: &Images) -> Result<(), Failed>
+    requires ascend { Ascend 0 (homes_of (image_list images.now)) }
+    requires some { 0 < length (image_list images.now) }
+    requires reach { IsTrue (D.tells disk.old) → AreInReach (length (D.image disk.old).pages) 0 (homes_of (image_list images.now)) }
+    requires idle { IsTrue (D.tells disk.old) → HasGate (D.image disk.old) false }
+    requires settled { LeavesNow (D.moments disk.old) (D.image disk.old) }
+    ensures armed { OnOk result (IsTrue (D.tells disk.old) → IsArmed (image_list images.now) (D.image disk.new)) }
+    ensures pages { OnOk result (IsTrue (D.tells disk.old) → (D.image disk.new).pages ≡ (D.image disk.old).pages) }
+    ensures settled { OnOk result (LeavesNow (D.moments disk.new) (D.image disk.new)) }
+    ensures any_moment { (after : PageList) → ArePlaced (map_of (image_list images.now)) (D.image disk.old).pages after
+        → LeavesOnly (BeforeOrAfter (D.image disk.old).pages after) (D.moments disk.old) (D.moments disk.new) }
+    ensures writes { Writes D.Disk any_error 0 disk.old disk.new result }
+{
+    write_body(disk, images)?;
+    write_gate(disk, true)?;
+    Ok(())
+}
+
+// Writes the images of an armed disk home, and then closes the gate.
+fn bring_home<D: Disk>(disk: &mut D, images: &Images) -> Result<(), Failed>
+    requires armed { IsTrue (D.tells disk.old) → IsArmed (image_list images.now) (D.image disk.old) }
+    requires settled { LeavesNow (D.moments disk.old) (D.image disk.old) }
+    ensures placed { OnOk result (IsTrue (D.tells disk.old)
+        → ArePlaced (map_of (image_list images.now)) (D.image disk.old).pages (D.image disk.new).pages) }
+    ensures idle { OnOk result (IsTrue (D.tells disk.old) → gate_of (D.image disk.new) ≡ Idle) }
+    ensures settled { OnOk result (LeavesNow (D.moments disk.new) (D.image disk.new)) }
+    ensures any_moment { (after : PageList) → ArePlaced (map_of (image_list images.now)) (D.image disk.old).pages after
+        → LeavesOnly (λ x. SettlesTo x after) (D.moments disk.old) (D.moments disk.new) }
+    ensures writes { Writes D.Disk any_error 0 disk.old disk.new result }
+{
+    write_homes(disk, images)?;
+    write_gate(disk, false)?;
+    Ok(())
 }
 
 /// Writes all images to their homes, or none.
@@ -167,14 +197,10 @@ pub fn commit<D: Disk>(disk: &mut D, images: &Images) -> Result<(), Failed>
     // There are pages with all images in their places, whatever the answer.
     ensures placeable { IsTrue (D.tells disk.old)
         → (after : PageList) × ArePlaced (image_map images.now) (D.image disk.old).pages after }
-    ensures faults { CountsFault result (D.faults disk.old) (D.faults disk.new) }
-    ensures reads { D.reads disk.new ≡ D.reads disk.old }
-    ensures tells { D.tells disk.new ≡ D.tells disk.old }
+    ensures writes { Writes D.Disk any_error 0 disk.old disk.new result }
 {
     are_ordered(images);
-    write_body(disk, images)?;
-    write_gate(disk, true)?;
-    write_homes(disk, images)?;
-    write_gate(disk, false)?;
+    arm(disk, images)?;
+    bring_home(disk, images)?;
     Ok(())
 }

@@ -1,6 +1,6 @@
 //! A new warehouse on an empty disk.
-ghost use Rattle.std.specs.Prelude.{◌≡◌, ◌⊎◌, ◌≤◌, true, false, length, IsTrue, OnOk};
-ghost use Rattle.page_disk.specs.Disk.{CountsFault};
+ghost use Rattle.std.specs.Prelude.{◌≡◌, ◌⊎◌, ◌≤◌, ℕ, List, true, false, length, IsTrue, OnOk};
+ghost use Rattle.page_disk.specs.Calls.{Writes, any_error};
 ghost use Rattle.page_disk.specs.Image.{page_at};
 ghost use Rattle.page_disk.specs.Since.{LeavesNow, LeavesOnly};
 ghost use Rattle.redo_journal.specs.Gates.{IsCreated, is_empty, is_open};
@@ -18,9 +18,7 @@ fn close_journal<D: Disk>(disk: &mut D) -> Result<(), Failed>
     ensures pages { OnOk result (IsTrue (D.tells disk.old) → (D.image disk.new).pages ≡ (D.image disk.old).pages) }
     ensures settled { OnOk result (SettledAt (D.moments disk.new) (D.image disk.new)) }
     ensures any_moment { LeavesOnly (λ x. is_empty x ≡ true) (D.moments disk.old) (D.moments disk.new) }
-    ensures faults { CountsFault result (D.faults disk.old) (D.faults disk.new) }
-    ensures reads { D.reads disk.new ≡ D.reads disk.old }
-    ensures tells { D.tells disk.new ≡ D.tells disk.old }
+    ensures writes { Writes D.Disk any_error 0 disk.old disk.new result }
 {
     disk.write(Area::Journal, 0, &gate_page(false))?;
     disk.sync()?;
@@ -35,9 +33,7 @@ fn close_pages<D: Disk>(disk: &mut D) -> Result<(), Failed>
     ensures journal { OnOk result (IsTrue (D.tells disk.old) → (D.image disk.new).journal ≡ (D.image disk.old).journal) }
     ensures settled { OnOk result (SettledAt (D.moments disk.new) (D.image disk.new)) }
     ensures any_moment { LeavesOnly (λ x. is_empty x ≡ true) (D.moments disk.old) (D.moments disk.new) }
-    ensures faults { CountsFault result (D.faults disk.old) (D.faults disk.new) }
-    ensures reads { D.reads disk.new ≡ D.reads disk.old }
-    ensures tells { D.tells disk.new ≡ D.tells disk.old }
+    ensures writes { Writes D.Disk any_error 0 disk.old disk.new result }
 {
     if disk.len(Area::Pages)? < 3 {
         disk.write(Area::Pages, 0, &gate_page(false))?;
@@ -54,13 +50,44 @@ fn write_roots<D: Disk>(disk: &mut D, superblock: &Page, meta: &Page) -> Result<
     ensures journal { OnOk result (IsTrue (D.tells disk.old) → (D.image disk.new).journal ≡ (D.image disk.old).journal) }
     ensures settled { OnOk result (SettledAt (D.moments disk.new) (D.image disk.new)) }
     ensures any_moment { LeavesOnly (λ x. is_empty x ≡ true) (D.moments disk.old) (D.moments disk.new) }
-    ensures faults { CountsFault result (D.faults disk.old) (D.faults disk.new) }
-    ensures reads { D.reads disk.new ≡ D.reads disk.old }
-    ensures tells { D.tells disk.new ≡ D.tells disk.old }
+    ensures writes { Writes D.Disk any_error 0 disk.old disk.new result }
 {
     disk.write(Area::Pages, 1, superblock)?;
     disk.write(Area::Pages, 2, meta)?;
     disk.sync()
+}
+
+// Writes all but the open creation gate.
+fn prepare<D: Disk>(disk: &mut D, superblock: &Page, meta: &Page) -> Result<(), Failed>
+    requires blank { IsTrue (D.tells disk.old) → is_empty (D.image disk.old) ≡ true }
+    ensures written { OnOk result (IsTrue (D.tells disk.old) → IsWritten superblock.now meta.now (D.image disk.new)) }
+    ensures idle { OnOk result (IsTrue (D.tells disk.old) → HasIdleJournal (D.image disk.new)) }
+    ensures settled { OnOk result (SettledAt (D.moments disk.new) (D.image disk.new)) }
+    ensures any_moment { LeavesOnly (λ x. is_empty x ≡ true) (D.moments disk.old) (D.moments disk.new) }
+    ensures writes { Writes D.Disk any_error 0 disk.old disk.new result }
+{
+    disk.sync()?;
+    close_journal(disk)?;
+    close_pages(disk)?;
+    write_roots(disk, superblock, meta)?;
+    Ok(())
+}
+
+// Writes the open creation gate before the two pages.
+fn open_creation<D: Disk>(disk: &mut D) -> Result<(), Failed>
+    requires long { IsTrue (D.tells disk.old) → 3 ≤ length (D.image disk.old).pages }
+    requires idle { IsTrue (D.tells disk.old) → HasIdleJournal (D.image disk.old) }
+    requires settled { SettledAt (D.moments disk.old) (D.image disk.old) }
+    ensures created { OnOk result (IsTrue (D.tells disk.old) → (superblock : List ℕ) → (meta : List ℕ)
+        → IsWritten superblock meta (D.image disk.old) → IsCreated superblock meta (D.image disk.new)) }
+    ensures settled { OnOk result (LeavesNow (D.moments disk.new) (D.image disk.new)) }
+    ensures any_moment { (superblock : List ℕ) → (meta : List ℕ) → (IsTrue (D.tells disk.old) → IsWritten superblock meta (D.image disk.old))
+        → LeavesOnly (IsEmptyOrCreated superblock meta) (D.moments disk.old) (D.moments disk.new) }
+    ensures writes { Writes D.Disk any_error 0 disk.old disk.new result }
+{
+    disk.write(Area::Pages, 0, &gate_page(true))?;
+    disk.sync()?;
+    Ok(())
 }
 
 /// Makes a warehouse of these two pages, the superblock and the meta page, on an empty disk.
@@ -72,15 +99,9 @@ pub fn create<D: Disk>(disk: &mut D, superblock: &Page, meta: &Page) -> Result<(
     ensures created { OnOk result (IsTrue (D.tells disk.old) → IsCreated superblock.now meta.now (D.image disk.new)) }
     ensures settled { OnOk result (LeavesNow (D.moments disk.new) (D.image disk.new)) }
     ensures any_moment { LeavesOnly (IsEmptyOrCreated superblock.now meta.now) (D.moments disk.old) (D.moments disk.new) }
-    ensures faults { CountsFault result (D.faults disk.old) (D.faults disk.new) }
-    ensures reads { D.reads disk.new ≡ D.reads disk.old }
-    ensures tells { D.tells disk.new ≡ D.tells disk.old }
+    ensures writes { Writes D.Disk any_error 0 disk.old disk.new result }
 {
-    disk.sync()?;
-    close_journal(disk)?;
-    close_pages(disk)?;
-    write_roots(disk, superblock, meta)?;
-    disk.write(Area::Pages, 0, &gate_page(true))?;
-    disk.sync()?;
+    prepare(disk, superblock, meta)?;
+    open_creation(disk)?;
     Ok(())
 }

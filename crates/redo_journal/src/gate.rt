@@ -1,6 +1,6 @@
 //! What the gates of a disk say.
 ghost use Rattle.std.specs.Prelude.{◌≡◌, ◌≤◌, ◌+◌, Bool, true, IsTrue, IfOk, OnOk};
-ghost use Rattle.page_disk.specs.Disk.{CountsFault};
+ghost use Rattle.page_disk.specs.Calls.{OnlyReads, Writes, any_error};
 ghost use Rattle.page_disk.specs.Image.{area_of};
 ghost use Rattle.page_disk.specs.Since.{LeavesNow, LeavesOnly};
 ghost use Rattle.redo_journal.specs.Gates.{gate_bytes, gate_of, is_open};
@@ -33,12 +33,7 @@ pub(crate) fn gate_page(opens: bool) -> Page
 // Whether the gate of an area is open. At most one read.
 fn opened<D: Disk>(disk: &mut D, area: Area) -> Result<bool, Failed>
     ensures ok { IfOk result (λ b. IsTrue (D.tells disk.old) → b ≡ is_open (area_of area (D.image disk.old))) }
-    ensures faults { CountsFault result (D.faults disk.old) (D.faults disk.new) }
-    ensures reads { D.reads disk.new ≤ D.reads disk.old + 1 }
-    ensures reads_stay_or_rise { D.reads disk.old ≤ D.reads disk.new }
-    ensures tells { D.tells disk.new ≡ D.tells disk.old }
-    ensures image { D.image disk.new ≡ D.image disk.old }
-    ensures moments { D.moments disk.new ≡ D.moments disk.old }
+    ensures reads { OnlyReads D.Disk any_error 1 disk.old disk.new result }
 {
     let mut page = blank_page();
     let found = disk.read(area, 0, &mut page)?;
@@ -48,12 +43,7 @@ fn opened<D: Disk>(disk: &mut D, area: Area) -> Result<bool, Failed>
 // What the gates say of a disk that is synced. At most two reads.
 fn looked<D: Disk>(disk: &mut D) -> Result<Gate, Failed>
     ensures ok { IfOk result (λ gate. IsTrue (D.tells disk.old) → gate ≡ gate_of (D.image disk.old)) }
-    ensures faults { CountsFault result (D.faults disk.old) (D.faults disk.new) }
-    ensures reads { D.reads disk.new ≤ D.reads disk.old + 2 }
-    ensures reads_stay_or_rise { D.reads disk.old ≤ D.reads disk.new }
-    ensures tells { D.tells disk.new ≡ D.tells disk.old }
-    ensures image { D.image disk.new ≡ D.image disk.old }
-    ensures moments { D.moments disk.new ≡ D.moments disk.old }
+    ensures reads { OnlyReads D.Disk any_error 2 disk.old disk.new result }
 {
     if disk.len(Area::Pages)? < 3 || !opened(disk, Area::Pages)? {
         return Ok(Gate::Blank);
@@ -75,10 +65,7 @@ pub fn ready<D: Disk>(disk: &mut D) -> Result<Gate, Failed>
     ensures ok { IfOk result (λ gate. IsTrue (D.tells disk.old) → gate ≡ gate_of (D.image disk.old)) }
     ensures settled { OnOk result (LeavesNow (D.moments disk.new) (D.image disk.new)) }
     ensures any_moment { LeavesOnly (λ x. x ≡ D.image disk.old) (D.moments disk.old) (D.moments disk.new) }
-    ensures faults { CountsFault result (D.faults disk.old) (D.faults disk.new) }
-    ensures reads { D.reads disk.new ≤ D.reads disk.old + 2 }
-    ensures reads_stay_or_rise { D.reads disk.old ≤ D.reads disk.new }
-    ensures tells { D.tells disk.new ≡ D.tells disk.old }
+    ensures writes { Writes D.Disk any_error 2 disk.old disk.new result }
     ensures image { D.image disk.new ≡ D.image disk.old }
 {
     disk.sync()?;

@@ -1,18 +1,20 @@
 //! A replay: the images of an open journal are written home.
-ghost use Rattle.std.specs.Prelude.{◌≡◌, ◌≤◌, ◌+◌, ◌-◌, ◌*◌, ◌<◌, ◌^◌, ◌↔◌, ℕ, min, IsTrue, IsSome, IfOk, OnOk, length};
+ghost use Rattle.std.specs.Prelude.{◌≡◌, ◌≤◌, ◌+◌, ◌-◌, ◌*◌, ◌<◌, ◌^◌, ◌↔◌, ℕ, min, true, IsTrue, IsSome, IfOk, OnOk, length};
 ghost use Rattle.std.specs.List.{All};
 ghost use Rattle.page_layout.specs.declared.journal_head.JournalHead.{JournalHead};
 ghost use Rattle.redo_journal.specs.declared.replaying.JournalFault.TheVariants.{Disk};
 ghost use Rattle.page_ports.specs.Pages.{PageMap};
+ghost use Rattle.page_disk.specs.Calls.{OnlyReads, RisesWhere, Writes};
 ghost use Rattle.page_disk.specs.Image.{Image, PageList};
 ghost use Rattle.page_disk.specs.Since.{LeavesNow, LeavesOnly};
+ghost use Rattle.redo_journal.specs.Committing.{HasGate};
 ghost use Rattle.redo_journal.specs.Gates.{gate_of};
-ghost use Rattle.redo_journal.specs.declared.gate.Gate.TheVariants.{Armed};
+ghost use Rattle.redo_journal.specs.declared.gate.Gate.TheVariants.{Armed, Idle};
 ghost use Rattle.redo_journal.specs.Pending.{AtNewest, HomesPend, IsInPlacing};
-ghost use Rattle.redo_journal.specs.Placing.{AreInReach, AreWritable, ImageList, map_of, with_images};
-ghost use Rattle.redo_journal.specs.Groups.{BreaksAt, BreaksRulesAt, HeadAt, HoldsGroups, homes_in, images_at, last_of};
+ghost use Rattle.redo_journal.specs.Placing.{AreInReach, ArePlaced, AreWritable, ImageList, map_of, with_images};
+ghost use Rattle.redo_journal.specs.Groups.{BreaksAt, BreaksRulesAt, HeadAt, HoldsGroups, HoldsImages, homes_in, images_at, last_of};
 ghost use Rattle.redo_journal.specs.Settled.{IsReplayed, SettlesTo};
-ghost use Rattle.redo_journal.specs.Replay.{CountsDisk, OnDamaged};
+ghost use Rattle.redo_journal.specs.Replay.{OnDamaged, is_disk};
 
 use crate::laws::settling_laws;
 use crate::writes::{put_home, write_gate};
@@ -79,12 +81,7 @@ fn head_at<D: Disk>(
     ensures within { IfOk result (λ head. at + length (homes_in head) < end) }
     ensures damaged { OnDamaged result (λ page. (page ≡ at) × (IsTrue (D.tells disk.old)
         → (head : JournalHead) → HeadAt len (D.image disk.old).journal at last head → ⊥)) }
-    ensures faults { CountsDisk result (D.faults disk.old) (D.faults disk.new) }
-    ensures reads { D.reads disk.new ≤ D.reads disk.old + min 1 (end - at) }
-    ensures reads_stay_or_rise { D.reads disk.old ≤ D.reads disk.new }
-    ensures tells { D.tells disk.new ≡ D.tells disk.old }
-    ensures image { D.image disk.new ≡ D.image disk.old }
-    ensures moments { D.moments disk.new ≡ D.moments disk.old }
+    ensures reads { OnlyReads D.Disk is_disk (min 1 (end - at)) disk.old disk.new result }
 {
     let mut page = blank_page();
     if at >= end || !disk.read(Area::Journal, at, &mut page)? {
@@ -106,12 +103,7 @@ fn count_images<D: Disk>(disk: &mut D, len: u64, end: u64) -> Result<u64, Journa
     ensures ok { IfOk result (λ count. IsTrue (D.tells disk.old) → (images : ImageList)
         × HoldsGroups len (D.image disk.old).journal 1 0 images × (count ≡ length images)) }
     ensures damaged { OnDamaged result (λ page. IsTrue (D.tells disk.old) → BreaksAt len (D.image disk.old).journal 1 0 page) }
-    ensures faults { CountsDisk result (D.faults disk.old) (D.faults disk.new) }
-    ensures reads { D.reads disk.new ≤ D.reads disk.old + end }
-    ensures reads_stay_or_rise { D.reads disk.old ≤ D.reads disk.new }
-    ensures tells { D.tells disk.new ≡ D.tells disk.old }
-    ensures image { D.image disk.new ≡ D.image disk.old }
-    ensures moments { D.moments disk.new ≡ D.moments disk.old }
+    ensures reads { OnlyReads D.Disk is_disk end disk.old disk.new result }
 {
     let mut at = 1;
     let mut last = 0;
@@ -140,10 +132,7 @@ fn restore_group<D: Disk>(disk: &mut D, at: u64, homes: &[u64]) -> Result<(), Jo
         → AtNewest (HomesPend images start) (D.moments disk.old)
         → LeavesOnly (IsInPlacing images start) (D.moments disk.old) (D.moments disk.new) × AtNewest (HomesPend images start) (D.moments disk.new) }
     ensures damaged { OnDamaged result (λ _. IsTrue (D.tells disk.old) → ⊥) }
-    ensures faults { CountsDisk result (D.faults disk.old) (D.faults disk.new) }
-    ensures reads { D.reads disk.new ≤ D.reads disk.old + length homes.now }
-    ensures reads_stay_or_rise { D.reads disk.old ≤ D.reads disk.new }
-    ensures tells { D.tells disk.new ≡ D.tells disk.old }
+    ensures writes { Writes D.Disk is_disk (length homes.now) disk.old disk.new result }
 {
     let mut page = blank_page();
     for (i, home) in homes.iter().enumerate() {
@@ -170,10 +159,7 @@ fn restore_groups<D: Disk>(disk: &mut D, len: u64, end: u64) -> Result<(), Journ
         × AtNewest (HomesPend (map_of all) (D.image disk.old)) (D.moments disk.new) }
     ensures damaged { OnDamaged result (λ _. IsTrue (D.tells disk.old) → (all : ImageList)
         → HoldsGroups len (D.image disk.old).journal 1 0 all → ⊥) }
-    ensures faults { CountsDisk result (D.faults disk.old) (D.faults disk.new) }
-    ensures reads { D.reads disk.new ≤ D.reads disk.old + end }
-    ensures reads_stay_or_rise { D.reads disk.old ≤ D.reads disk.new }
-    ensures tells { D.tells disk.new ≡ D.tells disk.old }
+    ensures writes { Writes D.Disk is_disk end disk.old disk.new result }
 {
     let mut at = 1;
     let mut last = 0;
@@ -203,13 +189,30 @@ fn restore<D: Disk>(disk: &mut D, len: u64, end: u64) -> Result<(), JournalFault
         → LeavesOnly (IsInPlacing (map_of all) (D.image disk.old)) (D.moments disk.old) (D.moments disk.new) }
     ensures damaged { OnDamaged result (λ _. IsTrue (D.tells disk.old) → (all : ImageList)
         → HoldsGroups len (D.image disk.old).journal 1 0 all → ⊥) }
-    ensures faults { CountsDisk result (D.faults disk.old) (D.faults disk.new) }
-    ensures reads { D.reads disk.new ≤ D.reads disk.old + end }
-    ensures reads_stay_or_rise { D.reads disk.old ≤ D.reads disk.new }
-    ensures tells { D.tells disk.new ≡ D.tells disk.old }
+    ensures writes { Writes D.Disk is_disk end disk.old disk.new result }
 {
     restore_groups(disk, len, end)?;
     disk.sync()?;
+    Ok(())
+}
+
+// Writes the images of an open journal home, and then closes its gate.
+fn bring_back<D: Disk>(disk: &mut D, len: u64, end: u64) -> Result<(), JournalFault>
+    requires end { IsTrue (D.tells disk.old) → end ≡ length (D.image disk.old).journal }
+    requires len { IsTrue (D.tells disk.old) → len ≡ length (D.image disk.old).pages }
+    requires armed { IsTrue (D.tells disk.old) → HasGate (D.image disk.old) true }
+    requires settled { LeavesNow (D.moments disk.old) (D.image disk.old) }
+    ensures placed { OnOk result (IsTrue (D.tells disk.old) → (all : ImageList) → HoldsImages (D.image disk.old) all
+        → ArePlaced (map_of all) (D.image disk.old).pages (D.image disk.new).pages × (gate_of (D.image disk.new) ≡ Idle)) }
+    ensures settled { OnOk result (LeavesNow (D.moments disk.new) (D.image disk.new)) }
+    ensures any_moment { (pages : PageList) → SettlesTo (D.image disk.old) pages
+        → LeavesOnly (λ x. SettlesTo x pages) (D.moments disk.old) (D.moments disk.new) }
+    ensures damaged { OnDamaged result (λ _. IsTrue (D.tells disk.old) → (all : ImageList)
+        → HoldsImages (D.image disk.old) all → ⊥) }
+    ensures writes { Writes D.Disk is_disk end disk.old disk.new result }
+{
+    restore(disk, len, end)?;
+    write_gate(disk, false)?;
     Ok(())
 }
 
@@ -232,7 +235,7 @@ pub fn replay<D: Disk>(disk: &mut D) -> Result<u64, JournalFault>
         → (D.image disk.new ≡ D.image disk.old) × (D.moments disk.new ≡ D.moments disk.old) }
     ensures any_moment { (pages : PageList) → SettlesTo (D.image disk.old) pages
         → LeavesOnly (λ x. SettlesTo x pages) (D.moments disk.old) (D.moments disk.new) }
-    ensures faults { CountsDisk result (D.faults disk.old) (D.faults disk.new) }
+    ensures faults { RisesWhere is_disk result (D.faults disk.old) (D.faults disk.new) }
     ensures reads { IsTrue (D.tells disk.old) → D.reads disk.new ≤ D.reads disk.old + 2 * length (D.image disk.old).journal }
     ensures reads_stay_or_rise { D.reads disk.old ≤ D.reads disk.new }
     ensures tells { D.tells disk.new ≡ D.tells disk.old }
@@ -242,7 +245,6 @@ pub fn replay<D: Disk>(disk: &mut D) -> Result<u64, JournalFault>
     let len = disk.len(Area::Pages)?;
     let end = disk.len(Area::Journal)?;
     let count = count_images(disk, len, end)?;
-    restore(disk, len, end)?;
-    write_gate(disk, false)?;
+    bring_back(disk, len, end)?;
     Ok(count)
 }

@@ -2,7 +2,7 @@
 ghost use Rattle.std.specs.Prelude.{◌≡◌, ◌≤◌, ◌+◌, Bool, IsTrue, IsSome, OnOk, length};
 ghost use Rattle.page_ports.specs.Pages.{PageMap};
 ghost use Rattle.page_disk.specs.declared.disk.Area.TheVariants.{Pages, Journal};
-ghost use Rattle.page_disk.specs.Disk.{CountsFault};
+ghost use Rattle.page_disk.specs.Calls.{Writes, any_error};
 ghost use Rattle.page_disk.specs.Image.{Image, with_area, written_at};
 ghost use Rattle.page_disk.specs.Since.{LeavesNow, LeavesOnly};
 ghost use Rattle.redo_journal.specs.Gates.{is_open};
@@ -20,9 +20,7 @@ pub(crate) fn write_gate<D: Disk>(disk: &mut D, opens: bool) -> Result<(), Faile
     ensures only { OnOk result (IsTrue (D.tells disk.old) → DiffersInGate (D.image disk.old) (D.image disk.new)) }
     ensures settled { OnOk result (LeavesNow (D.moments disk.new) (D.image disk.new)) }
     ensures any_moment { LeavesOnly (DiffersInGate (D.image disk.old)) (D.moments disk.old) (D.moments disk.new) }
-    ensures faults { CountsFault result (D.faults disk.old) (D.faults disk.new) }
-    ensures reads { D.reads disk.new ≡ D.reads disk.old }
-    ensures tells { D.tells disk.new ≡ D.tells disk.old }
+    ensures writes { Writes D.Disk any_error 0 disk.old disk.new result }
 {
     disk.write(Area::Journal, 0, &gate_page(opens))?;
     disk.sync()?;
@@ -37,9 +35,7 @@ pub(crate) fn put_behind<D: Disk>(disk: &mut D, at: u64, page: &Page) -> Result<
         → D.image disk.new ≡ with_area Journal (written_at (D.image disk.old).journal at page.now) (D.image disk.old)) }
     ensures pends { (start : Image) → AtNewest (BodyPends start) (D.moments disk.old)
         → LeavesOnly (KeepsGate start) (D.moments disk.old) (D.moments disk.new) × AtNewest (BodyPends start) (D.moments disk.new) }
-    ensures faults { CountsFault result (D.faults disk.old) (D.faults disk.new) }
-    ensures reads { D.reads disk.new ≡ D.reads disk.old }
-    ensures tells { D.tells disk.new ≡ D.tells disk.old }
+    ensures writes { Writes D.Disk any_error 0 disk.old disk.new result }
 {
     disk.write(Area::Journal, at, page)?;
     Ok(())
@@ -52,9 +48,7 @@ pub(crate) fn put_home<D: Disk>(disk: &mut D, home: u64, page: &Page) -> Result<
         → D.image disk.new ≡ with_area Pages (written_at (D.image disk.old).pages home page.now) (D.image disk.old)) }
     ensures pends { (images : PageMap) (start : Image) → IsSome (images home) → AtNewest (HomesPend images start) (D.moments disk.old)
         → LeavesOnly (IsInPlacing images start) (D.moments disk.old) (D.moments disk.new) × AtNewest (HomesPend images start) (D.moments disk.new) }
-    ensures faults { CountsFault result (D.faults disk.old) (D.faults disk.new) }
-    ensures reads { D.reads disk.new ≡ D.reads disk.old }
-    ensures tells { D.tells disk.new ≡ D.tells disk.old }
+    ensures writes { Writes D.Disk any_error 0 disk.old disk.new result }
 {
     disk.write(Area::Pages, home, page)?;
     Ok(())

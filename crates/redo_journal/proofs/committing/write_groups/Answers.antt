@@ -8,6 +8,7 @@ use Rattle.redo_journal.specs.Pending.{BodyPends, KeepsGate}
 use Rattle.redo_journal.specs.Placing.{ImageList, homes_of, bytes_of, with_row}
 use Rattle.redo_journal.proofs.RestLemmas.{goes_on}
 use Rattle.redo_journal.proofs.BodyLemmas.{WritesGroups, groups_step, groups_done, drop-homes, length-homes, length-bytes, length-row, more_left, head_is, row_of, kept_row, none_left}
+use Rattle.redo_journal.proofs.CallLemmas.{went_on}
 use Rattle.redo_journal.proofs.committing.write_groups.Goals as goal
 
 pub next_head-head-requires-clause-there : goal.next_head-head-requires-clause-there
@@ -55,8 +56,8 @@ loop-left-preserved g c =
     let dropped : c.write_images.new.images ≡ drop count rest = c.in_ok-write_images.ensures.rest in
     let left : length (drop count rest) ≡ length rest - count = length-drop count rest in
     let left2 : length c.write_images.new.images ≡ length (drop count rest) = ap length dropped in
-    let told1 = λ (h : IsTrue (g.D.Disk.tells d0)). subst (λ (b : Bool). IsTrue b) (sym inv.tells) h in
-    let told2 = λ (h : IsTrue (g.D.Disk.tells d0)). subst (λ (b : Bool). IsTrue b) (sym c.put_behind.ensures.tells) (told1 h) in
+    let told1 = λ (h : IsTrue (g.D.Disk.tells d0)). subst (λ (b : Bool). IsTrue b) (sym inv.went.tells) h in
+    let told2 = λ (h : IsTrue (g.D.Disk.tells d0)). subst (λ (b : Bool). IsTrue b) (sym c.put_behind.ensures.writes.tells) (told1 h) in
     let row : IsTrue (g.D.Disk.tells d0) → (g.D.Disk.image d3).journal ≡ with_row (g.D.Disk.image d1).journal c.loop-left.at (head_page head ∷ bytes_of (take count rest)) = λ h.
     row_of (g.D.Disk.image d1) (g.D.Disk.image d2) (g.D.Disk.image d3) c.loop-left.at c.write.new.page (head_page head) (bytes_of (take count rest))
     c.write.ensures (c.in_ok-put_behind.ensures.image (told1 h)) (c.in_ok-write_images.ensures.journal (told2 h)) in
@@ -86,9 +87,7 @@ loop-left-preserved g c =
       pends = λ start at. goes_on (BodyPends start) (KeepsGate start) (g.D.Disk.moments d0) (g.D.Disk.moments d2) (g.D.Disk.moments d3)
           (goes_on (BodyPends start) (KeepsGate start) (g.D.Disk.moments d0) (g.D.Disk.moments d1) (g.D.Disk.moments d2)
           (inv.pends start) (c.put_behind.ensures.pends start)) (c.write_images.ensures.pends start) at;
-      faults = c.in_ok-write_images.ensures.faults ∙ (c.in_ok-put_behind.ensures.faults ∙ inv.faults);
-      reads = c.write_images.ensures.reads ∙ (c.put_behind.ensures.reads ∙ inv.reads);
-      tells = c.write_images.ensures.tells ∙ (c.put_behind.ensures.tells ∙ inv.tells);
+      went = went_on g.D.Disk 0 0 _ _ _ (went_on g.D.Disk 0 0 _ _ _ inv.went c.in_ok-put_behind.ensures.writes) c.in_ok-write_images.ensures.writes;
     }
 
 pub returns-clause-held : goal.returns-clause-held

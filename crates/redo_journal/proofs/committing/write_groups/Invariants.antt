@@ -1,5 +1,6 @@
 use Rattle.std.proofs.Common.{◌≡◌, ◌≤◌, ◌+◌, ◌*◌, IsTrue, length}
 use Rattle.page_disk.specs.Image.{Image}
+use Rattle.page_disk.specs.Calls.{WentOn}
 use Rattle.page_disk.specs.Since.{LeavesOnly}
 use Rattle.redo_journal.specs.Images.{image_list}
 use Rattle.redo_journal.specs.Pending.{AtNewest, BodyPends, KeepsGate}
@@ -20,9 +21,7 @@ invariant-loop-left g l =
       kept : IsTrue (disk.tells l.fn.disk) → KeepsGate (disk.image l.fn.disk) (disk.image l.disk);
       pends : (start : Image) → AtNewest (BodyPends start) (disk.moments l.fn.disk)
           → LeavesOnly (KeepsGate start) (disk.moments l.fn.disk) (disk.moments l.disk) × AtNewest (BodyPends start) (disk.moments l.disk);
-      faults : disk.faults l.disk ≡ disk.faults l.fn.disk;
-      reads : disk.reads l.disk ≡ disk.reads l.fn.disk;
-      tells : disk.tells l.disk ≡ disk.tells l.fn.disk;
+      went : WentOn disk 0 l.fn.disk l.disk;
     }
 
 abbrev pub decreases-loop-left : goal.decreases-loop-left

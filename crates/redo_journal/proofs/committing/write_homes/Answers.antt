@@ -10,6 +10,7 @@ use Rattle.redo_journal.specs.Placing.{ImageList, homes_of, map_of, with_images,
 use Rattle.redo_journal.proofs.PlacingLemmas.{length-written}
 use Rattle.redo_journal.proofs.RestLemmas.{homes_start, homes_leave}
 use Rattle.redo_journal.proofs.HomeLemmas.{among_first, among_rest, synced_stretch, settled_by}
+use Rattle.redo_journal.proofs.CallLemmas.{went_on, no_call}
 use Rattle.redo_journal.proofs.committing.write_homes.Goals as goal
 
 pub loop-home-init : goal.loop-home-init
@@ -27,9 +28,7 @@ loop-home-init g c =
         LeavesOnly-same (IsInPlacing (map_of all) start) (g.D.Disk.moments d),
         homes_start (map_of all) (g.D.Disk.tells d) start (g.D.Disk.moments d) (g.met.D.Disk.tells_image d) c.requires.settled,
       );
-      faults = λ i. g.D.Disk.faults d;
-      reads = λ i. g.D.Disk.reads d;
-      tells = λ i. g.D.Disk.tells d;
+      went = no_call g.D.Disk d;
     }
 
 pub loop-home-preserved : goal.loop-home-preserved
@@ -44,7 +43,7 @@ loop-home-preserved g c =
     let rest : ImageList = c.next.new.self in
     let is : c.loop-home.home-iterator ≡ image ∷ rest =
     rest_more deref_pair c.loop-home.home-iterator rest c.next.result (c.in-Some.home, c.in-Some.page) c.in-Some.is c.next.ensures.steps in
-    let told1 = λ (h : IsTrue (g.D.Disk.tells d0)). subst (λ (b : Bool). IsTrue b) (sym inv.tells) h in
+    let told1 = λ (h : IsTrue (g.D.Disk.tells d0)). subst (λ (b : Bool). IsTrue b) (sym inv.went.tells) h in
     let wrote = λ (h : IsTrue (g.D.Disk.tells d0)). c.in_ok-put_home.ensures.image (told1 h) in
     let pages : IsTrue (g.D.Disk.tells d0) → (g.D.Disk.image d2).pages ≡ written_at (g.D.Disk.image d1).pages image.0 image.1 = λ h.
     ap (λ (x : Image). x.pages) (wrote h) in
@@ -61,9 +60,7 @@ loop-home-preserved g c =
       among = λ page h. inv.among page (subst (λ (s : ImageList). IsSome (map_of s page)) (sym is) (among_rest image rest page h));
       journal = λ h. ap (λ (x : Image). x.journal) (wrote h) ∙ inv.journal h;
       goes = (LeavesOnly-then (IsInPlacing (map_of all) start) (g.D.Disk.moments d0) (g.D.Disk.moments d1) (g.D.Disk.moments d2) inv.goes.0 more.0, more.1);
-      faults = c.in_ok-put_home.ensures.faults ∙ inv.faults;
-      reads = c.put_home.ensures.reads ∙ inv.reads;
-      tells = c.put_home.ensures.tells ∙ inv.tells;
+      went = went_on g.D.Disk 0 0 _ _ _ inv.went c.in_ok-put_home.ensures.writes;
     }
 
 pub returns-in_err-put_home-clause-any_moment : goal.returns-in_err-put_home-clause-any_moment

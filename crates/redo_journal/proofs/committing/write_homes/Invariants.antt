@@ -1,4 +1,5 @@
 use Rattle.std.proofs.Common.{◌≡◌, ℕ, IsTrue, IsSome, length}
+use Rattle.page_disk.specs.Calls.{WentOn}
 use Rattle.page_disk.specs.Since.{LeavesOnly}
 use Rattle.redo_journal.specs.Images.{image_list}
 use Rattle.redo_journal.specs.Pending.{AtNewest, HomesPend, IsInPlacing}
@@ -18,7 +19,5 @@ invariant-loop-home g l =
       journal : IsTrue (disk.tells l.fn.disk) → now.journal ≡ start.journal;
       goes : LeavesOnly (IsInPlacing (map_of all) start) (disk.moments l.fn.disk) (disk.moments l.disk)
           × AtNewest (HomesPend (map_of all) start) (disk.moments l.disk);
-      faults : disk.faults l.disk ≡ disk.faults l.fn.disk;
-      reads : disk.reads l.disk ≡ disk.reads l.fn.disk;
-      tells : disk.tells l.disk ≡ disk.tells l.fn.disk;
+      went : WentOn disk 0 l.fn.disk l.disk;
     }

@@ -7,6 +7,7 @@ use Rattle.redo_journal.specs.Pending.{BodyPends, KeepsGate}
 use Rattle.redo_journal.proofs.PlacingLemmas.{length-written}
 use Rattle.redo_journal.proofs.RestLemmas.{goes_on}
 use Rattle.redo_journal.proofs.BodyLemmas.{row_step, drop_step}
+use Rattle.redo_journal.proofs.CallLemmas.{went_on}
 use Rattle.redo_journal.proofs.committing.write_images.Goals as goal
 
 pub returns-in_err-put_behind-clause-pends : goal.returns-in_err-put_behind-clause-pends
@@ -22,7 +23,7 @@ loop-i-preserved g c =
     let image = deref_pair c.unwrap.result in
     let is : c.loop-i.images ≡ image ∷ c.next.new.self = rest_more deref_pair c.loop-i.images c.next.new.self c.next.result c.unwrap.result c.unwrap.ensures c.next.ensures.steps in
     let size : length c.loop-i.images ≡ length c.next.new.self + 1 = ap length is ∙ omega arith in
-    let told0 = λ (h : IsTrue (g.D.Disk.tells new)). subst (λ (b : Bool). IsTrue b) c.put_behind.ensures.tells h in
+    let told0 = λ (h : IsTrue (g.D.Disk.tells new)). subst (λ (b : Bool). IsTrue b) c.put_behind.ensures.writes.tells h in
     let wrote = λ (h : IsTrue (g.D.Disk.tells new)). c.in_ok-put_behind.ensures.image (told0 h) in
     let journal = λ (h : IsTrue (g.D.Disk.tells new)).
     let e : (g.D.Disk.image new).journal ≡ written_at (g.D.Disk.image old).journal (c.args.at + c.loop-i.i) image.1 = ap (λ (x : Image). x.journal) (wrote h) in e in
@@ -39,7 +40,5 @@ loop-i-preserved g c =
           is c.loop-i-test.true (journal h) (inv.journal (told0 h));
       pends = λ start at. goes_on (BodyPends start) (KeepsGate start) (g.D.Disk.moments c.args.disk.now) (g.D.Disk.moments old) (g.D.Disk.moments new)
           (inv.pends start) (c.put_behind.ensures.pends start) at;
-      faults = c.in_ok-put_behind.ensures.faults ∙ inv.faults;
-      reads = c.put_behind.ensures.reads ∙ inv.reads;
-      tells = c.put_behind.ensures.tells ∙ inv.tells;
+      went = went_on g.D.Disk 0 0 _ _ _ inv.went c.in_ok-put_behind.ensures.writes;
     }

@@ -1,5 +1,6 @@
 use Rattle.std.proofs.Common.{◌≡◌, ◌≤◌, ◌+◌, ◌-◌, IsTrue, length, take, drop}
 use Rattle.page_disk.specs.Image.{Image}
+use Rattle.page_disk.specs.Calls.{WentOn}
 use Rattle.page_disk.specs.Since.{LeavesOnly}
 use Rattle.redo_journal.specs.Pending.{AtNewest, BodyPends, KeepsGate}
 use Rattle.redo_journal.specs.Placing.{bytes_of, with_row}
@@ -17,7 +18,5 @@ invariant-loop-i g l =
           ≡ with_row (disk.image l.fn.disk).journal l.at (bytes_of (take l.count l.fn.images));
       pends : (start : Image) → AtNewest (BodyPends start) (disk.moments l.fn.disk)
           → LeavesOnly (KeepsGate start) (disk.moments l.fn.disk) (disk.moments l.disk) × AtNewest (BodyPends start) (disk.moments l.disk);
-      faults : disk.faults l.disk ≡ disk.faults l.fn.disk;
-      reads : disk.reads l.disk ≡ disk.reads l.fn.disk;
-      tells : disk.tells l.disk ≡ disk.tells l.fn.disk;
+      went : WentOn disk 0 l.fn.disk l.disk;
     }

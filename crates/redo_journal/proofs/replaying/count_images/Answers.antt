@@ -57,10 +57,10 @@ groups-preserved g c =
       breaks = λ told page breaks.
           inv.breaks told page (group_breaks c.args.len journal c.groups.at c.groups.last next after head homes c.as_slice-homes.ensures.value (at told)
           c.last_home-last.ensures (λ i. after) c.if-not-head.false page breaks);
-      faults = c.in_ok-head.ensures.faults ∙ inv.faults;
+      faults = c.in_ok-head.ensures.reads.faults ∙ inv.faults;
       reads = let r = c.head_at.ensures.reads in let s = inv.reads in omega arith;
-      rise = let s = inv.rise in let r0 = c.head_at.ensures.reads_stay_or_rise in omega arith;
-      tells = c.head_at.ensures.tells ∙ inv.tells;
-      image = c.head_at.ensures.image ∙ inv.image;
-      moments = c.head_at.ensures.moments ∙ inv.moments;
+      rise = let s = inv.rise in let r0 = c.head_at.ensures.reads in omega arith;
+      tells = c.head_at.ensures.reads.tells ∙ inv.tells;
+      image = c.head_at.ensures.reads.image ∙ inv.image;
+      moments = c.head_at.ensures.reads.moments ∙ inv.moments;
     }

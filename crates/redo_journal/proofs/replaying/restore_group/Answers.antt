@@ -49,8 +49,8 @@ loop-i-preserved g c =
           (λ first. subst (λ (ms : List Moment). LeavesOnly (IsInPlacing images start) (g.D.Disk.moments d0) ms × AtNewest (HomesPend images start) ms)
           (sym c.read.ensures.moments) (inv.pends images start all first))
           (c.put_home.ensures.pends images start (all c.loop-i.i 0 c.loop-i-test.true)) at;
-      faults = c.in_ok-put_home.ensures.faults ∙ (c.in_ok-read.ensures.faults ∙ inv.faults);
-      reads = let r = c.read.ensures.reads in let s = inv.reads in let p = c.put_home.ensures.reads in omega arith;
-      rise = let s = inv.rise in let r0 = c.read.ensures.reads_stay_or_rise in let r1 = c.put_home.ensures.reads in omega arith;
-      tells = c.put_home.ensures.tells ∙ (c.read.ensures.tells ∙ inv.tells);
+      faults = c.in_ok-put_home.ensures.writes.faults ∙ (c.in_ok-read.ensures.faults ∙ inv.faults);
+      reads = let r = c.read.ensures.reads in let s = inv.reads in let p = c.put_home.ensures.writes in omega arith;
+      rise = let s = inv.rise in let r0 = c.read.ensures.reads_stay_or_rise in let r1 = c.put_home.ensures.writes in omega arith;
+      tells = c.put_home.ensures.writes.tells ∙ (c.read.ensures.tells ∙ inv.tells);
     }

@@ -46,14 +46,14 @@ restore_group-requires-clause-writable g c = λ told.
     let head = c.in_ok-head.head in
     let homes : List ℕ = c.as_slice-homes.result.now in
     let named = c.as_slice-homes.ensures.value in
-    let told2 : IsTrue (g.D.Disk.tells d0) → IsTrue (g.D.Disk.tells d2) = λ h. subst (λ (b : Bool). IsTrue b) (sym c.head_at.ensures.tells) (told1 h) in
+    let told2 : IsTrue (g.D.Disk.tells d0) → IsTrue (g.D.Disk.tells d2) = λ h. subst (λ (b : Bool). IsTrue b) (sym c.head_at.ensures.reads.tells) (told1 h) in
     let at_head : IsTrue (g.D.Disk.tells d0) → HeadAt len journal place last head = λ h.
     subst (λ (p : PageList). HeadAt len p place last head) (inv.journal h) (c.in_ok-head.ensures.ok (told1 h)) in
     let one : IsTrue (g.D.Disk.tells d0) → (other : JournalHead) → HeadAt len journal place last other → other ≡ head = λ h other k.
     c.in_ok-head.ensures.only (told1 h) other (subst (λ (p : PageList). HeadAt len p place last other) (sym (inv.journal h)) k) in
     let now : PageList = (g.D.Disk.image d1).pages in
-    let told0 : IsTrue (g.D.Disk.tells d0) = subst (λ (b : Bool). IsTrue b) (c.head_at.ensures.tells ∙ inv.tells) told in
-    subst (λ (x : Image). AreWritable (length x.pages) homes) (sym c.head_at.ensures.image)
+    let told0 : IsTrue (g.D.Disk.tells d0) = subst (λ (b : Bool). IsTrue b) (c.head_at.ensures.reads.tells ∙ inv.tells) told in
+    subst (λ (x : Image). AreWritable (length x.pages) homes) (sym c.head_at.ensures.reads.image)
     (head_writable len journal now place last head homes named (at_head told0) (inv.longer told0) (inv.low told0))
 
 pub returns-in_err-restore_group-clause-pends : goal.returns-in_err-restore_group-clause-pends
@@ -70,7 +70,7 @@ returns-in_err-restore_group-clause-pends g c = λ all holds at.
     let head = c.in_ok-head.head in
     let homes : List ℕ = c.as_slice-homes.result.now in
     let named = c.as_slice-homes.ensures.value in
-    let told2 : IsTrue (g.D.Disk.tells d0) → IsTrue (g.D.Disk.tells d2) = λ h. subst (λ (b : Bool). IsTrue b) (sym c.head_at.ensures.tells) (told1 h) in
+    let told2 : IsTrue (g.D.Disk.tells d0) → IsTrue (g.D.Disk.tells d2) = λ h. subst (λ (b : Bool). IsTrue b) (sym c.head_at.ensures.reads.tells) (told1 h) in
     let at_head : IsTrue (g.D.Disk.tells d0) → HeadAt len journal place last head = λ h.
     subst (λ (p : PageList). HeadAt len p place last head) (inv.journal h) (c.in_ok-head.ensures.ok (told1 h)) in
     let one : IsTrue (g.D.Disk.tells d0) → (other : JournalHead) → HeadAt len journal place last other → other ≡ head = λ h other k.
@@ -81,11 +81,11 @@ returns-in_err-restore_group-clause-pends g c = λ all holds at.
     let start = g.D.Disk.image d0 in
     let Q : Moment → Type 0 = HomesPend (map_of all) start in
     let P : Image → Type 0 = IsInPlacing (map_of all) start in
-    let same : g.D.Disk.tells d3 ≡ g.D.Disk.tells d0 = c.restore_group.ensures.tells ∙ (c.head_at.ensures.tells ∙ inv.tells) in
+    let same : g.D.Disk.tells d3 ≡ g.D.Disk.tells d0 = c.restore_group.ensures.writes.tells ∙ (c.head_at.ensures.reads.tells ∙ inv.tells) in
     pair_where_told Q P (g.D.Disk.tells d0) start (g.D.Disk.image d3) (g.D.Disk.moments d0) (g.D.Disk.moments d3) (g.met.D.Disk.tells_image d0)
     (subst (λ (b : Bool). TellsImage b (g.D.Disk.image d3) (g.D.Disk.moments d3)) same (g.met.D.Disk.tells_image d3))
     (λ h. goes_on Q P (g.D.Disk.moments d0) (g.D.Disk.moments d2) (g.D.Disk.moments d3)
-    (λ first. subst (λ (ms : List Moment). LeavesOnly P (g.D.Disk.moments d0) ms × AtNewest Q ms) (sym c.head_at.ensures.moments) (inv.pends all holds first))
+    (λ first. subst (λ (ms : List Moment). LeavesOnly P (g.D.Disk.moments d0) ms × AtNewest Q ms) (sym c.head_at.ensures.reads.moments) (inv.pends all holds first))
     (c.restore_group.ensures.pends (map_of all) start (subst (λ (s : List ℕ). All (λ home. IsSome (map_of all home)) s) (sym named)
     (restoring_homes len journal start.pages now after place last all head (one h) (inv.rest h all (holds h))))) at)
 
@@ -103,7 +103,7 @@ returns-then-not-head-clause-pends g c = λ all holds at.
     let head = c.in_ok-head.head in
     let homes : List ℕ = c.as_slice-homes.result.now in
     let named = c.as_slice-homes.ensures.value in
-    let told2 : IsTrue (g.D.Disk.tells d0) → IsTrue (g.D.Disk.tells d2) = λ h. subst (λ (b : Bool). IsTrue b) (sym c.head_at.ensures.tells) (told1 h) in
+    let told2 : IsTrue (g.D.Disk.tells d0) → IsTrue (g.D.Disk.tells d2) = λ h. subst (λ (b : Bool). IsTrue b) (sym c.head_at.ensures.reads.tells) (told1 h) in
     let at_head : IsTrue (g.D.Disk.tells d0) → HeadAt len journal place last head = λ h.
     subst (λ (p : PageList). HeadAt len p place last head) (inv.journal h) (c.in_ok-head.ensures.ok (told1 h)) in
     let one : IsTrue (g.D.Disk.tells d0) → (other : JournalHead) → HeadAt len journal place last other → other ≡ head = λ h other k.
@@ -114,11 +114,11 @@ returns-then-not-head-clause-pends g c = λ all holds at.
     let start = g.D.Disk.image d0 in
     let Q : Moment → Type 0 = HomesPend (map_of all) start in
     let P : Image → Type 0 = IsInPlacing (map_of all) start in
-    let same : g.D.Disk.tells d3 ≡ g.D.Disk.tells d0 = c.restore_group.ensures.tells ∙ (c.head_at.ensures.tells ∙ inv.tells) in
+    let same : g.D.Disk.tells d3 ≡ g.D.Disk.tells d0 = c.restore_group.ensures.writes.tells ∙ (c.head_at.ensures.reads.tells ∙ inv.tells) in
     pair_where_told Q P (g.D.Disk.tells d0) start (g.D.Disk.image d3) (g.D.Disk.moments d0) (g.D.Disk.moments d3) (g.met.D.Disk.tells_image d0)
     (subst (λ (b : Bool). TellsImage b (g.D.Disk.image d3) (g.D.Disk.moments d3)) same (g.met.D.Disk.tells_image d3))
     (λ h. goes_on Q P (g.D.Disk.moments d0) (g.D.Disk.moments d2) (g.D.Disk.moments d3)
-    (λ first. subst (λ (ms : List Moment). LeavesOnly P (g.D.Disk.moments d0) ms × AtNewest Q ms) (sym c.head_at.ensures.moments) (inv.pends all holds first))
+    (λ first. subst (λ (ms : List Moment). LeavesOnly P (g.D.Disk.moments d0) ms × AtNewest Q ms) (sym c.head_at.ensures.reads.moments) (inv.pends all holds first))
     (c.restore_group.ensures.pends (map_of all) start (subst (λ (s : List ℕ). All (λ home. IsSome (map_of all home)) s) (sym named)
     (restoring_homes len journal start.pages now after place last all head (one h) (inv.rest h all (holds h))))) at)
 
@@ -136,7 +136,7 @@ returns-then-not-head-clause-placed g c = λ h all holds.
     let head = c.in_ok-head.head in
     let homes : List ℕ = c.as_slice-homes.result.now in
     let named = c.as_slice-homes.ensures.value in
-    let told2 : IsTrue (g.D.Disk.tells d0) → IsTrue (g.D.Disk.tells d2) = λ h. subst (λ (b : Bool). IsTrue b) (sym c.head_at.ensures.tells) (told1 h) in
+    let told2 : IsTrue (g.D.Disk.tells d0) → IsTrue (g.D.Disk.tells d2) = λ h. subst (λ (b : Bool). IsTrue b) (sym c.head_at.ensures.reads.tells) (told1 h) in
     let at_head : IsTrue (g.D.Disk.tells d0) → HeadAt len journal place last head = λ h.
     subst (λ (p : PageList). HeadAt len p place last head) (inv.journal h) (c.in_ok-head.ensures.ok (told1 h)) in
     let one : IsTrue (g.D.Disk.tells d0) → (other : JournalHead) → HeadAt len journal place last other → other ≡ head = λ h other k.
@@ -146,7 +146,7 @@ returns-then-not-head-clause-placed g c = λ h all holds.
     let after : PageList = (g.D.Disk.image d3).pages in
     let wrote : IsTrue (g.D.Disk.tells d0) → after ≡ with_images now (images_at journal (place + 1) homes) = λ h.
     c.in_ok-restore_group.ensures.placed (told2 h)
-    ∙ (ap (λ (x : Image). with_images x.pages (images_at x.journal (place + 1) homes)) c.head_at.ensures.image
+    ∙ (ap (λ (x : Image). with_images x.pages (images_at x.journal (place + 1) homes)) c.head_at.ensures.reads.image
     ∙ ap (λ (p : PageList). with_images now (images_at p (place + 1) homes)) (inv.journal h)) in
     restoring_end len journal (g.D.Disk.image d0).pages now after place last all head (one h) homes named c.if-not-head.true (wrote h) (inv.rest h all holds)
 
@@ -164,7 +164,7 @@ groups-preserved g c =
     let head = c.in_ok-head.head in
     let homes : List ℕ = c.as_slice-homes.result.now in
     let named = c.as_slice-homes.ensures.value in
-    let told2 : IsTrue (g.D.Disk.tells d0) → IsTrue (g.D.Disk.tells d2) = λ h. subst (λ (b : Bool). IsTrue b) (sym c.head_at.ensures.tells) (told1 h) in
+    let told2 : IsTrue (g.D.Disk.tells d0) → IsTrue (g.D.Disk.tells d2) = λ h. subst (λ (b : Bool). IsTrue b) (sym c.head_at.ensures.reads.tells) (told1 h) in
     let at_head : IsTrue (g.D.Disk.tells d0) → HeadAt len journal place last head = λ h.
     subst (λ (p : PageList). HeadAt len p place last head) (inv.journal h) (c.in_ok-head.ensures.ok (told1 h)) in
     let one : IsTrue (g.D.Disk.tells d0) → (other : JournalHead) → HeadAt len journal place last other → other ≡ head = λ h other k.
@@ -174,7 +174,7 @@ groups-preserved g c =
     let after : PageList = (g.D.Disk.image d3).pages in
     let wrote : IsTrue (g.D.Disk.tells d0) → after ≡ with_images now (images_at journal (place + 1) homes) = λ h.
     c.in_ok-restore_group.ensures.placed (told2 h)
-    ∙ (ap (λ (x : Image). with_images x.pages (images_at x.journal (place + 1) homes)) c.head_at.ensures.image
+    ∙ (ap (λ (x : Image). with_images x.pages (images_at x.journal (place + 1) homes)) c.head_at.ensures.reads.image
     ∙ ap (λ (p : PageList). with_images now (images_at p (place + 1) homes)) (inv.journal h)) in
     let next : ℕ = c.last_home-last.result in
     let beyond : ℕ = place + (1 + length homes) in
@@ -186,21 +186,21 @@ groups-preserved g c =
       within = let w = c.in_ok-head.ensures.within in omega arith;
       low = λ h. (reaches h).0;
       longer = λ h. let a = (reaches h).1 in let b = inv.longer h in omega arith;
-      journal = λ h. c.in_ok-restore_group.ensures.journal (told2 h) ∙ (ap (λ (x : Image). x.journal) c.head_at.ensures.image ∙ inv.journal h);
+      journal = λ h. c.in_ok-restore_group.ensures.journal (told2 h) ∙ (ap (λ (x : Image). x.journal) c.head_at.ensures.reads.image ∙ inv.journal h);
       rest = λ h all holds. restoring_step len journal (g.D.Disk.image d0).pages now after place last all head (one h) next beyond homes named (at_head h)
           c.last_home-last.ensures refl c.if-not-head.false (wrote h) (inv.rest h all holds);
       pends = λ all holds at. let start = g.D.Disk.image d0 in
           let Q : Moment → Type 0 = HomesPend (map_of all) start in
           let P : Image → Type 0 = IsInPlacing (map_of all) start in
-          let same : g.D.Disk.tells d3 ≡ g.D.Disk.tells d0 = c.restore_group.ensures.tells ∙ (c.head_at.ensures.tells ∙ inv.tells) in
+          let same : g.D.Disk.tells d3 ≡ g.D.Disk.tells d0 = c.restore_group.ensures.writes.tells ∙ (c.head_at.ensures.reads.tells ∙ inv.tells) in
           pair_where_told Q P (g.D.Disk.tells d0) start (g.D.Disk.image d3) (g.D.Disk.moments d0) (g.D.Disk.moments d3) (g.met.D.Disk.tells_image d0)
           (subst (λ (b : Bool). TellsImage b (g.D.Disk.image d3) (g.D.Disk.moments d3)) same (g.met.D.Disk.tells_image d3))
           (λ h. goes_on Q P (g.D.Disk.moments d0) (g.D.Disk.moments d2) (g.D.Disk.moments d3)
-          (λ first. subst (λ (ms : List Moment). LeavesOnly P (g.D.Disk.moments d0) ms × AtNewest Q ms) (sym c.head_at.ensures.moments) (inv.pends all holds first))
+          (λ first. subst (λ (ms : List Moment). LeavesOnly P (g.D.Disk.moments d0) ms × AtNewest Q ms) (sym c.head_at.ensures.reads.moments) (inv.pends all holds first))
           (c.restore_group.ensures.pends (map_of all) start (subst (λ (s : List ℕ). All (λ home. IsSome (map_of all home)) s) (sym named)
           (restoring_homes len journal start.pages now after place last all head (one h) (inv.rest h all (holds h))))) at);
-      faults = c.in_ok-restore_group.ensures.faults ∙ (c.in_ok-head.ensures.faults ∙ inv.faults);
-      reads = let r = c.head_at.ensures.reads in let s = inv.reads in let t = c.restore_group.ensures.reads in let w = c.in_ok-head.ensures.within in omega arith;
-      rise = let s = inv.rise in let r0 = c.head_at.ensures.reads_stay_or_rise in let r1 = c.restore_group.ensures.reads_stay_or_rise in omega arith;
-      tells = c.restore_group.ensures.tells ∙ (c.head_at.ensures.tells ∙ inv.tells);
+      faults = c.in_ok-restore_group.ensures.writes.faults ∙ (c.in_ok-head.ensures.reads.faults ∙ inv.faults);
+      reads = let r = c.head_at.ensures.reads in let s = inv.reads in let t = c.restore_group.ensures.writes in let w = c.in_ok-head.ensures.within in omega arith;
+      rise = let s = inv.rise in let r0 = c.head_at.ensures.reads in let r1 = c.restore_group.ensures.writes in omega arith;
+      tells = c.restore_group.ensures.writes.tells ∙ (c.head_at.ensures.reads.tells ∙ inv.tells);
     }

@@ -23,7 +23,7 @@ fine : (g : _) (c : goal.After-renew_all g) → is_err c.commit.result ≡ false
 fine g c = sym c.is_err.ensures.value ∙ c.if-is_err.false
 
 before : (g : _) (c : goal.After-renew_all g) → IsTrue (g.D.Disk.tells c.commit.new.disk) → IsTrue (g.D.Disk.tells c.args.self.space.disk)
-before g c told = sym c.commit.ensures.tells ∙ told
+before g c told = sym c.commit.ensures.writes.tells ∙ told
 
 next : (g : _) (c : goal.After-renew_all g) → IsTrue (g.D.Disk.tells c.commit.new.disk)
     → IsSpace (g.D.Disk.image c.commit.new.disk).pages c.args.self.space.params c.args.self.meta (staged_map c.args.self) (IsStagedInOrder c.args.self)
