@@ -1,9 +1,11 @@
 -- Which pages a cache keeps, and how it agrees with a disk.
-use Rattle.std.specs.Prelude.{◌≡◌, ◌⊎◌, ℕ, ◌<◌, ◌≤◌, ◌==◌, true, length, nat_eq, if◌then◌else◌, List, Some, IsSome, option_map}
+use Rattle.std.specs.Prelude.{◌≡◌, ◌⊎◌, ℕ, ◌<◌, ◌≤◌, ◌==◌, Bool, true, false, length, nat_eq, if◌then◌else◌, List, Some, IsSome, option_map}
 use Rattle.std.specs.Box.{box_value}
 use Rattle.std.specs.Map.{lookup}
 use Rattle.page_ports.specs.Frame.{names_page}
 use Rattle.page_ports.specs.Pages.{PageMap}
+use Rattle.page_ports.specs.declared.page.PageFault.{PageFault}
+use Rattle.page_ports.specs.declared.page.PageFault.TheVariants.{Disk, Damaged}
 use Rattle.page_disk.specs.Image.{PageList, page_at}
 use Rattle.page_cache.specs.declared.cache.Cache.{Cache}
 
@@ -32,3 +34,8 @@ KeepsAtMostAlso old new page bytes = (p : ℕ) (b : List ℕ) → new p ≡ Some
 -- the same pages, this one with these bytes where it is kept
 abbrev pub renewed : PageMap → ℕ → List ℕ → PageMap
 renewed kept page bytes = λ p. if page == p then option_map (λ _. bytes) (kept p) else kept p
+
+-- whether the device failed
+abbrev pub is_disk : PageFault → Bool
+is_disk Disk = true
+is_disk (Damaged page) = false

@@ -1,9 +1,9 @@
 //! The pages that were used last.
 ghost use Rattle.std.specs.Prelude.{◌≡◌, ◌≢◌, ◌⊎◌, ◌+◌, ◌-◌, ◌^◌, ◌<◌, ◌≤◌, ℕ, List, length, min, Some, None, Ok, Err, IsTrue, IfOk, IfSome, OnOk, OnErr, is_some};
 ghost use Rattle.std.specs.Box.{box_value};
-ghost use Rattle.counts.specs.Count.{Rose};
+ghost use Rattle.page_disk.specs.Calls.{OnlyReads};
 ghost use Rattle.page_disk.specs.Image.{PageList, page_at, written_at};
-ghost use Rattle.page_cache.specs.Cache.{Agrees, KeepsAtMost, KeepsAtMostAlso, capacity, kept_pages, renewed};
+ghost use Rattle.page_cache.specs.Cache.{Agrees, KeepsAtMost, KeepsAtMostAlso, capacity, is_disk, kept_pages, renewed};
 
 use lru::LruCache;
 use page_disk::{Area, Disk};
@@ -108,27 +108,20 @@ impl Cache {
         ensures agrees { IsTrue (D.tells disk.old) → Agrees (kept_pages self.new) (D.image disk.new).pages }
         ensures ok { OnOk result (IsTrue (D.tells disk.old)
             → (page < length (D.image disk.old).pages) × (buf.new ≡ page_at (D.image disk.old).pages page)) }
-        ensures disk { result ≡ Err PageFault.Disk → Rose (D.faults disk.old) (D.faults disk.new) }
         ensures damaged { (p : ℕ) → result ≡ Err (PageFault.Damaged p)
             → (p ≡ page) × (buf.new ≡ buf.old) × (IsTrue (D.tells disk.old) → length (D.image disk.old).pages ≤ page) }
 
         ensures hit { (bytes : List ℕ) → kept_pages self.old page ≡ Some bytes
             → (result ≡ Ok record {}) × (buf.new ≡ bytes)
-            × (D.reads disk.new ≡ D.reads disk.old) × (D.faults disk.new ≡ D.faults disk.old)
+            × (D.reads disk.new ≡ D.reads disk.old)
             × ((p : ℕ) → kept_pages self.new p ≡ kept_pages self.old p) }
         ensures keeps { OnOk result (KeepsAtMostAlso (kept_pages self.old) (kept_pages self.new) page buf.new) }
         ensures keeps_err { OnErr result ((p : ℕ) → kept_pages self.new p ≡ kept_pages self.old p) }
         ensures capacity { capacity self.new ≡ capacity self.old }
         ensures few { KeepsAtMost (kept_pages self.new) (capacity self.new) }
 
-        ensures at_most_one { D.reads disk.new ≤ D.reads disk.old + 1 }
-        ensures reads { D.reads disk.old ≤ D.reads disk.new }
         ensures miss { kept_pages self.old page ≡ None → D.reads disk.new ≡ min (D.reads disk.old + 1) (2 ^ 64 - 1) }
-        ensures faults { D.faults disk.old ≤ D.faults disk.new }
-        ensures faults_stay { result ≢ Err PageFault.Disk → D.faults disk.new ≡ D.faults disk.old }
-        ensures tells { D.tells disk.new ≡ D.tells disk.old }
-        ensures image { D.image disk.new ≡ D.image disk.old }
-        ensures moments { D.moments disk.new ≡ D.moments disk.old }
+        ensures reads { OnlyReads D.Disk is_disk 1 disk.old disk.new result }
     {
         if self.recall(page, buf) {
             self.is_few();

@@ -1,16 +1,8 @@
--- What the calls of this crate leave as they found it.
-use Rattle.std.specs.Prelude.{◌≡◌, ℕ, ◌+◌, ◌≤◌}
+-- What the calls on a stage leave as they found it.
+use Rattle.std.specs.Prelude.{◌≡◌}
 use Rattle.page_disk.specs.declared.disk.Disk.{Ghosts}
 use Rattle.page_space.specs.declared.staged.Staged.{Staged}
 use Rattle.page_space.specs.Shown.{staged_bytes, staged_meta}
-
--- The disk was read, at most so many times, and is as it was.
-pub record DiskWasRead {D : Type 0} (g : Ghosts D) (most : ℕ) (old new : D) : Type 0 where
-  pub tells : g.tells new ≡ g.tells old
-  pub image : g.image new ≡ g.image old
-  pub moments : g.moments new ≡ g.moments old
-  pub reads : g.reads old ≤ g.reads new
-  pub at_most : g.reads new ≤ g.reads old + most
 
 -- The changes so far stay: the images, with them the bytes at each page, and the meta page as it is to be.
 pub record KeepsChanges {D : Type 0} {g : Ghosts D} (old new : Staged D g) : Type 0 where

@@ -1,16 +1,15 @@
 -- The faults of an opening.
-use Rattle.std.specs.Prelude.{◌≡◌, ℕ, ◌≤◌}
-use Rattle.counts.specs.Count.{Rose}
+use Rattle.std.specs.Prelude.{ℕ, Bool, true, false}
 use Rattle.page_space.specs.declared.refusal.OpenFault.{OpenFault}
 use Rattle.page_space.specs.declared.refusal.OpenFault.TheVariants.{Disk, Empty, Damaged, NoMemory, BadJournal}
 
--- The count of faults rose where the device failed, and else it is as before.
-abbrev pub CountsDisk : OpenFault → ℕ → ℕ → Type 0
-CountsDisk Disk old new = Rose old new × (old ≤ new)
-CountsDisk Empty old new = new ≡ old
-CountsDisk (Damaged n) old new = new ≡ old
-CountsDisk NoMemory old new = new ≡ old
-CountsDisk (BadJournal n) old new = new ≡ old
+-- whether the device failed
+abbrev pub is_disk : OpenFault → Bool
+is_disk Disk = true
+is_disk Empty = false
+is_disk (Damaged n) = false
+is_disk NoMemory = false
+is_disk (BadJournal n) = false
 
 -- Where the fault is that a page is damaged, this holds of it.
 abbrev pub AtDamaged : OpenFault → (ℕ → Type 0) → Type 0

@@ -1,6 +1,6 @@
 //! A commit of a stage.
 ghost use Rattle.std.specs.Prelude.{◌≡◌, ◌⊎◌, ◌+◌, ◌≤◌, ◌<◌, ℕ, Ok, Err, IsTrue, IsSome, IfOk, OnOk, OnErr};
-ghost use Rattle.counts.specs.Count.{CountsFault};
+ghost use Rattle.page_disk.specs.Calls.{Writes, any_error};
 ghost use Rattle.page_disk.specs.Since.{LeavesNow, LeavesOnly};
 ghost use Rattle.page_cache.specs.Cache.{kept_pages};
 ghost use Rattle.redo_journal.specs.Images.{image_map};
@@ -47,9 +47,7 @@ impl<D: Disk> Staged<D> {
             HoldsSpace x (base_of self).params (base_of self).meta (map_under (base_of self)) (OrderedUnder (base_of self))
             ⊎ HoldsSpace x (base_of self).params (staged_meta self) (staged_map self) (IsStagedInOrder self))
             (base_of self).moments (D.moments (disk_out result)) }
-        ensures faults { CountsFault result (D.faults (disk_under self)) (D.faults (disk_out result)) }
-        ensures reads { D.reads (disk_out result) ≡ D.reads (disk_under self) }
-        ensures tells { D.tells (disk_out result) ≡ D.tells (disk_under self) }
+        ensures writes { Writes D.Disk any_error 0 (disk_under self) (disk_out result) result }
     {
         let Staged {
             space,

@@ -1,15 +1,15 @@
 //! The opening of a space on a disk.
-ghost use Rattle.std.specs.Prelude.{◌≡◌, ◌≢◌, true, ◌⊎◌, ◌+◌, ◌*◌, ◌≤◌, ◌<◌, ℕ, length, Ok, Err, IsTrue, IfOk, IfErr, OnOk, OnErr, MatchResult};
+ghost use Rattle.std.specs.Prelude.{◌≡◌, ◌≢◌, true, ◌⊎◌, ◌+◌, ◌*◌, ◌≤◌, ◌<◌, ℕ, length, Ok, Err, IsTrue, IfOk, IfErr, OnOk, OnErr};
 ghost use Rattle.bw_types.specs.Fits.{IsInRange};
+ghost use Rattle.page_disk.specs.Calls.{OnlyReads, RisesWhere};
 ghost use Rattle.page_disk.specs.Image.{PageList, page_at};
 ghost use Rattle.page_disk.specs.Since.{LeavesNow, LeavesOnly};
 ghost use Rattle.redo_journal.specs.Gates.{gate_of, is_empty};
 ghost use Rattle.redo_journal.specs.Settled.{SettlesTo};
 ghost use Rattle.redo_journal.specs.declared.gate.Gate.TheVariants.{Idle};
 ghost use Rattle.page_layout.specs.Meta.{IsMeta, IsTyped, meta_page};
-ghost use Rattle.page_space.specs.Calls.{DiskWasRead};
 ghost use Rattle.page_space.specs.Opening.{HasNoMeta, HasNoParams, IsDamagedAt, IsSomeSpace, StandsAlike, StandsDamagedAt, StandsWhole};
-ghost use Rattle.page_space.specs.Faults.{AtBadJournal, AtDamaged, AtEmpty, AtNoMemory, CountsDisk};
+ghost use Rattle.page_space.specs.Faults.{AtBadJournal, AtDamaged, AtEmpty, AtNoMemory, is_disk};
 ghost use Rattle.page_space.specs.Refused.{opened_disk};
 ghost use Rattle.page_space.specs.Settling.{HasNoReplay, IsBadAt, replay_reads};
 ghost use Rattle.page_space.specs.Space.{params_page};
@@ -38,8 +38,7 @@ fn read_page<D: Disk>(disk: &mut D, page: u64) -> Result<Page, OpenFault>
     ensures ok { IfOk result (λ bytes. IsTrue (D.tells disk.old) → page < length (D.image disk.old).pages
         → bytes ≡ page_at (D.image disk.old).pages page) }
     ensures only { IfErr result (λ fault. fault ≡ OpenFault.Disk) }
-    ensures faults { MatchResult result (λ _. D.faults disk.new ≡ D.faults disk.old) (λ fault. CountsDisk fault (D.faults disk.old) (D.faults disk.new)) }
-    ensures read { DiskWasRead D.Disk 1 disk.old disk.new }
+    ensures reads { OnlyReads D.Disk is_disk 1 disk.old disk.new result }
 {
     let mut bytes = blank_page();
     match disk.read(Area::Pages, page, &mut bytes) {
@@ -55,8 +54,7 @@ fn read_params<D: Disk>(disk: &mut D) -> Result<Params, OpenFault>
     ensures ok { IfOk result (λ params. IsTrue (D.tells disk.old) → page_at (D.image disk.old).pages 1 ≡ params_page params) }
     ensures damaged { IfErr result (λ fault. AtDamaged fault (λ page. (page ≡ 1) × (IsTrue (D.tells disk.old) → HasNoParams (D.image disk.old).pages))) }
     ensures only { IfErr result (λ fault. AtEmpty fault ⊥ × AtBadJournal fault (λ _. ⊥) × AtNoMemory fault ⊥) }
-    ensures faults { MatchResult result (λ _. D.faults disk.new ≡ D.faults disk.old) (λ fault. CountsDisk fault (D.faults disk.old) (D.faults disk.new)) }
-    ensures read { DiskWasRead D.Disk 1 disk.old disk.new }
+    ensures reads { OnlyReads D.Disk is_disk 1 disk.old disk.new result }
 {
     let page = read_page(disk, SUPER_PAGE)?;
     match Super::read(&page) {
@@ -76,8 +74,7 @@ fn read_meta<D: Disk>(disk: &mut D, limit: u64) -> Result<Meta, OpenFault>
         × (meta.allotted ≤ length (D.image disk.old).pages)) }
     ensures damaged { IfErr result (λ fault. AtDamaged fault (λ page. (page ≡ 2) × (IsTrue (D.tells disk.old) → HasNoMeta (D.image disk.old).pages limit))) }
     ensures only { IfErr result (λ fault. AtEmpty fault ⊥ × AtBadJournal fault (λ _. ⊥) × AtNoMemory fault ⊥) }
-    ensures faults { MatchResult result (λ _. D.faults disk.new ≡ D.faults disk.old) (λ fault. CountsDisk fault (D.faults disk.old) (D.faults disk.new)) }
-    ensures read { DiskWasRead D.Disk 1 disk.old disk.new }
+    ensures reads { OnlyReads D.Disk is_disk 1 disk.old disk.new result }
 {
     let Ok(pages) = disk.len(Area::Pages) else {
         return Err(OpenFault::Disk);
@@ -104,8 +101,7 @@ fn read_roots<D: Disk>(disk: &mut D) -> Result<(Params, Meta), OpenFault>
     ensures there { IfOk result (λ found. IsTrue (D.tells disk.old) → found.1.allotted ≤ length (D.image disk.old).pages) }
     ensures damaged { IfErr result (λ fault. AtDamaged fault (λ page. IsTrue (D.tells disk.old) → IsDamagedAt (D.image disk.old).pages page)) }
     ensures only { IfErr result (λ fault. AtEmpty fault ⊥ × AtBadJournal fault (λ _. ⊥) × AtNoMemory fault ⊥) }
-    ensures faults { MatchResult result (λ _. D.faults disk.new ≡ D.faults disk.old) (λ fault. CountsDisk fault (D.faults disk.old) (D.faults disk.new)) }
-    ensures read { DiskWasRead D.Disk 2 disk.old disk.new }
+    ensures reads { OnlyReads D.Disk is_disk 2 disk.old disk.new result }
 {
     let params = read_params(disk)?;
     let meta = read_meta(disk, params.pages)?;
@@ -120,9 +116,7 @@ fn open_settled<D: Disk>(alloc: Global, mut disk: D) -> Result<Space<D>, OpenRef
     ensures no_memory { IfErr result (λ refused. AtNoMemory refused.fault (IsTrue (D.tells disk) → IsSomeSpace (D.image disk).pages)) }
     ensures not_empty { IfErr result (λ refused. AtEmpty refused.fault ⊥) }
     ensures not_bad { IfErr result (λ refused. AtBadJournal refused.fault (λ _. ⊥)) }
-    ensures faults { MatchResult result (λ _. D.faults (opened_disk result) ≡ D.faults disk)
-        (λ refused. CountsDisk refused.fault (D.faults disk) (D.faults (opened_disk result))) }
-    ensures read { DiskWasRead D.Disk 2 disk (opened_disk result) }
+    ensures reads { OnlyReads D.Disk (λ refused. is_disk refused.fault) 2 disk (opened_disk result) result }
 {
     let fault = match read_roots(&mut disk) {
         Ok((params, meta)) => match Cache::new(alloc, CACHE_PAGES) {
@@ -181,8 +175,7 @@ impl<D: Disk> Space<D> {
         ensures bad_journal { IfErr result (λ refused. AtBadJournal refused.fault (λ page. IsTrue (D.tells disk) → IsBadAt (D.image disk) page)) }
         ensures damaged { IfErr result (λ refused. AtDamaged refused.fault (λ page. IsTrue (D.tells disk) → StandsDamagedAt (D.image disk) page)) }
         ensures no_memory { IfErr result (λ refused. AtNoMemory refused.fault (IsTrue (D.tells disk) → StandsWhole (D.image disk))) }
-        ensures faults { MatchResult result (λ _. D.faults (opened_disk result) ≡ D.faults disk)
-            (λ refused. CountsDisk refused.fault (D.faults disk) (D.faults (opened_disk result))) }
+        ensures faults { RisesWhere (λ refused. is_disk refused.fault) result (D.faults disk) (D.faults (opened_disk result)) }
         ensures reads { IsTrue (D.tells disk) → D.reads (opened_disk result) ≤ D.reads disk + 4 + replay_reads (D.image disk) }
         ensures reads_stay_or_rise { D.reads disk ≤ D.reads (opened_disk result) }
         ensures tells { D.tells (opened_disk result) ≡ D.tells disk }

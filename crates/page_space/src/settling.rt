@@ -1,12 +1,13 @@
 //! The journal of a disk that is opened.
-ghost use Rattle.std.specs.Prelude.{◌≡◌, ◌≢◌, ◌⊎◌, ◌+◌, ◌*◌, ◌≤◌, ◌<◌, ℕ, true, Ok, Err, IsTrue, IfErr, OnOk, MatchResult};
+ghost use Rattle.std.specs.Prelude.{◌≡◌, ◌≢◌, ◌⊎◌, ◌+◌, ◌*◌, ◌≤◌, ◌<◌, ℕ, true, Ok, Err, IsTrue, IfErr, OnOk};
+ghost use Rattle.page_disk.specs.Calls.{RisesWhere};
 ghost use Rattle.page_disk.specs.Image.{PageList};
 ghost use Rattle.page_disk.specs.Since.{LeavesNow, LeavesOnly};
 ghost use Rattle.redo_journal.specs.Gates.{gate_of, is_empty};
 ghost use Rattle.redo_journal.specs.declared.gate.Gate.TheVariants.{Armed, Idle};
 ghost use Rattle.redo_journal.specs.Groups.{BreaksRulesAt};
 ghost use Rattle.redo_journal.specs.Settled.{SettlesTo};
-ghost use Rattle.page_space.specs.Faults.{AtBadJournal, AtDamaged, AtEmpty, AtNoMemory, CountsDisk};
+ghost use Rattle.page_space.specs.Faults.{AtBadJournal, AtDamaged, AtEmpty, AtNoMemory, is_disk};
 ghost use Rattle.page_space.specs.Settling.{HasNoReplay, IsBadAt, replay_reads};
 
 use crate::OpenFault;
@@ -28,7 +29,7 @@ fn replay_journal<D: Disk>(disk: &mut D) -> Result<(), OpenFault>
         → (D.image disk.new ≡ D.image disk.old) × (D.moments disk.new ≡ D.moments disk.old) }
     ensures any_moment { (pages : PageList) → SettlesTo (D.image disk.old) pages
         → LeavesOnly (λ x. SettlesTo x pages) (D.moments disk.old) (D.moments disk.new) }
-    ensures faults { MatchResult result (λ _. D.faults disk.new ≡ D.faults disk.old) (λ fault. CountsDisk fault (D.faults disk.old) (D.faults disk.new)) }
+    ensures faults { RisesWhere is_disk result (D.faults disk.old) (D.faults disk.new) }
     ensures reads_stay_or_rise { D.reads disk.old ≤ D.reads disk.new }
     ensures reads { IsTrue (D.tells disk.old) → D.reads disk.new ≤ D.reads disk.old + replay_reads (D.image disk.old) }
     ensures tells { D.tells disk.new ≡ D.tells disk.old }
@@ -55,7 +56,7 @@ pub(crate) fn settle<D: Disk>(disk: &mut D) -> Result<(), OpenFault>
         → LeavesOnly (λ x. x ≡ D.image disk.old) (D.moments disk.old) (D.moments disk.new) }
     ensures any_moment { IsTrue (D.tells disk.old) → (pages : PageList) → SettlesTo (D.image disk.old) pages
         → LeavesOnly (λ x. SettlesTo x pages) (D.moments disk.old) (D.moments disk.new) }
-    ensures faults { MatchResult result (λ _. D.faults disk.new ≡ D.faults disk.old) (λ fault. CountsDisk fault (D.faults disk.old) (D.faults disk.new)) }
+    ensures faults { RisesWhere is_disk result (D.faults disk.old) (D.faults disk.new) }
     ensures reads_stay_or_rise { D.reads disk.old ≤ D.reads disk.new }
     ensures reads { IsTrue (D.tells disk.old) → D.reads disk.new ≤ D.reads disk.old + 2 + replay_reads (D.image disk.old) }
     ensures tells { D.tells disk.new ≡ D.tells disk.old }

@@ -10,16 +10,16 @@ use Rattle.page_space.proofs.space.Space.open_on.Goals as goal
 pub returns-in-Ok-clause-holds : goal.returns-in-Ok-clause-holds
 returns-in-Ok-clause-holds g c =
     opened_holds c.open_settled.result c.settle.new.disk (g.D.Disk.image c.args.disk) (IsTrue (g.D.Disk.tells c.args.disk))
-    (λ told. c.open_settled.ensures.read.tells ∙ c.settle.ensures.tells ∙ told) c.open_settled.ensures.read.image (λ told. c.in-Ok.ensures.same told)
+    (λ told. c.open_settled.ensures.reads.tells ∙ c.settle.ensures.tells ∙ told) c.open_settled.ensures.reads.image (λ told. c.in-Ok.ensures.same told)
 
 pub returns-in-Ok-clause-settles : goal.returns-in-Ok-clause-settles
 returns-in-Ok-clause-settles g c =
     opened_settles c.open_settled.result c.settle.new.disk (g.D.Disk.image c.args.disk) (IsTrue (g.D.Disk.tells c.args.disk))
-    c.open_settled.ensures.read.image (λ told. c.in-Ok.ensures.same told)
+    c.open_settled.ensures.reads.image (λ told. c.in-Ok.ensures.same told)
 
 pub returns-in-Ok-clause-any_moment : goal.returns-in-Ok-clause-any_moment
 returns-in-Ok-clause-any_moment g c = λ told pages settles.
-    subst (λ (m : List Moment). LeavesOnly (λ x. SettlesTo x pages) (g.D.Disk.moments c.args.disk) m) (sym c.open_settled.ensures.read.moments)
+    subst (λ (m : List Moment). LeavesOnly (λ x. SettlesTo x pages) (g.D.Disk.moments c.args.disk) m) (sym c.open_settled.ensures.reads.moments)
     (c.settle.ensures.any_moment told pages settles)
 
 pub returns-in-Ok-clause-no_memory : goal.returns-in-Ok-clause-no_memory
@@ -31,7 +31,7 @@ returns-in-Ok-clause-no_memory g c =
 pub returns-in-Ok-clause-stands : goal.returns-in-Ok-clause-stands
 returns-in-Ok-clause-stands g c =
     opened_stands c.open_settled.result c.settle.new.disk (g.D.Disk.image c.args.disk) (IsTrue (g.D.Disk.tells c.args.disk))
-    c.settling_laws.ensures.one c.open_settled.ensures.read.image (λ told. c.in-Ok.ensures.same told) (λ told. c.in-Ok.ensures.idle told)
+    c.settling_laws.ensures.one c.open_settled.ensures.reads.image (λ told. c.in-Ok.ensures.same told) (λ told. c.in-Ok.ensures.idle told)
 
 pub returns-in-Err-clause-stands : goal.returns-in-Err-clause-stands
 returns-in-Err-clause-stands g c = λ differs told pages stands.
