@@ -2,7 +2,7 @@
 ghost use Rattle.std.specs.Prelude.{◌≡◌, false, Ok};
 
 use crate::Failed;
-use crate::file_pages::{page_count, read_page, write_page};
+use crate::file_pages::{page_count, read_page, seek_page, write_page};
 use page_ports::Page;
 use std::fs::{OpenFile, OpenOptions};
 use std::rt::Files;
@@ -12,11 +12,26 @@ use std::rt::Files;
 pub(crate) struct AreaFile<R: Files> {
     pub name: &'static str,
     pub file: Option<R::File>,
+    // How many whole pages the file has, if that is known.
+    pub len: Option<u64>,
+    // The page at which the file stands, if that is known.
+    pub place: Option<u64>,
     // Whether writes may be pending: since the last sync, or of a program that stopped before.
     pub pending: bool,
 }
 
 impl<R: Files> AreaFile<R> {
+    /// The file of this name, of which nothing is known yet.
+    pub fn named(name: &'static str) -> AreaFile<R> {
+        AreaFile {
+            name,
+            file: None,
+            len: None,
+            place: None,
+            pending: true,
+        }
+    }
+
     fn opened(&mut self, rt: &R) -> Result<&mut R::File, Failed> {
         if self.file.is_none() {
             let mut how = OpenOptions::new();
@@ -32,38 +47,67 @@ impl<R: Files> AreaFile<R> {
         }
     }
 
+    /// The number of pages. The file is asked once, and again after a write that failed.
     pub fn len(&mut self, rt: &R) -> Result<u64, Failed> {
-        page_count(self.opened(rt)?)
+        if let Some(len) = self.len {
+            return Ok(len);
+        }
+        let len = page_count(self.opened(rt)?)?;
+        self.len = Some(len);
+        Ok(len)
+    }
+
+    // Brings the file to a page, with no call where it stands there. Its place is then to be set anew.
+    fn go_to(&mut self, rt: &R, page: u64) -> Result<(), Failed> {
+        if self.place == Some(page) {
+            self.place = None;
+            return Ok(());
+        }
+        self.place = None;
+        seek_page(self.opened(rt)?, page)
     }
 
     /// Answers false where the page is at or past the end, and then `buf` is as before.
     pub fn read(&mut self, rt: &R, page: u64, buf: &mut Page) -> Result<bool, Failed>
         ensures { result ≡ Ok false → buf.new ≡ buf.old }
     {
-        let file = self.opened(rt)?;
-        if page >= page_count(file)? {
+        if page >= self.len(rt)? {
             return Ok(false);
         }
-        read_page(file, page, buf)?;
+        self.go_to(rt, page)?;
+        read_page(self.opened(rt)?, buf)?;
+        self.place = page.checked_add(1);
         Ok(true)
     }
 
     /// Fails where the page is past the end.
     pub fn write(&mut self, rt: &R, page: u64, buf: &Page) -> Result<(), Failed> {
-        let file = self.opened(rt)?;
-        if page > page_count(file)? {
+        let len = self.len(rt)?;
+        if page > len {
             return Err(Failed);
         }
+        self.go_to(rt, page)?;
         self.pending = true;
-        write_page(self.opened(rt)?, page, buf)
+        self.len = None;
+        write_page(self.opened(rt)?, buf)?;
+        self.place = page.checked_add(1);
+        self.len = Some(len.max(page.saturating_add(1)));
+        Ok(())
     }
 
-    /// A call on the file only where writes may be pending, since it is the dearest call there is.
-    pub fn sync(&mut self, rt: &R) -> Result<(), Failed> {
+    /// A call on the file only where writes may be pending, since it is the dearest call there is. Of a
+    /// file whose entry is synced the bytes and the length are made sure of, and nothing else.
+    pub fn sync(&mut self, rt: &R, entry_synced: bool) -> Result<(), Failed> {
         if !self.pending {
             return Ok(());
         }
-        match self.opened(rt)?.sync_all() {
+        let file = self.opened(rt)?;
+        let answer = if entry_synced {
+            file.sync_data()
+        } else {
+            file.sync_all()
+        };
+        match answer {
             Ok(()) => {
                 self.pending = false;
                 Ok(())

@@ -21,8 +21,9 @@ const JOURNAL_FILE: &str = "boxsum.journal";
 /// count in its length.
 ///
 /// Each file is opened, and made where absent, at the first call on its area; a sync makes sure of
-/// each file that was written since the last one, and at first of both and of the folder's entries. What the files hold is not told: that they
-/// keep to the model of a disk is taken from the operating system.
+/// each file that was written since the last one, and at first of both and of the folder's entries.
+/// The lengths are kept, so the files are this disk's alone while it lives. What the files hold is not
+/// told: that they keep to the model of a disk is taken from the operating system.
 #[derive(Drop)]
 pub struct FileDisk<R: Files> {
     rt: R,
@@ -67,16 +68,8 @@ impl<R: Files> FileDisk<R> {
     {
         FileDisk {
             rt,
-            pages: AreaFile {
-                name: pages,
-                file: None,
-                pending: true,
-            },
-            journal: AreaFile {
-                name: journal,
-                file: None,
-                pending: true,
-            },
+            pages: AreaFile::named(pages),
+            journal: AreaFile::named(journal),
             folder_synced: false,
             reads: 0,
             faults: 0,
@@ -99,8 +92,8 @@ impl<R: Files> FileDisk<R> {
         ensures reads { self.new.reads ≡ self.old.reads }
         ensures faults { self.new.faults ≡ self.old.faults }
     {
-        self.pages.sync(&self.rt)?;
-        self.journal.sync(&self.rt)?;
+        self.pages.sync(&self.rt, self.folder_synced)?;
+        self.journal.sync(&self.rt, self.folder_synced)?;
         if !self.folder_synced {
             sync_folder(&self.rt)?;
             self.folder_synced = true;

@@ -15,7 +15,8 @@ pub(crate) fn page_count<F: OpenFile>(file: &F) -> Result<u64, Failed> {
     }
 }
 
-fn seek_page<F: Seek>(file: &mut F, page: u64) -> Result<(), Failed> {
+/// Brings a file to the place of a page.
+pub(crate) fn seek_page<F: Seek>(file: &mut F, page: u64) -> Result<(), Failed> {
     let Some(at) = page.checked_mul(PAGE_BYTES) else {
         return Err(Failed);
     };
@@ -25,13 +26,8 @@ fn seek_page<F: Seek>(file: &mut F, page: u64) -> Result<(), Failed> {
     }
 }
 
-/// Reads a page that the file has.
-pub(crate) fn read_page<F: Read + Seek>(
-    file: &mut F,
-    page: u64,
-    buf: &mut Page,
-) -> Result<(), Failed> {
-    seek_page(file, page)?;
+/// Reads a page from where the file stands.
+pub(crate) fn read_page<F: Read>(file: &mut F, buf: &mut Page) -> Result<(), Failed> {
     let mut done = 0;
     for _ in 0..u64::MAX {
         if done == buf.len() {
@@ -47,13 +43,8 @@ pub(crate) fn read_page<F: Read + Seek>(
     Err(Failed)
 }
 
-/// Writes a page at its place.
-pub(crate) fn write_page<F: Write + Seek>(
-    file: &mut F,
-    page: u64,
-    buf: &Page,
-) -> Result<(), Failed> {
-    seek_page(file, page)?;
+/// Writes a page to where the file stands.
+pub(crate) fn write_page<F: Write>(file: &mut F, buf: &Page) -> Result<(), Failed> {
     let mut done = 0;
     for _ in 0..u64::MAX {
         if done == buf.len() {

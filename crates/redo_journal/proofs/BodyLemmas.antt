@@ -36,6 +36,12 @@ drop_step i count x xs rest done is low all =
     let one : count - i ≡ suc k = omega arith in
     ap (λ (n : ℕ). drop n (x ∷ rest)) (sym one) ∙ (ap (λ s. drop (count - i) s) (sym is) ∙ all)
 
+pub next_drop : {X : Type 0} (n : ℕ) (x : X) (xs rest : List X) → drop n xs ≡ x ∷ rest → drop (suc n) xs ≡ rest
+next_drop zero x [] rest e = absurd cc
+next_drop zero x (y ∷ xs) rest e = cc
+next_drop (suc n) x [] rest e = absurd cc
+next_drop (suc n) x (y ∷ xs) rest e = next_drop n x xs rest e
+
 -- a row that begins at most at the end reaches this far
 pub length-row : (pages : PageList) (at : ℕ) (row : PageList) → at ≤ length pages → length (with_row pages at row) ≡ max (length pages) (at + length row)
 length-row pages at [] within = omega arith
@@ -259,10 +265,6 @@ more_left count left images size =
       | inl more ↦ lt-ltb count left more ∙ sym (lt-ltb 0 (length (drop count images)) (omega arith))
       | inr none ↦ le-ltb count left none ∙ sym (le-ltb 0 (length (drop count images)) (omega arith))
     ]
-
-pub keys-homes : (images : ImageList) → keys_of images ≡ homes_of images
-keys-homes [] = refl
-keys-homes (image ∷ images) = ap (λ (s : List ℕ). image.0 ∷ s) (keys-homes images)
 
 pub head_is : (head : JournalHead) (last count : ℕ) (images : ImageList) (more : Bool) → Ascend last (homes_of images) → 0 < count → count ≤ 500
     → count ≤ length images → homes_in head ≡ take count (homes_of images) → IsTyped head → head.more ≡ more

@@ -16,37 +16,10 @@ use Rattle.page_disk.specs.Image.{PageList}
 use Rattle.redo_journal.specs.Placing.{ImageList, homes_of, map_of, Ascend, AreInReach, ArePlaced}
 use Rattle.redo_journal.proofs.PlacingLemmas.{absent}
 use Rattle.redo_journal.proofs.HomeLemmas.{among_first, among_rest}
-use Rattle.redo_journal.proofs.BodyLemmas.{keys-homes}
-
-at_is : (p q : ℕ) → is_at (nat_cmp p) q ≡ (q == p)
-at_is p q = elim (cases_lt p q) [
-  | inl below ↦ let a : nat_lt p q ≡ true = lt-ltb p q below in
-      let b : (q == p) ≡ false = ne_eqb q p (λ e. omega arith) in rw (a, b) refl
-  | inr above ↦ let a : nat_lt p q ≡ false = le-ltb p q above in
-      elim (cases_Bool (p == q)) [
-        | inl same ↦ let b : (q == p) ≡ true = eq-eqb q p (sym (eqb-true p q same)) in rw (a, same, b) refl
-        | inr other ↦ let b : (q == p) ≡ false = ne_eqb q p (λ e. eqb-false p q other (sym e)) in rw (a, other, b) refl
-      ]
-]
-
-map_at : (images : ImageList) (page : ℕ) → lookup (is_at (nat_cmp page)) images ≡ map_of images page
-map_at [] page = refl
-map_at (image ∷ images) page =
-    ap (λ (b : Bool). cond b (Some image.1) (lookup (is_at (nat_cmp page)) images)) (at_is page image.0)
-    ∙ ap (λ (o : Option (List ℕ)). cond (image.0 == page) (Some image.1) o) (map_at images page)
+use Rattle.redo_journal.proofs.BoxLemmas.{below_key, map_in_boxes}
 
 pub image_map-is : (images : Images) → image_map images ≡ map_of (image_list images)
-image_map-is images = λ i page. map_at (image_list images) page i
-
-below_key : (p q : ℕ) → nat_cmp p q ≡ Less → p < q
-below_key p q h = elim (cases_lt p q) [
-  | inl below ↦ below
-  | inr above ↦ let a : nat_lt p q ≡ false = le-ltb p q above in
-      elim (cases_Bool (p == q)) [
-        | inl same ↦ let e = rw (a, same) at h in absurd cc
-        | inr other ↦ let e = rw (a, other) at h in absurd cc
-      ]
-]
+image_map-is images = λ i page. map_in_boxes images.pages.entries page i
 
 above_all : (home : ℕ) (images : ImageList) (page : ℕ) → AllByRecursion (λ y. nat_cmp home y ≡ Less) (homes_of images) → IsSome (map_of images page) → home < page
 above_all home [] page all some = absurd cc
@@ -66,10 +39,10 @@ ascend_from last (image ∷ images) sorted above = (
 )
 
 -- The keys of a map of images ascend.
-pub images_ascend : (images : Images) → IsStrictlySortedBy nat_cmp (keys_of (image_list images))
+pub images_ascend : (images : Images) → IsStrictlySortedBy nat_cmp (homes_of (image_list images))
     → ((page : ℕ) → IsSome (image_map images page) → 1 ≤ page) → Ascend 0 (homes_of (image_list images))
 images_ascend images sorted homes =
-    ascend_from 0 (image_list images) (subst (λ (s : List ℕ). IsStrictlySortedBy nat_cmp s) (keys-homes (image_list images)) sorted)
+    ascend_from 0 (image_list images) sorted
     (λ page some. homes page (subst (λ (m : PageMap). IsSome (m page)) (sym (image_map-is images)) some))
 
 none_above : (last : ℕ) (images : ImageList) (page : ℕ) → Ascend last (homes_of images) → page ≤ last → map_of images page ≡ None

@@ -1,4 +1,5 @@
 pub mod BodyLemmas
+pub mod BoxLemmas
 pub mod CallLemmas
 pub mod CommitLemmas
 pub mod GateLemmas

@@ -1,3 +1,4 @@
+pub mod Boxed
 pub mod Committing
 pub mod Gates
 pub mod Groups

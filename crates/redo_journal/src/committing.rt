@@ -7,37 +7,36 @@ ghost use Rattle.page_disk.specs.Since.{LeavesNow, LeavesOnly};
 ghost use Rattle.redo_journal.specs.Committing.{BeforeOrAfter, HasGate, IsArmed, IsHeld};
 ghost use Rattle.redo_journal.specs.Gates.{gate_of};
 ghost use Rattle.redo_journal.specs.declared.gate.Gate.TheVariants.{Idle};
-ghost use Rattle.redo_journal.specs.Images.{image_list, image_map};
+ghost use Rattle.redo_journal.specs.Images.{coming, image_list, image_map};
 ghost use Rattle.redo_journal.specs.Pending.{AtNewest, BodyPends, IsInPlacing, KeepsGate};
 ghost use Rattle.redo_journal.specs.Placing.{ArePlaced, AreInReach, AreWritable, Ascend, bytes_of, homes_of, map_of, with_images, with_row};
 ghost use Rattle.redo_journal.specs.Groups.{HoldsGroups, homes_in};
 ghost use Rattle.redo_journal.specs.Settled.{SettlesTo};
 
 use crate::images::Images;
+use crate::in_order::InOrder;
 use crate::writes::{put_behind, put_home, write_gate};
 use arrayvec::ArrayVec;
 use page_disk::{Disk, Failed};
 use page_layout::{JournalHead, Spelled};
-use page_ports::{Page, blank_page};
-use std::collections::btree_map::{Iter, Keys};
+use page_ports::blank_page;
 
 // The most images in a group.
 const MOST: usize = 500;
 
 // The head of a group of so many images.
-fn next_head(homes: &mut Keys<'_, u64, Page>, count: usize, more: bool) -> JournalHead
+fn next_head(homes: &mut InOrder<'_>, count: usize, more: bool) -> JournalHead
     requires few { count ≤ 500 }
-    requires there { count ≤ length homes.old }
-    ensures homes { homes_in result ≡ take count homes.old }
-    ensures rest { homes.new ≡ drop count homes.old }
+    requires there { count ≤ length (coming homes.old) }
+    ensures homes { homes_in result ≡ take count (homes_of (coming homes.old)) }
+    ensures rest { coming homes.new ≡ drop count (coming homes.old) }
     ensures more { result.more ≡ more }
     ensures typed { IsTyped result }
 {
     let mut named = ArrayVec::new();
     for _ in 0..count {
-        if let Some(home) = homes.next() {
-            named.push(*home);
-        }
+        let (home, _) = homes.next().unwrap();
+        named.push(home);
     }
     JournalHead { more, homes: named }
 }
@@ -46,17 +45,17 @@ fn next_head(homes: &mut Keys<'_, u64, Page>, count: usize, more: bool) -> Journ
 fn write_images<D: Disk>(
     disk: &mut D,
     at: u64,
-    images: &mut Iter<'_, u64, Page>,
+    images: &mut InOrder<'_>,
     count: usize,
 ) -> Result<(), Failed>
     requires behind { 1 ≤ at }
     requires fits { at + count < 2 ^ 64 }
-    requires there { count ≤ length images.old }
+    requires there { count ≤ length (coming images.old) }
     requires room { IsTrue (D.tells disk.old) → at ≤ length (D.image disk.old).journal }
-    ensures rest { OnOk result (images.new ≡ drop count images.old) }
+    ensures rest { OnOk result (coming images.new ≡ drop count (coming images.old)) }
     ensures pages { OnOk result (IsTrue (D.tells disk.old) → (D.image disk.new).pages ≡ (D.image disk.old).pages) }
     ensures journal { OnOk result (IsTrue (D.tells disk.old)
-        → (D.image disk.new).journal ≡ with_row (D.image disk.old).journal at (bytes_of (take count images.old))) }
+        → (D.image disk.new).journal ≡ with_row (D.image disk.old).journal at (bytes_of (take count (coming images.old)))) }
     ensures pends { (start : Image) → AtNewest (BodyPends start) (D.moments disk.old)
         → LeavesOnly (KeepsGate start) (D.moments disk.old) (D.moments disk.new) × AtNewest (BodyPends start) (D.moments disk.new) }
     ensures writes { Writes D.Disk any_error 0 disk.old disk.new result }
@@ -79,9 +78,9 @@ fn write_groups<D: Disk>(disk: &mut D, images: &Images) -> Result<(), Failed>
         → LeavesOnly (KeepsGate start) (D.moments disk.old) (D.moments disk.new) × AtNewest (BodyPends start) (D.moments disk.new) }
     ensures writes { Writes D.Disk any_error 0 disk.old disk.new result }
 {
-    let mut homes = images.pages.keys();
-    let mut rest = images.pages.iter();
-    let mut left = images.pages.len();
+    let mut homes = images.in_order();
+    let mut rest = images.in_order();
+    let mut left = images.len();
     let mut at = 1;
     while left > 0 {
         let count = left.min(MOST);
@@ -125,8 +124,9 @@ fn write_homes<D: Disk>(disk: &mut D, images: &Images) -> Result<(), Failed>
     ensures any_moment { LeavesOnly (IsInPlacing (map_of (image_list images.now)) (D.image disk.old)) (D.moments disk.old) (D.moments disk.new) }
     ensures writes { Writes D.Disk any_error 0 disk.old disk.new result }
 {
-    for (home, page) in &images.pages {
-        put_home(disk, *home, page)?;
+    let mut rest = images.in_order();
+    while let Some((home, page)) = rest.next() {
+        put_home(disk, home, page)?;
     }
     disk.sync()?;
     Ok(())

@@ -1,7 +1,9 @@
 //! Images of pages that are to be written.
-ghost use Rattle.std.specs.Prelude.{◌≡◌, ◌≤◌, ℕ, ◌==◌, if◌then◌else◌, None, Some, OnOk, OnErr, IfSome, IsSome, option_copied};
+ghost use Rattle.std.specs.Prelude.{◌≡◌, ◌≤◌, ℕ, ◌==◌, if◌then◌else◌, None, Some, OnOk, OnErr, IfSome, IsSome, length, option_copied, ◌^◌, ◌<◌};
 ghost use Rattle.page_ports.specs.Pages.{PageMap, empty_map, put_page};
+ghost use Rattle.redo_journal.specs.Placing.{map_of};
 
+use crate::in_order::InOrder;
 use page_ports::Page;
 use std::alloc::Global;
 use std::collections::BTreeMap;
@@ -13,17 +15,19 @@ pub struct NoMemory;
 /// An ordered map from page numbers to the bytes that the pages are to have.
 #[derive(Drop)]
 pub struct Images {
-    pub(crate) pages: BTreeMap<u64, Page>,
+    alloc: Global,
+    pub(crate) pages: BTreeMap<u64, Box<Page>>,
 }
 
 impl Images {
-    ghost use Rattle.redo_journal.specs.Images.{image_map};
+    ghost use Rattle.redo_journal.specs.Images.{coming, image_list, image_map};
 
     /// No images.
     pub fn new(alloc: Global) -> Images
         ensures { image_map result ≡ empty_map }
     {
         Images {
+            alloc,
             pages: BTreeMap::new(alloc),
         }
     }
@@ -33,7 +37,14 @@ impl Images {
         ensures ok { OnOk result (image_map self.new ≡ put_page (image_map self.old) page buf.now) }
         ensures err { OnErr result (image_map self.new ≡ image_map self.old) }
     {
-        match self.pages.insert(page, *buf) {
+        if let Some(kept) = self.pages.get_mut(&page) {
+            **kept = *buf;
+            return Ok(());
+        }
+        let Ok(image) = Box::new(self.alloc, *buf) else {
+            return Err(NoMemory);
+        };
+        match self.pages.insert(page, image) {
             Ok(_) => Ok(()),
             Err(_) => Err(NoMemory),
         }
@@ -43,7 +54,29 @@ impl Images {
     pub fn get(&self, page: u64) -> Option<&Page>
         ensures { option_copied result ≡ image_map self.now page }
     {
-        self.pages.get(&page)
+        match self.pages.get(&page) {
+            Some(image) => Some(image),
+            None => None,
+        }
+    }
+
+    /// All images, one after another.
+    pub fn in_order(&self) -> InOrder<'_>
+        ensures all { coming result ≡ image_list self.now }
+        ensures map { map_of (image_list self.now) ≡ image_map self.now }
+    {
+        let _ = self.pages.len();
+        InOrder {
+            rest: self.pages.iter(),
+        }
+    }
+
+    /// How many images there are.
+    pub(crate) fn len(&self) -> usize
+        ensures all { result ≡ length (image_list self.now) }
+        ensures few { result < 2 ^ 63 }
+    {
+        self.pages.len()
     }
 
     /// The first image at this page or after it, if there is one.

@@ -12,6 +12,7 @@ mod committing;
 mod creation;
 mod gate;
 mod images;
+mod in_order;
 mod laws;
 mod replaying;
 #[cfg(test)]
@@ -22,5 +23,6 @@ pub use committing::commit;
 pub use creation::create;
 pub use gate::{Gate, ready};
 pub use images::{Images, NoMemory};
+pub use in_order::InOrder;
 pub use laws::settling_laws;
 pub use replaying::{JournalFault, replay};

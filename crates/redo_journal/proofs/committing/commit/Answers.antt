@@ -6,12 +6,15 @@ use Rattle.redo_journal.specs.Images.{image_list, image_map}
 use Rattle.redo_journal.specs.Placing.{ArePlaced, map_of}
 use Rattle.redo_journal.proofs.CallLemmas.{by_telling, on_told}
 use Rattle.redo_journal.proofs.CommitLemmas.{commit_stretch, images_placed}
-use Rattle.redo_journal.proofs.ImageLemmas.{image_map-is, images_reach, in_list}
+use Rattle.redo_journal.proofs.ImageLemmas.{image_map-is, images_reach, images_some, in_list}
 use Rattle.redo_journal.proofs.committing.commit.Goals as goal
 
 pub arm-requires-clause-reach : goal.arm-requires-clause-reach
 arm-requires-clause-reach g c = λ h.
     images_reach c.args.images.now (length (g.D.Disk.image c.args.disk.now).pages) c.are_ordered.ensures (c.requires.near h)
+
+pub arm-requires-clause-some : goal.arm-requires-clause-some
+arm-requires-clause-some g c = images_some c.args.images.now c.requires.some
 
 pub returns-in_err-arm-clause-any_moment : goal.returns-in_err-arm-clause-any_moment
 returns-in_err-arm-clause-any_moment g c = λ after placed.

@@ -2,7 +2,7 @@ use Rattle.std.proofs.Common.{◌≡◌, ◌≤◌, ◌+◌, ◌*◌, IsTrue, le
 use Rattle.page_disk.specs.Image.{Image}
 use Rattle.page_disk.specs.Calls.{WentOn}
 use Rattle.page_disk.specs.Since.{LeavesOnly}
-use Rattle.redo_journal.specs.Images.{image_list}
+use Rattle.redo_journal.specs.Images.{coming, image_list}
 use Rattle.redo_journal.specs.Pending.{AtNewest, BodyPends, KeepsGate}
 use Rattle.redo_journal.specs.Placing.{homes_of}
 use Rattle.redo_journal.proofs.BodyLemmas.{WritesGroups}
@@ -12,11 +12,11 @@ abbrev pub invariant-loop-left : goal.invariant-loop-left
 invariant-loop-left g l =
     let disk = g.D.Disk in
     record {
-      count : l.left ≡ length l.rest;
-      named : l.homes ≡ homes_of l.rest;
+      count : l.left ≡ length (coming l.rest);
+      named : coming l.homes ≡ coming l.rest;
       behind : 1 ≤ l.at;
       far : l.at + 2 * l.left ≤ 1 + 2 * length (image_list l.fn.images);
-      groups : WritesGroups (disk.tells l.fn.disk) (image_list l.fn.images) (disk.image l.disk).journal l.at l.rest;
+      groups : WritesGroups (disk.tells l.fn.disk) (image_list l.fn.images) (disk.image l.disk).journal l.at (coming l.rest);
       room : IsTrue (disk.tells l.fn.disk) → l.at ≤ length (disk.image l.disk).journal;
       kept : IsTrue (disk.tells l.fn.disk) → KeepsGate (disk.image l.fn.disk) (disk.image l.disk);
       pends : (start : Image) → AtNewest (BodyPends start) (disk.moments l.fn.disk)

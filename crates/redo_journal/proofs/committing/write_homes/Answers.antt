@@ -1,10 +1,8 @@
-use Rattle.std.proofs.Common.{◌≡◌, ℕ, ◌∷◌, [], ◌∙◌, Bool, List, ap, sym, subst, length, inl, inr}
+use Rattle.std.proofs.Common.{None, rules, ◌≡◌, ℕ, ◌∷◌, [], ◌∙◌, Bool, List, ap, sym, subst, length, inl, inr}
 use Rattle.std.specs.Prelude.{IsTrue, IsSome}
-use Rattle.std.proofs.lemmas.Map.Iter.{rest_more, rest_all}
-use Rattle.std.specs.Map.Iter.{deref_pair}
 use Rattle.page_disk.specs.Image.{PageList, Image, written_at}
 use Rattle.page_disk.specs.SinceLaws.{LeavesOnly-same, LeavesOnly-then}
-use Rattle.redo_journal.specs.Images.{image_list}
+use Rattle.redo_journal.specs.Images.{coming, image_list}
 use Rattle.redo_journal.specs.Pending.{HomesPend, IsInPlacing}
 use Rattle.redo_journal.specs.Placing.{ImageList, homes_of, map_of, with_images, AreWritable}
 use Rattle.redo_journal.proofs.PlacingLemmas.{length-written}
@@ -18,7 +16,7 @@ loop-home-init g c =
     let d = c.args.disk.now in
     let start = g.D.Disk.image d in
     let all : ImageList = image_list c.args.images.now in
-    let is : c.into_iter-home-iterator.result ≡ all = c.into_iter-home-iterator.ensures.into_iter_gives.0 in
+    let is : coming c.in_order-rest.result ≡ all = c.in_order-rest.ensures.all in
     record {
       placed = λ told. ap (with_images start.pages) is;
       writable = λ told. subst (λ (s : ImageList). AreWritable (length start.pages) (homes_of s)) (sym is) (c.requires.writable told);
@@ -39,10 +37,9 @@ loop-home-preserved g c =
     let d2 = c.put_home.new.disk in
     let start = g.D.Disk.image d0 in
     let all : ImageList = image_list c.args.images.now in
-    let image : ℕ × List ℕ = (c.in-Some.home.now, c.in-Some.page.now) in
-    let rest : ImageList = c.next.new.self in
-    let is : c.loop-home.home-iterator ≡ image ∷ rest =
-    rest_more deref_pair c.loop-home.home-iterator rest c.next.result (c.in-Some.home, c.in-Some.page) c.in-Some.is c.next.ensures.steps in
+    let image : ℕ × List ℕ = (c.in-Some.home, c.in-Some.page.now) in
+    let rest : ImageList = coming c.next.new.self in
+    let is : coming c.loop-home.rest ≡ image ∷ rest = c.in-Some.ensures.some in
     let told1 = λ (h : IsTrue (g.D.Disk.tells d0)). subst (λ (b : Bool). IsTrue b) (sym inv.went.tells) h in
     let wrote = λ (h : IsTrue (g.D.Disk.tells d0)). c.in_ok-put_home.ensures.image (told1 h) in
     let pages : IsTrue (g.D.Disk.tells d0) → (g.D.Disk.image d2).pages ≡ written_at (g.D.Disk.image d1).pages image.0 image.1 = λ h.
@@ -71,10 +68,9 @@ returns-in_err-put_home-clause-any_moment g c =
     let d2 = c.put_home.new.disk in
     let start = g.D.Disk.image d0 in
     let all : ImageList = image_list c.args.images.now in
-    let image : ℕ × List ℕ = (c.in-Some.home.now, c.in-Some.page.now) in
-    let rest : ImageList = c.next.new.self in
-    let is : c.loop-home.home-iterator ≡ image ∷ rest =
-    rest_more deref_pair c.loop-home.home-iterator rest c.next.result (c.in-Some.home, c.in-Some.page) c.in-Some.is c.next.ensures.steps in
+    let image : ℕ × List ℕ = (c.in-Some.home, c.in-Some.page.now) in
+    let rest : ImageList = coming c.next.new.self in
+    let is : coming c.loop-home.rest ≡ image ∷ rest = c.in-Some.ensures.some in
     let some : IsSome (map_of all image.0) = inv.among image.0 (subst (λ (s : ImageList). IsSome (map_of s image.0)) (sym is) (among_first image rest)) in
     let more = c.put_home.ensures.pends (map_of all) start some inv.goes.1 in
     LeavesOnly-then (IsInPlacing (map_of all) start) (g.D.Disk.moments d0) (g.D.Disk.moments d1) (g.D.Disk.moments d2) inv.goes.0 more.0
@@ -104,6 +100,7 @@ returns-clause-settled g c =
 
 pub returns-clause-placed : goal.returns-clause-placed
 returns-clause-placed g c = λ told.
-    let done : c.loop-home.home-iterator ≡ [] = rest_all deref_pair c.loop-home.home-iterator c.next.new.self c.next.result c.in-None.is c.next.ensures.steps in
+    let none : c.next.result ≡ None = search rules in
+    let done : coming c.loop-home.rest ≡ [] = c.next.ensures.none none in
     ap (λ (x : Image). x.pages) c.sync.ensures.image
     ∙ (ap (with_images (g.D.Disk.image c.loop-home.disk).pages) (sym done) ∙ c.loop-home.invariant.placed told)

@@ -2,6 +2,7 @@ use Rattle.std.proofs.Common.{◌≡◌, ◌≤◌, ◌+◌, ◌-◌, IsTrue, le
 use Rattle.page_disk.specs.Image.{Image}
 use Rattle.page_disk.specs.Calls.{WentOn}
 use Rattle.page_disk.specs.Since.{LeavesOnly}
+use Rattle.redo_journal.specs.Images.{coming}
 use Rattle.redo_journal.specs.Pending.{AtNewest, BodyPends, KeepsGate}
 use Rattle.redo_journal.specs.Placing.{bytes_of, with_row}
 use Rattle.redo_journal.proofs.committing.write_images.Given as goal
@@ -10,12 +11,12 @@ abbrev pub invariant-loop-i : goal.invariant-loop-i
 invariant-loop-i g l =
     let disk = g.D.Disk in
     record {
-      left : l.count ≤ l.i + length l.images;
-      rest : drop (l.count - l.i) l.images ≡ drop l.count l.fn.images;
+      left : l.count ≤ l.i + length (coming l.images);
+      rest : drop (l.count - l.i) (coming l.images) ≡ drop l.count (coming l.fn.images);
       room : IsTrue (disk.tells l.disk) → l.at + l.i ≤ length (disk.image l.disk).journal;
       pages : IsTrue (disk.tells l.disk) → (disk.image l.disk).pages ≡ (disk.image l.fn.disk).pages;
-      journal : IsTrue (disk.tells l.disk) → with_row (disk.image l.disk).journal (l.at + l.i) (bytes_of (take (l.count - l.i) l.images))
-          ≡ with_row (disk.image l.fn.disk).journal l.at (bytes_of (take l.count l.fn.images));
+      journal : IsTrue (disk.tells l.disk) → with_row (disk.image l.disk).journal (l.at + l.i) (bytes_of (take (l.count - l.i) (coming l.images)))
+          ≡ with_row (disk.image l.fn.disk).journal l.at (bytes_of (take l.count (coming l.fn.images)));
       pends : (start : Image) → AtNewest (BodyPends start) (disk.moments l.fn.disk)
           → LeavesOnly (KeepsGate start) (disk.moments l.fn.disk) (disk.moments l.disk) × AtNewest (BodyPends start) (disk.moments l.disk);
       went : WentOn disk 0 l.fn.disk l.disk;
