@@ -1,57 +1,34 @@
 -- A cache after its pages are renewed one by one.
-use Rattle.std.proofs.Common.{◌≡◌, ◌≢◌, ℕ, ◌<◌, ◌≤◌, ◌==◌, ◌+◌, List, Some, None, IsSome, Option, refl, sym, ◌∙◌, ap, subst, inl, inr, arith}
+use Rattle.std.proofs.Common.{◌≡◌, ℕ, ◌<◌, ◌≤◌, ◌==◌, List, ◌∷◌, Some, None, Option, refl, sym, ◌∙◌, ap, subst, inl, inr, arith}
 use Rattle.std.specs.Prelude.{unwrap_or, option_map, length}
-use Rattle.std.proofs.lemmas.Bool.{cases_eq, cases_lt, cond-true, cond-false, eq-eqb, ne_eqb}
-use Rattle.page_ports.specs.Pages.{PageMap}
+use Rattle.std.proofs.lemmas.Bool.{cases_eq, cond-true, cond-false, eq-eqb, ne_eqb}
+use Rattle.page_ports.specs.Pages.{PageMap, empty_map}
 use Rattle.page_disk.specs.Image.{PageList, page_at}
 use Rattle.page_cache.specs.Cache.{Agrees, renewed}
-use Rattle.redo_journal.specs.Placing.{ArePlaced}
+use Rattle.redo_journal.specs.Placing.{ArePlaced, ImageList, map_of}
 use Rattle.page_space.specs.Renewed.{renewed_by}
-
--- The pages below this one are renewed, and the others are not yet.
-pub record IsRenewedBelow (from : ℕ) (images old new : PageMap) : Type 0 where
-  pub below : (p : ℕ) → p < from → new p ≡ renewed_by old images p
-  pub above : (p : ℕ) → from ≤ p → new p ≡ old p
-
-pub none_renewed : (images old new : PageMap) → ((p : ℕ) → new p ≡ old p) → IsRenewedBelow 0 images old new
-none_renewed images old new same = record { below = λ p low. absurd (omega arith); above = λ p low. same p }
 
 option_same : (o : Option (List ℕ)) → option_map (λ bytes. unwrap_or None bytes) o ≡ o
 option_same None = refl
 option_same (Some x) = refl
 
-without : (images old : PageMap) (p : ℕ) → images p ≡ None → renewed_by old images p ≡ old p
-without images old p none = ap (λ o. option_map (λ bytes. unwrap_or o bytes) (old p)) none ∙ option_same (old p)
+-- Without images all stays.
+pub none_renewed : (kept : PageMap) (p : ℕ) → renewed_by kept empty_map p ≡ kept p
+none_renewed kept p = option_same (kept p)
 
-none_of : (o : Option (List ℕ)) → (IsSome o → ⊥) → o ≡ None
-none_of None h = refl
-none_of (Some x) h = absurd (h refl)
-
-pub one_renewed : (images old k new : PageMap) (from page : ℕ) (image : List ℕ) → from ≤ page → images page ≡ Some image
-    → ((p : ℕ) → from ≤ p → IsSome (images p) → page ≤ p) → ((p : ℕ) → new p ≡ renewed k page image p)
-    → IsRenewedBelow from images old k → IsRenewedBelow (page + 1) images old new
-one_renewed images old k new from page image later has least renew h = record {
-  below = λ p low. elim (cases_eq page p) [
-    | inl same ↦ subst (λ q. new q ≡ renewed_by old images q) same
-        (renew page
-        ∙ cond-true (page == page) (option_map (λ (b : List ℕ). image) (k page)) (k page) (eq-eqb page page refl)
-        ∙ ap (λ o. option_map (λ (b : List ℕ). image) o) (h.above page later)
-        ∙ ap (λ o. option_map (λ b. unwrap_or o b) (old page)) (sym has))
-    | inr differs ↦ renew p ∙ cond-false (page == p) (option_map (λ (b : List ℕ). image) (k p)) (k p) (ne_eqb page p differs)
-        ∙ elim (cases_lt p from) [
-          | inl before ↦ h.below p before
-          | inr after ↦ h.above p after ∙ sym (without images old p (none_of (images p) (λ some. let le : page ≤ p = least p after some in differs (omega arith))))
-        ]
-  ];
-  above = λ p high. let differs : page ≢ p = λ e. omega arith in
-      renew p ∙ cond-false (page == p) (option_map (λ (b : List ℕ). image) (k p)) (k p) (ne_eqb page p differs) ∙ h.above p (omega arith);
-}
-
-pub all_renewed : (images old new : PageMap) (from : ℕ) → ((p : ℕ) → from ≤ p → images p ≡ None) → IsRenewedBelow from images old new
-    → (p : ℕ) → new p ≡ renewed_by old images p
-all_renewed images old new from none h p = elim (cases_lt p from) [
-  | inl before ↦ h.below p before
-  | inr after ↦ h.above p after ∙ sym (without images old p (none p after))
+-- One page is renewed, and the rest comes later.
+pub one_renewed : (kept new : PageMap) (page : ℕ) (image : List ℕ) (rest : ImageList) → map_of rest page ≡ None
+    → ((p : ℕ) → new p ≡ renewed kept page image p) → (p : ℕ) → renewed_by new (map_of rest) p ≡ renewed_by kept (map_of ((page, image) ∷ rest)) p
+one_renewed kept new page image rest once renew p = elim (cases_eq page p) [
+  | inl same ↦ subst (λ q. renewed_by new (map_of rest) q ≡ renewed_by kept (map_of ((page, image) ∷ rest)) q) same
+      (ap (λ o. option_map (λ b. unwrap_or o b) (new page)) once
+      ∙ option_same (new page)
+      ∙ renew page
+      ∙ cond-true (page == page) (option_map (λ (b : List ℕ). image) (kept page)) (kept page) (eq-eqb page page refl)
+      ∙ sym (ap (λ o. option_map (λ b. unwrap_or o b) (kept page)) (cond-true (page == page) (Some image) (map_of rest page) (eq-eqb page page refl))))
+  | inr differs ↦ ap (λ o. option_map (λ b. unwrap_or (map_of rest p) b) o)
+      (renew p ∙ cond-false (page == p) (option_map (λ (b : List ℕ). image) (kept p)) (kept p) (ne_eqb page p differs))
+      ∙ sym (ap (λ o. option_map (λ b. unwrap_or o b) (kept p)) (cond-false (page == p) (Some image) (map_of rest p) (ne_eqb page p differs)))
 ]
 
 mapped : (o : Option (List ℕ)) (f : List ℕ → List ℕ) (b : List ℕ) → option_map f o ≡ Some b → (x : List ℕ) × ((o ≡ Some x) × (f x ≡ b))

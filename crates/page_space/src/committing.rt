@@ -13,15 +13,13 @@ use page_cache::Cache;
 use page_disk::Disk;
 use redo_journal::{Images, commit};
 
-// Renews each page that has an image, of which none is past the greatest page number.
+// Renews each page that has an image.
 fn renew_all(cache: &mut Cache, images: &Images)
-    requires { (page : ℕ) → IsSome (image_map images.now page) → page ≤ 4294967295 }
     ensures { (page : ℕ) → kept_pages cache.new page ≡ renewed_by (kept_pages cache.old) (image_map images.now) page }
 {
-    let mut from = 0;
-    while let Some((page, image)) = images.first_from(from) {
+    let mut rest = images.in_order();
+    while let Some((page, image)) = rest.next() {
         cache.renew(page, image);
-        from = page + 1;
     }
 }
 

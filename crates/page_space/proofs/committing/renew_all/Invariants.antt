@@ -1,11 +1,12 @@
-use Rattle.std.proofs.Common.{◌-◌}
+use Rattle.std.proofs.Common.{◌≡◌, ℕ, length}
 use Rattle.page_cache.specs.Cache.{kept_pages}
-use Rattle.redo_journal.specs.Images.{image_map}
-use Rattle.page_space.proofs.Renewing.{IsRenewedBelow}
+use Rattle.redo_journal.specs.Images.{coming, image_map}
+use Rattle.redo_journal.specs.Placing.{map_of}
+use Rattle.page_space.specs.Renewed.{renewed_by}
 use Rattle.page_space.proofs.committing.renew_all.Given as goal
 
 abbrev pub invariant-loop-page : goal.invariant-loop-page
-invariant-loop-page l = IsRenewedBelow l.from (image_map l.images) (kept_pages l.initial.cache) (kept_pages l.cache)
+invariant-loop-page l = (p : ℕ) → renewed_by (kept_pages l.cache) (map_of (coming l.rest)) p ≡ renewed_by (kept_pages l.fn.cache) (image_map l.fn.images) p
 
 abbrev pub decreases-loop-page : goal.decreases-loop-page
-decreases-loop-page l = 4294967296 - l.from
+decreases-loop-page l = length (coming l.rest)

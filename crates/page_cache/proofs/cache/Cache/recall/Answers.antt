@@ -1,4 +1,4 @@
-use Rattle.std.proofs.Common.{◌∙◌, ap, nat_eq, ℕ, List}
+use Rattle.std.proofs.Common.{◌∙◌, ap, ℕ}
 use Rattle.lru.specs.LruCache.{LruCache}
 use Rattle.page_cache.proofs.Kept.{Room, kept, kept-promoted}
 use Rattle.page_cache.proofs.cache.Cache.recall.Goals as goal

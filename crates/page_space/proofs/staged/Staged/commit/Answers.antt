@@ -1,4 +1,4 @@
-use Rattle.std.proofs.Common.{◌≡◌, false, sym, ◌∙◌, refl, arith, IsTrue}
+use Rattle.std.proofs.Common.{◌≡◌, false, sym, ◌∙◌, refl, IsTrue}
 use Rattle.std.specs.Prelude.{is_err}
 use Rattle.redo_journal.specs.Images.{image_map}
 use Rattle.page_cache.specs.Cache.{kept_pages}
@@ -14,9 +14,6 @@ use Rattle.page_space.proofs.staged.Staged.commit.Goals as goal
 pub returns-then-is_err-clause-any_moment : goal.returns-then-is_err-clause-any_moment
 returns-then-is_err-clause-any_moment g c = λ told.
     holds_either c.args.self _ (g.D.Disk.moments c.commit.new.disk) told c.requires c.commit.ensures.any_moment
-
-pub renew_all-requires : goal.renew_all-requires
-renew_all-requires g c = λ page some. let w = c.args.self.within page some in omega arith
 
 -- The commit was Ok.
 fine : (g : _) (c : goal.After-renew_all g) → is_err c.commit.result ≡ false
