@@ -5,7 +5,7 @@ ghost use Rattle.page_space.specs.Begun.{Begun};
 
 use crate::Staged;
 use page_disk::Disk;
-use page_ports::{FREE_PAGE, Page, PageFault, Pages, Stage, StageFault};
+use page_ports::{Page, PageFault, Pages, Stage, StageFault};
 
 impl<D: Disk> Pages for Staged<D> {
     ghost use Rattle.page_space.specs.Shown.{base_of, disk_under, staged_map, staged_chain, IsStagedInOrder};
@@ -31,14 +31,7 @@ impl<D: Disk> Pages for Staged<D> {
     ghost base = { λ staged. base_of staged };
 
     fn get(&mut self, page: u64, buf: &mut Page) -> Result<(), PageFault> {
-        if page < 3 || page >= self.meta.allotted {
-            return Err(PageFault::Damaged(page));
-        }
-        self.read(page, buf)?;
-        if buf[0] == FREE_PAGE {
-            return Err(PageFault::Damaged(page));
-        }
-        Ok(())
+        self.get_page(page, buf)
     }
 }
 

@@ -13,7 +13,7 @@ use crate::copying::copied;
 use crate::opening::META_PAGE;
 use page_disk::Disk;
 use page_layout::{Meta, Spelled};
-use page_ports::{Page, PageFault, Pages, blank_page};
+use page_ports::{FREE_PAGE, Page, PageFault, Pages, blank_page};
 use redo_journal::{Images, NoMemory};
 
 /// Changes on a space that are not committed yet: the images of the pages that are changed, and the
@@ -69,6 +69,28 @@ impl<D: Disk> Staged<D> {
             return Ok(());
         }
         self.space.read(page, buf)
+    }
+
+    /// Reads a page that is in use, and changes nothing: a meta page that was set stays so.
+    ///
+    /// `Damaged` carries this page. It comes exactly where the page is not in the map, save where the
+    /// device failed first.
+    pub fn get_page(&mut self, page: u64, buf: &mut Page) -> Result<(), PageFault>
+        ensures bytes { OnOk result (IsTrue (D.tells (disk_under self.old)) → staged_map self.old page ≡ Some buf.new) }
+        ensures damaged { (p : ℕ) → result ≡ Err (PageFault.Damaged p)
+            → (p ≡ page) × (IsTrue (D.tells (disk_under self.old)) → staged_map self.old page ≡ None) }
+        ensures set { IsMetaSet self.old → IsMetaSet self.new }
+        ensures reads { OnlyReads ⟦<Staged<D> as Pages>⟧ 1 self.old self.new result }
+        ensures keeps { KeepsChanges self.old self.new }
+    {
+        if page < 3 || page >= self.meta.allotted {
+            return Err(PageFault::Damaged(page));
+        }
+        self.read(page, buf)?;
+        if buf[0] == FREE_PAGE {
+            return Err(PageFault::Damaged(page));
+        }
+        Ok(())
     }
 
     // Puts the image of a page that was given out or is to be so next, or of the meta page.
