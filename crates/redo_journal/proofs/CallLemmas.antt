@@ -1,8 +1,8 @@
 -- Calls on a disk, one after another.
-use Rattle.std.proofs.Common.{◌≡◌, ℕ, ◌+◌, ◌≤◌, ◌∙◌, Bool, Result, Ok, sym, subst, arith}
+use Rattle.std.proofs.Common.{◌≡◌, ℕ, ◌+◌, ◌∙◌, Bool, Ok, sym, subst, arith}
 use Rattle.std.specs.Prelude.{IsTrue}
 use Rattle.page_disk.specs.declared.disk.Disk.{Ghosts}
-use Rattle.page_disk.specs.Calls.{WasRead, OnlyReads, WentOn, Writes}
+use Rattle.page_disk.specs.Calls.{WentOn, Writes}
 use Rattle.page_disk.specs.Disk.{TellsImage}
 use Rattle.page_disk.specs.Image.{Image}
 use Rattle.page_disk.specs.Moment.{Moment}

@@ -1,10 +1,10 @@
-use Rattle.std.proofs.Common.{◌≡◌, ℕ, ◌+◌, ◌∙◌, List, ap, sym, subst, length, ◌≤◌, arith}
-use Rattle.std.specs.Prelude.{IsTrue, IsSome}
+use Rattle.std.proofs.Common.{ℕ, ◌+◌, ◌∙◌, List, ap, sym, subst, length, arith}
+use Rattle.std.specs.Prelude.{IsSome}
 use Rattle.std.specs.List.{All}
-use Rattle.page_disk.specs.Image.{PageList, Image}
+use Rattle.page_disk.specs.Image.{Image}
 use Rattle.page_disk.specs.Moment.{Moment}
 use Rattle.page_disk.specs.Since.{LeavesOnly}
-use Rattle.redo_journal.specs.Groups.{homes_in, images_at}
+use Rattle.redo_journal.specs.Groups.{images_at}
 use Rattle.redo_journal.specs.Pending.{AtNewest, HomesPend, IsInPlacing}
 use Rattle.redo_journal.specs.Placing.{AreWritable, with_images}
 use Rattle.redo_journal.proofs.CallLemmas.{on_told, pair_by_telling}
