@@ -1,5 +1,5 @@
 -- What a `MemDisk` shows.
-use Rattle.std.specs.Prelude.{◌≡◌, ℕ, ◌+◌, ◌-◌, ◌^◌, min, ◌==◌, ◌||◌, Bool, IsTrue, IsErr, is_ok, is_err, if◌then◌else◌, List, Result}
+use Rattle.std.specs.Prelude.{◌≡◌, ℕ, ◌+◌, ◌-◌, ◌^◌, min, ◌||◌, Bool, IsTrue, IsErr, is_ok, is_err, if◌then◌else◌, List, Result}
 use Rattle.page_disk.specs.declared.disk.Failed.{Failed}
 use Rattle.page_disk.specs.declared.plan.Plan.{Plan}
 use Rattle.page_disk.specs.declared.mem_disk.MemDisk.{MemDisk}

@@ -174,3 +174,35 @@ fn files_keep_pages(rt: HostRuntime) -> Result<(), Fail> {
     fs::remove_file(&rt, JOURNAL)?;
     Ok(())
 }
+
+const PLACED_PAGES: &str = "page_disk_places.pages";
+
+const PLACED_JOURNAL: &str = "page_disk_places.journal";
+
+// Wherever the last call left the file, a page is read and written at its own place.
+#[test]
+fn files_are_read_and_written_at_any_place(rt: HostRuntime) -> Result<(), Fail> {
+    let _ = fs::remove_file(&rt, PLACED_PAGES);
+    let _ = fs::remove_file(&rt, PLACED_JOURNAL);
+    let mut disk = FileDisk::named(rt.clone()?, PLACED_PAGES, PLACED_JOURNAL);
+    fill_up(&mut disk)?;
+    for (page, byte) in [(1, 2), (0, 4)] {
+        assert_eq!(rt; byte_of(&mut disk, Area::Pages, page), Ok(Some(byte)));
+    }
+    assert_eq!(rt; append(&mut disk, Area::Pages, 5), Ok(2));
+    disk.sync()?;
+    overwrite(&mut disk, Area::Pages, 6)?;
+    for (page, byte) in [(1, 2), (2, 5), (0, 6)] {
+        assert_eq!(rt; byte_of(&mut disk, Area::Pages, page), Ok(Some(byte)));
+    }
+    disk.sync()?;
+    drop(disk);
+    let mut disk = FileDisk::named(rt.clone()?, PLACED_PAGES, PLACED_JOURNAL);
+    assert_eq!(rt;
+        shown(&mut disk),
+        Ok(((3, 1), [Some(6), Some(2), Some(5)], Some(3)))
+    );
+    fs::remove_file(&rt, PLACED_PAGES)?;
+    fs::remove_file(&rt, PLACED_JOURNAL)?;
+    Ok(())
+}

@@ -3,7 +3,6 @@ use Rattle.std.proofs.Common.{◌≡◌, ℕ, zero, suc, ◌+◌, ◌-◌, ◌<�
 use Rattle.std.specs.Prelude.{IsTrue, max, nat_lt, ◌==◌, slice_index, slice_index_or}
 use Rattle.std.proofs.lemmas.Bool.{cases_lt, lt-ltb, le-ltb}
 use Rattle.std.proofs.lemmas.List.{length-take, length-drop, take-append-drop, append-nil}
-use Rattle.std.specs.Map.{keys_of}
 use Rattle.page_layout.specs.Entries.{AreInOrder}
 use Rattle.page_layout.specs.Head.{IsHead, IsTyped, head_page}
 use Rattle.page_layout.specs.declared.journal_head.JournalHead.{JournalHead}

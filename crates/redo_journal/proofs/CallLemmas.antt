@@ -1,11 +1,14 @@
 -- Calls on a disk, one after another.
-use Rattle.std.proofs.Common.{◌≡◌, ℕ, ◌+◌, ◌≤◌, ◌∙◌, Bool, Result, Ok, sym, subst, arith}
+use Rattle.std.proofs.Common.{◌≡◌, ℕ, ◌+◌, ◌∙◌, Bool, Ok, sym, subst, arith}
 use Rattle.std.specs.Prelude.{IsTrue}
 use Rattle.page_disk.specs.declared.disk.Disk.{Ghosts}
-use Rattle.page_disk.specs.Calls.{WasRead, OnlyReads, WentOn, Writes}
+use Rattle.page_disk.specs.Calls.{WentOn, Writes}
 use Rattle.page_disk.specs.Disk.{TellsImage}
 use Rattle.page_disk.specs.Image.{Image}
+use Rattle.page_disk.specs.Moment.{Moment}
 use Rattle.page_disk.specs.Since.{LeavesOnly}
+use Rattle.redo_journal.specs.Pending.{AtNewest}
+use Rattle.redo_journal.proofs.ReplayLemmas.{pair_where_told}
 use Rattle.redo_journal.proofs.SettledLemmas.{where_told}
 
 pub on_told : (a b : Bool) → b ≡ a → IsTrue a → IsTrue b
@@ -29,4 +32,12 @@ module _ {D : Type 0} (g : Ghosts D) where
       → g.tells new ≡ g.tells old → (IsTrue (g.tells old) → LeavesOnly P (g.moments old) (g.moments new)) → LeavesOnly P (g.moments old) (g.moments new)
   by_telling law P old new same claim =
       where_told P (g.tells old) (g.image old) (g.image new) (g.moments old) (g.moments new) (law old)
+      (subst (λ (t : Bool). TellsImage t (g.image new) (g.moments new)) same (law new)) claim
+
+  -- The same of what is pending as well.
+  pub pair_by_telling : ((d : D) → TellsImage (g.tells d) (g.image d) (g.moments d)) → (Q : Moment → Type 0) (P : Image → Type 0) (old new : D)
+      → g.tells new ≡ g.tells old → (IsTrue (g.tells old) → LeavesOnly P (g.moments old) (g.moments new) × AtNewest Q (g.moments new))
+      → LeavesOnly P (g.moments old) (g.moments new) × AtNewest Q (g.moments new)
+  pair_by_telling law Q P old new same claim =
+      pair_where_told Q P (g.tells old) (g.image old) (g.image new) (g.moments old) (g.moments new) (law old)
       (subst (λ (t : Bool). TellsImage t (g.image new) (g.moments new)) same (law new)) claim

@@ -1,11 +1,11 @@
 -- The phases of a commit, one after another.
-use Rattle.std.proofs.Common.{◌≡◌, ℕ, ◌≤◌, ◌∙◌, ap, sym, subst, inl, inr, ◌⊎◌, ◌-◌, ◌<◌, true, false, List, length, refl, arith}
+use Rattle.std.proofs.Common.{◌≡◌, ℕ, ◌≤◌, ◌∙◌, ap, sym, subst, inl, inr, ◌-◌, ◌<◌, true, false, List, length, refl, arith}
 use Rattle.std.specs.Prelude.{unwrap_or, IsSome}
 use Rattle.page_disk.specs.Image.{PageList, Image, page_at}
 use Rattle.page_disk.specs.Moment.{Moment}
 use Rattle.page_disk.specs.Since.{LeavesOnly}
 use Rattle.page_disk.specs.SinceLaws.{LeavesOnly-then, LeavesOnly-weaken}
-use Rattle.redo_journal.specs.Gates.{is_open, is_blank, is_empty, gate_of}
+use Rattle.redo_journal.specs.Gates.{is_open, is_blank, gate_of}
 use Rattle.redo_journal.specs.declared.gate.Gate.TheVariants.{Idle, Armed}
 use Rattle.redo_journal.specs.Pending.{KeepsGate, DiffersInGate, IsInPlacing}
 use Rattle.redo_journal.specs.Placing.{ImageList, homes_of, map_of, with_images, ArePlaced, AreWritable, Ascend}

@@ -233,3 +233,8 @@ pair_where_told Q P false before after old new a b claim =
       subst (λ (ms : List Moment). LeavesOnly P old ms) (first ∙ sym last) (LeavesOnly-same P old),
       subst (λ (ms : List Moment). AtNewest Q ms) (sym last) tt,
     )
+
+-- A call that leaves the moments goes nowhere.
+pub pends_still : (Q : Moment → Type 0) (P : Image → Type 0) (old new : List Moment) → new ≡ old → AtNewest Q old → LeavesOnly P old new × AtNewest Q new
+pends_still Q P old new same at =
+    subst (λ (ms : List Moment). LeavesOnly P old ms × AtNewest Q ms) (sym same) (LeavesOnly-same P old, at)

@@ -12,7 +12,7 @@ ghost use Rattle.redo_journal.specs.Gates.{gate_of};
 ghost use Rattle.redo_journal.specs.declared.gate.Gate.TheVariants.{Armed, Idle};
 ghost use Rattle.redo_journal.specs.Pending.{AtNewest, HomesPend, IsInPlacing};
 ghost use Rattle.redo_journal.specs.Placing.{AreInReach, ArePlaced, AreWritable, ImageList, map_of, with_images};
-ghost use Rattle.redo_journal.specs.Groups.{BreaksAt, BreaksRulesAt, HeadAt, HoldsGroups, HoldsImages, homes_in, images_at, last_of};
+ghost use Rattle.redo_journal.specs.Groups.{BreaksAt, BreaksRulesAt, HeadAt, HoldsGroups, HoldsImages, group_at, homes_in, images_at, last_of};
 ghost use Rattle.redo_journal.specs.Settled.{IsReplayed, SettlesTo};
 ghost use Rattle.redo_journal.specs.Replay.{OnDamaged, is_disk};
 
@@ -145,6 +145,40 @@ fn restore_group<D: Disk>(disk: &mut D, at: u64, homes: &[u64]) -> Result<(), Jo
     Ok(())
 }
 
+// Writes the images of the group at this page of the journal home. Answers its head, as `head_at` does.
+fn restore_at<D: Disk>(
+    disk: &mut D,
+    len: u64,
+    end: u64,
+    at: u64,
+    last: u64,
+) -> Result<JournalHead, JournalFault>
+    requires end { IsTrue (D.tells disk.old) → end ≡ length (D.image disk.old).journal }
+    requires longer { IsTrue (D.tells disk.old) → len ≤ length (D.image disk.old).pages }
+    requires low { IsTrue (D.tells disk.old) → last < length (D.image disk.old).pages }
+    ensures ok { IfOk result (λ head. IsTrue (D.tells disk.old) → HeadAt len (D.image disk.old).journal at last head) }
+    ensures only { IfOk result (λ head. IsTrue (D.tells disk.old)
+        → (other : JournalHead) → HeadAt len (D.image disk.old).journal at last other → other ≡ head) }
+    ensures within { IfOk result (λ head. at + length (homes_in head) < end) }
+    ensures placed { IfOk result (λ head. IsTrue (D.tells disk.old)
+        → (D.image disk.new).pages ≡ with_images (D.image disk.old).pages (group_at (D.image disk.old).journal at head)) }
+    ensures journal { OnOk result (IsTrue (D.tells disk.old) → (D.image disk.new).journal ≡ (D.image disk.old).journal) }
+    ensures pends { (images : PageMap) (start : Image) → (IsTrue (D.tells disk.old) → (head : JournalHead)
+        → HeadAt len (D.image disk.old).journal at last head
+        → ((other : JournalHead) → HeadAt len (D.image disk.old).journal at last other → other ≡ head)
+        → All (λ home. IsSome (images home)) (homes_in head))
+        → AtNewest (HomesPend images start) (D.moments disk.old)
+        → LeavesOnly (IsInPlacing images start) (D.moments disk.old) (D.moments disk.new) × AtNewest (HomesPend images start) (D.moments disk.new) }
+    ensures damaged { OnDamaged result (λ _. IsTrue (D.tells disk.old)
+        → (head : JournalHead) → HeadAt len (D.image disk.old).journal at last head → ⊥) }
+    ensures cost { IfOk result (λ head. D.reads disk.new ≤ D.reads disk.old + (1 + length (homes_in head))) }
+    ensures writes { Writes D.Disk is_disk (end - at) disk.old disk.new result }
+{
+    let head = head_at(disk, len, end, at, last)?;
+    restore_group(disk, at + 1, head.homes.as_slice())?;
+    Ok(head)
+}
+
 // Writes the images of all groups home.
 fn restore_groups<D: Disk>(disk: &mut D, len: u64, end: u64) -> Result<(), JournalFault>
     requires end { IsTrue (D.tells disk.old) → end ≡ length (D.image disk.old).journal }
@@ -164,9 +198,8 @@ fn restore_groups<D: Disk>(disk: &mut D, len: u64, end: u64) -> Result<(), Journ
     let mut at = 1;
     let mut last = 0;
     'groups: loop {
-        let head = head_at(disk, len, end, at, last)?;
+        let head = restore_at(disk, len, end, at, last)?;
         let homes = head.homes.as_slice();
-        restore_group(disk, at + 1, homes)?;
         if !head.more {
             return Ok(());
         }

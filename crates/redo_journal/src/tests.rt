@@ -43,7 +43,7 @@ fn found<D: Disk>(disk: &mut D) -> Result<(Gate, u8, u8), Failed> {
 #[test]
 fn a_stop_leaves_nothing_or_all(rt: HostRuntime) -> Result<(), Fail> {
     for calls in 0..13 {
-        for torn in [Torn::Lost, Torn::Landed, Torn::Filled(255), Torn::Filled(1)] {
+        for torn in KINDS {
             let (disk, done) = stopped(rt.alloc(), calls);
             assert_eq!(rt; done, calls >= 11, "after {calls}");
             let (gate, superblock, meta) = found(&mut disk.crash(torn))?;
@@ -167,5 +167,19 @@ fn an_open_gate_without_a_body_is_damaged(rt: HostRuntime) -> Result<(), Fail> {
     let journal = [gate].to_vec(rt.alloc())?;
     let mut disk = MemDisk::holding(rt.alloc(), pages, journal);
     assert_eq!(rt; reopened(&mut disk), Err(JournalFault::Damaged(1)));
+    Ok(())
+}
+
+#[test]
+fn images_come_in_order(rt: HostRuntime) -> Result<(), Fail> {
+    let mut images = Images::new(rt.alloc());
+    for (page, byte) in [(7, 7), (3, 1), (5, 5), (3, 3)] {
+        assert_eq!(rt; images.put(page, &[byte; 4096]), Ok(()));
+    }
+    let mut order = images.in_order();
+    for page in [3, 5, 7] {
+        assert_eq!(rt; order.next(), Some((u64::from(page), &[page; 4096])));
+    }
+    assert_eq!(rt; order.next(), None);
     Ok(())
 }

@@ -1,8 +1,6 @@
-use Rattle.std.proofs.Common.{◌∙◌, IsTrue}
+use Rattle.std.proofs.Common.{◌∙◌}
 use Rattle.page_disk.specs.Image.{Image}
-use Rattle.redo_journal.specs.Committing.{IsDone}
 use Rattle.redo_journal.specs.Images.{image_list}
-use Rattle.redo_journal.specs.Placing.{ImageList, ArePlaced, map_of}
 use Rattle.redo_journal.specs.Settled.{SettlesTo}
 use Rattle.redo_journal.proofs.CallLemmas.{by_telling, on_told}
 use Rattle.redo_journal.proofs.CommitLemmas.{armed_writable, done_after_homes, home_stretch, homes_stretch, brought_home, idle_again}

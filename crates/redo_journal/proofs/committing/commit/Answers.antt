@@ -1,8 +1,8 @@
 use Rattle.std.proofs.Common.{◌∙◌, length, sym, subst}
 use Rattle.page_ports.specs.Pages.{PageMap}
-use Rattle.page_disk.specs.Image.{PageList, Image}
+use Rattle.page_disk.specs.Image.{PageList}
 use Rattle.redo_journal.specs.Committing.{BeforeOrAfter}
-use Rattle.redo_journal.specs.Images.{image_list, image_map}
+use Rattle.redo_journal.specs.Images.{image_list}
 use Rattle.redo_journal.specs.Placing.{ArePlaced, map_of}
 use Rattle.redo_journal.proofs.CallLemmas.{by_telling, on_told}
 use Rattle.redo_journal.proofs.CommitLemmas.{commit_stretch, images_placed}

@@ -7,7 +7,7 @@ use Rattle.redo_journal.specs.Images.{coming, image_list}
 use Rattle.redo_journal.specs.Pending.{BodyPends, KeepsGate}
 use Rattle.redo_journal.specs.Placing.{ImageList, homes_of, bytes_of, with_row}
 use Rattle.redo_journal.proofs.RestLemmas.{goes_on}
-use Rattle.redo_journal.proofs.BodyLemmas.{WritesGroups, groups_step, groups_done, drop-homes, length-homes, length-bytes, length-row, more_left, head_is, row_of, kept_row, none_left}
+use Rattle.redo_journal.proofs.BodyLemmas.{WritesGroups, groups_step, groups_done, length-homes, length-bytes, length-row, more_left, head_is, row_of, kept_row, none_left}
 use Rattle.redo_journal.proofs.CallLemmas.{went_on}
 use Rattle.redo_journal.proofs.committing.write_groups.Goals as goal
 

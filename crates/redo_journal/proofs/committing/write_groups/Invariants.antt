@@ -4,7 +4,6 @@ use Rattle.page_disk.specs.Calls.{WentOn}
 use Rattle.page_disk.specs.Since.{LeavesOnly}
 use Rattle.redo_journal.specs.Images.{coming, image_list}
 use Rattle.redo_journal.specs.Pending.{AtNewest, BodyPends, KeepsGate}
-use Rattle.redo_journal.specs.Placing.{homes_of}
 use Rattle.redo_journal.proofs.BodyLemmas.{WritesGroups}
 use Rattle.redo_journal.proofs.committing.write_groups.Given as goal
 

@@ -1,4 +1,3 @@
-use Rattle.page_disk.specs.Image.{Image}
 use Rattle.redo_journal.proofs.CallLemmas.{on_told}
 use Rattle.redo_journal.proofs.PhaseLemmas.{created_stretch}
 use Rattle.redo_journal.proofs.creation.create.Goals as goal

@@ -1,5 +1,5 @@
 use Rattle.std.proofs.Common.{◌≡◌, ℕ, ◌∙◌, length, true, sym, subst}
-use Rattle.page_disk.specs.Image.{PageList, Image}
+use Rattle.page_disk.specs.Image.{Image}
 use Rattle.redo_journal.specs.Committing.{HasGate, IsArmed}
 use Rattle.redo_journal.specs.Groups.{HoldsGroups, HoldsImages}
 use Rattle.redo_journal.specs.Placing.{ImageList}

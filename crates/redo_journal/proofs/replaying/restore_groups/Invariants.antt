@@ -18,7 +18,7 @@ invariant-groups g l =
       longer : IsTrue (disk.tells l.fn.disk) → l.len ≤ length now.pages;
       journal : IsTrue (disk.tells l.fn.disk) → now.journal ≡ start.journal;
       rest : IsTrue (disk.tells l.fn.disk) → (all : ImageList) → HoldsGroups l.len start.journal 1 0 all
-          → IsRestoring l.len start.journal start.pages now.pages l.at l.last all;
+          → IsRestoring l.len now.journal start.pages now.pages l.at l.last all;
       pends : (all : ImageList) → (IsTrue (disk.tells l.fn.disk) → HoldsGroups l.len start.journal 1 0 all)
           → AtNewest (HomesPend (map_of all) start) (disk.moments l.fn.disk)
           → LeavesOnly (IsInPlacing (map_of all) start) (disk.moments l.fn.disk) (disk.moments l.disk)
