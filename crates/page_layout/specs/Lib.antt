@@ -1,17 +1,22 @@
 pub mod Numbers
+pub mod Bytes
 pub mod Three
 pub mod Entries
 pub mod Counted
+pub mod Respelled
 pub mod Children
 pub mod Head
 pub mod FreePage
 pub mod SbNode
+pub mod SbView
 pub mod MvNode
+pub mod MvView
 pub mod Super
 pub mod Spelled
 pub mod Damage
 pub mod Footprint
 pub mod PointLeaf
+pub mod PointView
 pub mod TreePage
 pub mod TreeValue
 pub mod Meta
@@ -34,3 +39,4 @@ pub mod CutsLaws
 pub mod CutPageLaws
 pub mod LifeNodeLaws
 pub mod TableNodeLaws
+pub mod Totals

@@ -99,5 +99,9 @@ impl TreePage for CutPage {
         self.level
     }
 
+    fn level_on(page: &Page) -> u8 {
+        page[1]
+    }
+
     ghost in_use = { λ _. not_free _ refl };
 }

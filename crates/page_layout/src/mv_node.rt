@@ -8,7 +8,8 @@ use crate::children::child_fits;
 use crate::counted::{read_double, read_entries, read_word, write_counted};
 use crate::entry::{Entry, Own, are_in_order};
 use crate::front::{Front, put_u32, put_u64, put_u128};
-use crate::number::{number_u32, number_u64, number_u128, skip};
+use crate::number::{bytes_of, number_u32, number_u64, number_u128, skip};
+use crate::mv_view::is_node;
 use crate::spelled::{Spelled, TreePage};
 use arrayvec::ArrayVec;
 use page_ports::Page;
@@ -86,7 +87,7 @@ impl Entry<Own> for MvEntry {
     ghost reads_back = { λ _ x rest typed _. mv_entry-back x rest typed };
 }
 
-fn before_fits(place: u32, before: u64) -> bool
+pub(crate) fn before_fits(place: u32, before: u64) -> bool
     ensures { result ≡ before_fits place before }
 {
     if place == 1 { before == 0 } else { before >= 1 }
@@ -129,6 +130,11 @@ impl Spelled for MvNode {
             && are_in_order(self.level, self.entries.as_slice())
     }
 
+    fn is_spelled(page: &Page) -> bool {
+        let _bytes = bytes_of(page);
+        is_node(page)
+    }
+
     ghost reads_back = { mv_node_in-page };
 }
 
@@ -137,6 +143,10 @@ impl TreePage for MvNode {
 
     fn level(&self) -> u8 {
         self.level
+    }
+
+    fn level_on(page: &Page) -> u8 {
+        page[1]
     }
 
     ghost in_use = { λ _. not_free _ refl };

@@ -9,7 +9,8 @@ use crate::children::child_fits;
 use crate::counted::{read_entries, write_counted};
 use crate::entry::{Entry, Own, are_in_order};
 use crate::front::{Front, put_u32, put_u64, put_u128};
-use crate::number::{number_u32, number_u64, number_u128, skip};
+use crate::number::{bytes_of, number_u32, number_u64, number_u128, skip};
+use crate::sb_view::is_node;
 use crate::spelled::{Spelled, TreePage};
 use arrayvec::ArrayVec;
 use page_ports::Page;
@@ -103,6 +104,11 @@ impl Spelled for SbNode {
             && are_in_order(self.level, self.entries.as_slice())
     }
 
+    fn is_spelled(page: &Page) -> bool {
+        let _bytes = bytes_of(page);
+        is_node(page)
+    }
+
     ghost reads_back = { sb_node_in-page };
 }
 
@@ -111,6 +117,10 @@ impl TreePage for SbNode {
 
     fn level(&self) -> u8 {
         self.level
+    }
+
+    fn level_on(page: &Page) -> u8 {
+        page[1]
     }
 
     ghost in_use = { λ _. not_free _ refl };

@@ -20,8 +20,10 @@ mod store;
 #[cfg(test)]
 mod tests;
 mod value;
+mod view;
 
 pub use add::sb_add;
 pub use free::sb_free;
 pub use laws::tree_laws;
 pub use value::sb_value;
+pub use view::child_on;

@@ -1,0 +1,69 @@
+//! Nodes of the trees over versions, read in place.
+ghost use Rattle.std.specs.Prelude.{◌≡◌, ◌<◌, ◌↔◌, ◌%◌, ◌^◌, ℕ, IfSome, Some, IsTrue, length, get_or, nat_le, if◌then◌else◌};
+ghost use Rattle.std.specs.List.{sum_by};
+ghost use Rattle.page_layout.specs.SbNode.{IsSbNode, IsTyped, sb_node_in, sb_node_page};
+ghost use Rattle.page_layout.specs.declared.sb_node.SbEntry.{SbEntry};
+ghost use Rattle.page_layout.specs.declared.sb_node.SbNode.{SbNode};
+
+use crate::counted::{entry_in, is_counted, read_body, read_count};
+use crate::entry::{Own, stand_in_order};
+use crate::sb_node::{SbEntry, SbNode};
+use crate::view::View;
+use page_ports::Page;
+
+const KIND: u8 = 2;
+
+const MOST: usize = 64;
+
+impl<'a> View<'a, SbNode> {
+    /// How many entries there are.
+    pub fn len(&self) -> usize
+        ensures { result ≡ length self.now.entries.items }
+    {
+        usize::from(read_count(self.page)).min(MOST)
+    }
+
+    /// The entry at this place.
+    pub fn entry(&self, place: usize) -> SbEntry
+        requires { place < length self.now.entries.items }
+        ensures { (d : SbEntry) → result ≡ get_or self.now.entries.items place d }
+    {
+        entry_in::<Own, SbEntry>(self.page, place)
+    }
+
+    /// The total of the values of the entries that begin at or below the version, modulo `2^128`.
+    pub fn value_at(&self, version: u32) -> u128
+        ensures { result ≡ sum_by (λ e. if nat_le e.low version then e.value else 0) self.now.entries.items % 2 ^ 128 }
+    {
+        let mut total: u128 = 0;
+        for place in 0..self.len() {
+            total = total.wrapping_add(begun(&self.entry(place), version));
+        }
+        total
+    }
+}
+
+// What the entry counts for at the version.
+fn begun(e: &SbEntry, version: u32) -> u128
+    ensures { result ≡ (if nat_le e.now.low version then e.now.value else 0) }
+{
+    if e.low <= version { e.value } else { 0 }
+}
+
+/// Whether the page spells a node.
+pub(crate) fn is_node(page: &Page) -> bool
+    ensures { IsTrue result ↔ (IsSbNode (sb_node_in page.now) × (page.now ≡ sb_node_page (sb_node_in page.now))) }
+{
+    let level = page[1];
+    let count = usize::from(read_count(page)).min(MOST);
+    if level < 1 || level > 16 {
+        return false;
+    }
+    if count < 1 {
+        return false;
+    }
+    if !is_counted::<Own, SbEntry>(page, KIND, 0, 0, MOST) {
+        return false;
+    }
+    stand_in_order::<Own, SbEntry>(level, count, read_body(page))
+}
