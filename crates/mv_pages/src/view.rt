@@ -3,7 +3,7 @@ ghost use Rattle.std.specs.Prelude.{◌≡◌};
 ghost use Rattle.mv_pages.specs.Alive.{node_value, child_of, path_child, counted};
 
 use crate::find::reaches;
-use page_layout::{MvEntry, MvView};
+use page_layout::{MvEntry, MvNode, View};
 
 // What the entry counts for at the key and version.
 fn counted(e: &MvEntry, key: u64, version: u32) -> u128
@@ -13,7 +13,7 @@ fn counted(e: &MvEntry, key: u64, version: u32) -> u128
 }
 
 /// The value of a node at a key and a version, as `value_at`, where the node is read in place.
-pub fn value_on(view: &MvView, key: u64, version: u32) -> u128
+pub fn value_on(view: &View<MvNode>, key: u64, version: u32) -> u128
     ensures { result ≡ node_value view.now key version }
 {
     let mut total: u128 = 0;
@@ -25,7 +25,7 @@ pub fn value_on(view: &MvView, key: u64, version: u32) -> u128
 
 /// The child to which a node leads at a key and a version, as `child_at`, where the node is read in
 /// place.
-pub fn child_on(view: &MvView, key: u64, version: u32) -> Option<u64>
+pub fn child_on(view: &View<MvNode>, key: u64, version: u32) -> Option<u64>
     ensures { result ≡ child_of view.now key version }
 {
     if view.level() == 1 {

@@ -39,6 +39,13 @@ impl<'a, T: Spelled> View<'a, T> {
         })
     }
 
+    /// Proves that the value keeps its rules; it does nothing when it runs.
+    pub fn keeps_rules(&self)
+        ensures { T.keeps self.now }
+    {
+        let _ = &self.page;
+    }
+
     /// The value itself.
     pub fn to_value(&self) -> T
         ensures { result ≡ self.now }

@@ -26,4 +26,3 @@ pub use add::sb_add;
 pub use free::sb_free;
 pub use laws::tree_laws;
 pub use value::sb_value;
-pub use view::child_on;
