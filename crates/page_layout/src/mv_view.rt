@@ -1,8 +1,7 @@
 //! Nodes of the multiversion trees, read in place.
-ghost use Rattle.std.specs.Prelude.{◌≡◌, ◌<◌, ◌↔◌, IfSome, Some, IsTrue, length, get_or};
-ghost use Rattle.page_layout.specs.MvNode.{IsMvNode, IsTyped, mv_node_in, mv_node_page};
+ghost use Rattle.std.specs.Prelude.{◌≡◌, ◌<◌, ◌↔◌, IsTrue, length, get_or};
+ghost use Rattle.page_layout.specs.MvNode.{IsMvNode, mv_node_in, mv_node_page};
 ghost use Rattle.page_layout.specs.declared.mv_node.MvEntry.{MvEntry};
-ghost use Rattle.page_layout.specs.declared.mv_node.MvNode.{MvNode};
 
 use crate::counted::{entry_in, is_counted, read_body, read_count, read_double, read_word};
 use crate::entry::{Own, stand_in_order};

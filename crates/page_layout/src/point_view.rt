@@ -1,8 +1,7 @@
 //! Pages of points, read in place.
-ghost use Rattle.std.specs.Prelude.{◌≡◌, ◌<◌, ◌↔◌, IfSome, Some, IsTrue, length, get_or};
+ghost use Rattle.std.specs.Prelude.{◌≡◌, ◌<◌, ◌↔◌, IsTrue, length, get_or};
 ghost use Rattle.bw_types.specs.declared.point.Point.{Point};
-ghost use Rattle.page_layout.specs.PointLeaf.{IsPointLeaf, IsTyped, point_leaf_in, point_leaf_page};
-ghost use Rattle.page_layout.specs.declared.point_leaf.PointLeaf.{PointLeaf};
+ghost use Rattle.page_layout.specs.PointLeaf.{IsPointLeaf, point_leaf_in, point_leaf_page};
 
 use crate::counted::{entry_in, is_counted, read_count, read_double};
 use crate::entry::Own;

@@ -1,9 +1,7 @@
 //! Nodes of the trees over versions, read in place.
-ghost use Rattle.std.specs.Prelude.{◌≡◌, ◌<◌, ◌↔◌, ◌%◌, ◌^◌, ℕ, IfSome, Some, IsTrue, length, get_or, nat_le, if◌then◌else◌};
-ghost use Rattle.std.specs.List.{sum_by};
-ghost use Rattle.page_layout.specs.SbNode.{IsSbNode, IsTyped, sb_node_in, sb_node_page};
+ghost use Rattle.std.specs.Prelude.{◌≡◌, ◌<◌, ◌↔◌, IsTrue, length, get_or};
+ghost use Rattle.page_layout.specs.SbNode.{IsSbNode, sb_node_in, sb_node_page};
 ghost use Rattle.page_layout.specs.declared.sb_node.SbEntry.{SbEntry};
-ghost use Rattle.page_layout.specs.declared.sb_node.SbNode.{SbNode};
 
 use crate::counted::{entry_in, is_counted, read_body, read_count};
 use crate::entry::{Own, stand_in_order};
@@ -30,24 +28,6 @@ impl<'a> View<'a, SbNode> {
     {
         entry_in::<Own, SbEntry>(self.page, place)
     }
-
-    /// The total of the values of the entries that begin at or below the version, modulo `2^128`.
-    pub fn value_at(&self, version: u32) -> u128
-        ensures { result ≡ sum_by (λ e. if nat_le e.low version then e.value else 0) self.now.entries.items % 2 ^ 128 }
-    {
-        let mut total: u128 = 0;
-        for place in 0..self.len() {
-            total = total.wrapping_add(begun(&self.entry(place), version));
-        }
-        total
-    }
-}
-
-// What the entry counts for at the version.
-fn begun(e: &SbEntry, version: u32) -> u128
-    ensures { result ≡ (if nat_le e.now.low version then e.now.value else 0) }
-{
-    if e.low <= version { e.value } else { 0 }
 }
 
 /// Whether the page spells a node.
