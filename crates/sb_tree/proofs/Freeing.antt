@@ -130,8 +130,13 @@ flat_fewer : (level : ℕ) (m0 mi : PageMap) (p : ℕ) → ((page : ℕ) → tim
     → (es : List SbEntry) → times_named (flat_map (own_pages level mi) es) p ≤ times_named (flat_map (own_pages level m0) es) p
 flat_fewer level m0 mi p fewer [] = omega arith
 flat_fewer level m0 mi p fewer (e ∷ es) =
-    omega (arith, times_append (own_pages level mi e) (flat_map (own_pages level mi) es) p, times_append (own_pages level m0 e) (flat_map (own_pages level m0) es) p,
-    fewer e.child, flat_fewer level m0 mi p fewer es)
+    omega (
+      arith,
+      times_append (own_pages level mi e) (flat_map (own_pages level mi) es) p,
+      times_append (own_pages level m0 e) (flat_map (own_pages level m0) es) p,
+      fewer e.child,
+      flat_fewer level m0 mi p fewer es,
+    )
 
 pub fewer_named : (level : ℕ) (freed : List ℕ) (m0 mi : PageMap) (p page : ℕ) → Replaces freed [] m0 mi
     → times_named (pages_below level mi page) p ≤ times_named (pages_below level m0 page) p
@@ -145,8 +150,13 @@ fewer_named (suc level) freed m0 mi p page r =
           omega (arith, first, second, ap (λ (es : List SbEntry). times_named (flat_map (own_pages level mi) es) p) none)
       | inr left ↦
           let same : entries_on mi page ≡ entries_on m0 page = ap (λ (o : Option (List ℕ)). (option_map_or sb_node_in o no_node).entries.items) (r.others page left refl) in
-          omega (arith, first, second, ap (λ (es : List SbEntry). times_named (flat_map (own_pages level mi) es) p) same,
-          flat_fewer level m0 mi p (λ q. fewer_named level freed m0 mi p q r) (entries_on m0 page))
+          omega (
+            arith,
+            first,
+            second,
+            ap (λ (es : List SbEntry). times_named (flat_map (own_pages level mi) es) p) same,
+            flat_fewer level m0 mi p (λ q. fewer_named level freed m0 mi p q r) (entries_on m0 page),
+          )
     ]
 
 -- A page below a child is a page below its parent.
@@ -166,9 +176,9 @@ pub damage_left : (level : ℕ) (freed : List ℕ) (m0 mi : PageMap) (page damag
 damage_left zero freed m0 mi page damaged r d = absurd d
 damage_left (suc level) freed m0 mi page damaged r (inl d) = elim (cases_Bool (names_page freed page)) [
   | inl gone ↦ inr (
-      subst (λ (q : ℕ). names_page freed q ≡ true) (sym d.0) gone,
-      ap (λ (ps : List ℕ). names_page ps damaged) (pages-step level m0 page) ∙ or_left (page == damaged) _ (eq-eqb page damaged (sym d.0)),
-    )
+    subst (λ (q : ℕ). names_page freed q ≡ true) (sym d.0) gone,
+    ap (λ (ps : List ℕ). names_page ps damaged) (pages-step level m0 page) ∙ or_left (page == damaged) _ (eq-eqb page damaged (sym d.0)),
+  )
   | inr left ↦ inl (inl (d.0, λ node bytes there. d.1 node bytes (r.others page left refl ∙ there)))
 ]
 damage_left (suc level) freed m0 mi page damaged r (inr d) =
@@ -181,12 +191,12 @@ damage_left (suc level) freed m0 mi page damaged r (inr d) =
     elim (damage_left level freed m0 mi d.2 damaged r d.7) [
       | inl below ↦ inl (inr (d.0, d.1, d.2, d.3, there, d.5, d.6, below))
       | inr both ↦ inr (
-          both.0,
-          ap (λ (ps : List ℕ). names_page ps damaged) (pages-step level m0 page)
-          ∙ or_right (page == damaged) _ (named_child level m0 damaged (entries_on m0 page) d.2 d.6.0
-          (subst (λ (es : List SbEntry). d.6.0 < length es) (sym entries) (omega (arith, d.6.1, length-map d.0.entries.items (λ (e : SbEntry). e.child))))
-          (ap (λ (es : List SbEntry). get_or (map (λ (e : SbEntry). e.child) es) d.6.0 d.2) entries ∙ d.6.2) both.1),
-        )
+        both.0,
+        ap (λ (ps : List ℕ). names_page ps damaged) (pages-step level m0 page)
+            ∙ or_right (page == damaged) _ (named_child level m0 damaged (entries_on m0 page) d.2 d.6.0
+            (subst (λ (es : List SbEntry). d.6.0 < length es) (sym entries) (omega (arith, d.6.1, length-map d.0.entries.items (λ (e : SbEntry). e.child))))
+            (ap (λ (es : List SbEntry). get_or (map (λ (e : SbEntry). e.child) es) d.6.0 d.2) entries ∙ d.6.2) both.1),
+      )
     ]
 
 pub damaged_child : (level : ℕ) (m0 mi : PageMap) (page damaged : ℕ) (node : SbNode) (es : List SbEntry) (i : ℕ) (d : SbEntry) → 1 ≤ level
@@ -212,9 +222,9 @@ damaged_child (suc level) m0 mi page damaged node es i d some there fits same h 
     ∙ ap (λ (n : ℕ). times_named freed damaged + n) (times_append (f (get_or es i d)) (flat_map f (drop (suc i) es)) damaged) in
     elim call1 [
       | inl inside ↦ elim (damage_left level freed m0 mi c damaged r1 inside) [
-          | inl below ↦ inl (inr (node, sb_node_page node, c, tt, there, fits, (i, bound, at), below))
-          | inr both ↦ inr (omega (arith, times, named_once freed damaged both.0, named_once (f (get_or es i d)) damaged both.1))
-        ]
+        | inl below ↦ inl (inr (node, sb_node_page node, c, tt, there, fits, (i, bound, at), below))
+        | inr both ↦ inr (omega (arith, times, named_once freed damaged both.0, named_once (f (get_or es i d)) damaged both.1))
+      ]
       | inr twice ↦ inr (omega (arith, times, twice, fewer_named level freed m0 mi damaged c r1))
     ]
 

@@ -12,6 +12,8 @@
 mod add;
 mod edit;
 mod entries;
+#[cfg(test)]
+mod failing;
 mod free;
 mod laws;
 mod place;
