@@ -14,6 +14,7 @@ pub mod MvView
 pub mod Super
 pub mod Spelled
 pub mod Damage
+pub mod DamageLaws
 pub mod Footprint
 pub mod PointLeaf
 pub mod PointView

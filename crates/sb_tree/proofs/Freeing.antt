@@ -181,7 +181,8 @@ damage_left (suc level) freed m0 mi page damaged r (inl d) = elim (cases_Bool (n
   )
   | inr left ↦ inl (inl (d.0, λ node bytes there. d.1 node bytes (r.others page left refl ∙ there)))
 ]
-damage_left (suc level) freed m0 mi page damaged r (inr d) =
+damage_left (suc level) freed m0 mi page damaged r (inr (inl d)) = absurd d.4
+damage_left (suc level) freed m0 mi page damaged r (inr (inr d)) =
     let left : names_page freed page ≡ false = elim (cases_Bool (names_page freed page)) [
       | inl gone ↦ absurd (none_some (sym (r.gone page gone refl) ∙ d.4))
       | inr left ↦ left
@@ -189,7 +190,7 @@ damage_left (suc level) freed m0 mi page damaged r (inr d) =
     let there : m0 page ≡ Some d.1 = sym (r.others page left refl) ∙ d.4 in
     let entries : entries_on m0 page ≡ d.0.entries.items = entries_on-spelled m0 page d.0 d.5.typed d.5.rules (there ∙ ap (λ (bytes : List ℕ). Some bytes) d.5.spelled) in
     elim (damage_left level freed m0 mi d.2 damaged r d.7) [
-      | inl below ↦ inl (inr (d.0, d.1, d.2, d.3, there, d.5, d.6, below))
+      | inl below ↦ inl (inr (inr (d.0, d.1, d.2, d.3, there, d.5, d.6, below)))
       | inr both ↦ inr (
         both.0,
         ap (λ (ps : List ℕ). names_page ps damaged) (pages-step level m0 page)
@@ -222,7 +223,7 @@ damaged_child (suc level) m0 mi page damaged node es i d some there fits same h 
     ∙ ap (λ (n : ℕ). times_named freed damaged + n) (times_append (f (get_or es i d)) (flat_map f (drop (suc i) es)) damaged) in
     elim call1 [
       | inl inside ↦ elim (damage_left level freed m0 mi c damaged r1 inside) [
-        | inl below ↦ inl (inr (node, sb_node_page node, c, tt, there, fits, (i, bound, at), below))
+        | inl below ↦ inl (inr (inr (node, sb_node_page node, c, tt, there, fits, (i, bound, at), below)))
         | inr both ↦ inr (omega (arith, times, named_once freed damaged both.0, named_once (f (get_or es i d)) damaged both.1))
       ]
       | inr twice ↦ inr (omega (arith, times, twice, fewer_named level freed m0 mi damaged c r1))
@@ -243,10 +244,12 @@ each_nth stands (e ∷ es) high child (suc k) h at each = each_nth stands es hig
 pub undamaged_inside : (level : ℕ) (pages : PageMap) (page low high least damaged : ℕ) → StandsBelow level pages page low high least → IsDamagedFrom pages level page damaged → ⊥
 undamaged_inside zero pages page low high least damaged s d = d
 undamaged_inside (suc zero) pages page low high least damaged s (inl d) = d.1 (node_on pages page) (sb_node_page (node_on pages page)) s.spelled (level_where_stands pages 1 page low high least s)
-undamaged_inside (suc zero) pages page low high least damaged s (inr d) = d.7
+undamaged_inside (suc zero) pages page low high least damaged s (inr (inl d)) = d.4
+undamaged_inside (suc zero) pages page low high least damaged s (inr (inr d)) = d.7
 undamaged_inside (suc (suc level)) pages page low high least damaged s (inl d) =
     d.1 (node_on pages page) (sb_node_page (node_on pages page)) s.0.spelled (level_where_stands pages (suc (suc level)) page low high least s.0)
-undamaged_inside (suc (suc level)) pages page low high least damaged s (inr d) =
+undamaged_inside (suc (suc level)) pages page low high least damaged s (inr (inl d)) = d.4
+undamaged_inside (suc (suc level)) pages page low high least damaged s (inr (inr d)) =
     let l : ℕ = suc (suc level) in
     let same : node_on pages page ≡ d.0 = same_spelled pages page (node_on pages page) d.0 d.1 l l s.0.spelled (level_where_stands pages l page low high least s.0) d.4 d.5 in
     let at = each_nth (λ child from to. StandsBelow (suc level) pages child from to 32) (entries_on pages page) high d.2 d.6.0

@@ -3,7 +3,7 @@ use Rattle.std.specs.Prelude.{◌≡◌, ℕ, zero, suc, ◌⊎◌, ◌<◌, ◌
 use Rattle.std.specs.List.{All, list_any}
 use Rattle.bw_types.specs.declared.tree.Tree.{Tree}
 use Rattle.page_ports.specs.Pages.{PageMap}
-use Rattle.page_layout.specs.Damage.{IsDamagedBelow}
+use Rattle.page_layout.specs.Damage.{IsDamagedBelow, NothingBeside}
 use Rattle.page_layout.specs.Footprint.{IsNamedTwice}
 use Rattle.page_layout.specs.TreePage as tree_page
 use Rattle.page_layout.specs.declared.spelled.Spelled.{Ghosts}
@@ -56,13 +56,13 @@ root_place version = record { low = 0; high = 2 ^ 32; sought = version }
 
 -- The page is the first on the way from the root to a version that holds no fitting node.
 abbrev pub IsDamagedOnPath : PageMap → Tree → ℕ → ℕ → Type 0
-IsDamagedOnPath pages tree version damaged = IsDamagedBelow FitsPlace LeadsTo pages tree.levels (root_place version) tree.root damaged
+IsDamagedOnPath pages tree version damaged = IsDamagedBelow FitsPlace LeadsTo NothingBeside pages tree.levels (root_place version) tree.root damaged
 
 -- The page is one of those from this page of the level down that holds no node of its level.
 abbrev pub IsDamagedFrom : PageMap → ℕ → ℕ → ℕ → Type 0
 IsDamagedFrom pages level page damaged =
     IsDamagedBelow {N = SbNode} {P = Unit {0}} (λ level _ node bytes. FitsLevel level node bytes)
-    (λ _ node child _. Contains (map (λ (e : SbEntry). e.child) node.entries.items) child) pages level tt page damaged
+    (λ _ node child _. Contains (map (λ (e : SbEntry). e.child) node.entries.items) child) NothingBeside pages level tt page damaged
 
 -- The page is one of those from the root down that holds no node of its level.
 abbrev pub IsDamagedInside : PageMap → Tree → ℕ → Type 0

@@ -3,7 +3,7 @@ ghost use Rattle.std.specs.Prelude.{◌≡◌, ◌≢◌, ◌+◌, ◌<◌, ◌�
 ghost use Rattle.bw_types.specs.declared.point.Point.{Point};
 ghost use Rattle.page_ports.specs.Calls.{Grows};
 ghost use Rattle.page_ports.specs.Frame.{Replaces};
-ghost use Rattle.page_layout.specs.Damage.{IsDamagedBelow};
+ghost use Rattle.page_layout.specs.Damage.{IsDamagedBelow, NothingBeside};
 ghost use Rattle.page_layout.specs.Footprint.{NamesNoneTwice};
 ghost use Rattle.page_layout.specs.TreeValue.{IsTreeTyped, plain_tree_fits};
 ghost use Rattle.sb_tree.specs.Damage.{FitsPlace, IsDamagedForAdd, IsFullBelow, LeadsTo};
@@ -120,7 +120,7 @@ fn add_below<S: Stage>(
     ensures full { IfOk result (λ second. IsTrue (S.tells stage.old) → WasFull second (IsFullBelow level (S.map stage.old) page place.sought)) }
     ensures level { OnOk result (level ≤ 16) }
     ensures damaged { (damaged : ℕ) → result ≡ Err (StageFault.Damaged damaged) → IsTrue (S.tells stage.old)
-        → IsDamagedBelow FitsPlace LeadsTo (S.map stage.old) level place page damaged ⊎ (¬ S.free_in_order stage.old) }
+        → IsDamagedBelow FitsPlace LeadsTo NothingBeside (S.map stage.old) level place page damaged ⊎ (¬ S.free_in_order stage.old) }
     ensures grows { Grows S.Pages level stage.old stage.new result }
 {
     let mut node: SbNode = read_in_place(stage, page, level, place)?;

@@ -2,7 +2,7 @@
 ghost use Rattle.std.specs.Prelude.{◌≡◌, ◌≢◌, ◌%◌, ◌^◌, ℕ, List, [], Err, IsTrue, IfOk};
 ghost use Rattle.bw_types.specs.Dominance.{dominance_sum};
 ghost use Rattle.bw_types.specs.declared.point.Point.{Point};
-ghost use Rattle.page_layout.specs.Damage.{IsDamagedBelow};
+ghost use Rattle.page_layout.specs.Damage.{IsDamagedBelow, NothingBeside};
 ghost use Rattle.page_ports.specs.Calls.{OnlyReads};
 ghost use Rattle.sb_tree.specs.Damage.{FitsPlace, IsDamagedOnPath, LeadsTo};
 ghost use Rattle.sb_tree.specs.Stands.{SbStands};
@@ -54,7 +54,7 @@ fn value_below<P: Pages>(
     ensures value { IfOk result (λ value. IsTrue (P.tells pages.old)
         → value ≡ total_below level (P.map pages.old) page place.sought % 2 ^ 128) }
     ensures damaged { (damaged : ℕ) → result ≡ Err (PageFault.Damaged damaged) → IsTrue (P.tells pages.old)
-        → IsDamagedBelow FitsPlace LeadsTo (P.map pages.old) level place page damaged }
+        → IsDamagedBelow FitsPlace LeadsTo NothingBeside (P.map pages.old) level place page damaged }
     ensures reads { OnlyReads P.Pages level pages.old pages.new result }
 {
     if level == 0 {

@@ -2,7 +2,7 @@ use Rattle.std.proofs.Common.{◌-◌, ◌%◌, ◌^◌, ℕ, Err, rules, arith,
 use Rattle.std.proofs.lemmas.Result.{err_from_is_err_and}
 use Rattle.page_ports.specs.Pages.{PageMap}
 use Rattle.page_ports.specs.declared.page.PageFault.TheVariants.{Damaged}
-use Rattle.page_layout.specs.Damage.{IsDamagedBelow}
+use Rattle.page_layout.specs.Damage.{IsDamagedBelow, NothingBeside}
 use Rattle.sb_tree.specs.Damage.{FitsPlace, LeadsTo}
 use Rattle.sb_tree.specs.Steps.{total_below}
 use Rattle.sb_tree.proofs.Exits.{exit_error}
@@ -44,7 +44,7 @@ returns-in_err-below-clause-damaged g t c = λ damaged e tells.
     let leads = leads_at_cut c.args.place c.inner_place_on-inner.result c.in_ok-node.node entries c.begun_on-begun.result.count c.child_on-child.result refl
     c.begun_on-begun.ensures.cut (c.child_on-child.ensures _ c.begun_on-begun.ensures.cut) c.inner_place_on-inner.ensures.low c.inner_place_on-inner.ensures.high c.inner_place_on-inner.ensures.sought in
     let why = c.in_err-below.ensures.damaged damaged (ap Err same) (search rules) in
-    let below = subst (λ (m : PageMap). IsDamagedBelow FitsPlace LeadsTo m (c.args.level - 1) c.inner_place_on-inner.result c.child_on-child.result damaged) c.view_in_place.ensures.reads.read.map why in
+    let below = subst (λ (m : PageMap). IsDamagedBelow FitsPlace LeadsTo NothingBeside m (c.args.level - 1) c.inner_place_on-inner.result c.child_on-child.result damaged) c.view_in_place.ensures.reads.read.map why in
     damaged_further (g.P.Pages.map c.args.pages.now) c.args.level c.args.page c.child_on-child.result c.args.place c.inner_place_on-inner.result c.in_ok-node.node damaged
     (omega (arith, c.if-level-eq0.false)) (c.in_ok-node.ensures.found tells) c.in_ok-node.ensures.node leads below
 
