@@ -41,3 +41,4 @@ pub mod CutPageLaws
 pub mod LifeNodeLaws
 pub mod TableNodeLaws
 pub mod Totals
+pub mod Summed

@@ -28,6 +28,7 @@ mod sb_node;
 mod sb_view;
 mod signed;
 mod spelled;
+mod summed;
 mod super_page;
 mod table_node;
 #[cfg(test)]
@@ -46,6 +47,7 @@ pub use mv_node::{MvEntry, MvNode};
 pub use point_leaf::PointLeaf;
 pub use sb_node::{SbEntry, SbNode};
 pub use spelled::{Spelled, TreePage};
+pub use summed::{Summed, raise_at, split_off};
 pub use super_page::Super;
 pub use table_node::{TableEntry, TableNode};
 pub use view::View;

@@ -1,7 +1,7 @@
 //! Nodes of the multiversion trees.
 ghost use Rattle.std.specs.Prelude.{refl, ◌≡◌, ◌<◌, IsTrue};
 ghost use Rattle.page_layout.specs.Counted.{not_free};
-ghost use Rattle.page_layout.specs.MvNode.{IsMvNode, IsTyped, mv_entry_bytes, mv_entry_at, IsMvEntryTyped, mv_keeps, mv_precedes, before_fits, length-mv_entry, mv_entry-back, mv_node_in, mv_node_page};
+ghost use Rattle.page_layout.specs.MvNode.{IsMvNode, IsTyped, raised_entry, mv_entry_bytes, mv_entry_at, IsMvEntryTyped, mv_keeps, mv_precedes, before_fits, length-mv_entry, mv_entry-back, mv_node_in, mv_node_page};
 ghost use Rattle.page_layout.specs.MvNodeLaws.{mv_node_in-page};
 
 use crate::children::child_fits;
@@ -11,6 +11,7 @@ use crate::front::{Front, put_u32, put_u64, put_u128};
 use crate::number::{bytes_of, number_u32, number_u64, number_u128, skip};
 use crate::mv_view::is_node;
 use crate::spelled::{Spelled, TreePage};
+use crate::summed::Summed;
 use arrayvec::ArrayVec;
 use page_ports::Page;
 
@@ -91,6 +92,20 @@ pub(crate) fn before_fits(place: u32, before: u64) -> bool
     ensures { result ≡ before_fits place before }
 {
     if place == 1 { before == 0 } else { before >= 1 }
+}
+
+impl Summed for MvEntry {
+    ghost value_of = { λ e. e.value };
+
+    ghost raised = { raised_entry };
+
+    fn value(&self) -> u128 {
+        self.value
+    }
+
+    fn raise(&mut self, more: u128) {
+        self.value = self.value.wrapping_add(more);
+    }
 }
 
 impl Spelled for MvNode {

@@ -2,7 +2,7 @@
 ghost use Rattle.std.specs.Prelude.{refl, ◌<◌, IsTrue};
 ghost use Rattle.page_layout.specs.Children.{child_fits};
 ghost use Rattle.page_layout.specs.Counted.{not_free};
-ghost use Rattle.page_layout.specs.SbNode.{IsSbNode, IsTyped, sb_entry_bytes, sb_entry_at, IsSbEntryTyped, length-sb_entry, sb_entry-back, sb_node_in, sb_node_page};
+ghost use Rattle.page_layout.specs.SbNode.{IsSbNode, IsTyped, raised_entry, sb_entry_bytes, sb_entry_at, IsSbEntryTyped, length-sb_entry, sb_entry-back, sb_node_in, sb_node_page};
 ghost use Rattle.page_layout.specs.SbNodeLaws.{sb_node_in-page};
 
 use crate::children::child_fits;
@@ -12,6 +12,7 @@ use crate::front::{Front, put_u32, put_u64, put_u128};
 use crate::number::{bytes_of, number_u32, number_u64, number_u128, skip};
 use crate::sb_view::is_node;
 use crate::spelled::{Spelled, TreePage};
+use crate::summed::Summed;
 use arrayvec::ArrayVec;
 use page_ports::Page;
 
@@ -75,6 +76,20 @@ impl Entry<Own> for SbEntry {
     ghost has_size = { λ x _. length-sb_entry x };
 
     ghost reads_back = { λ _ x rest typed _. sb_entry-back x rest typed };
+}
+
+impl Summed for SbEntry {
+    ghost value_of = { λ e. e.value };
+
+    ghost raised = { raised_entry };
+
+    fn value(&self) -> u128 {
+        self.value
+    }
+
+    fn raise(&mut self, more: u128) {
+        self.value = self.value.wrapping_add(more);
+    }
 }
 
 impl Spelled for SbNode {
