@@ -57,7 +57,7 @@ pub fn split_off<T: Summed, const CAP: usize>(
     requires { index ≤ length entries.old.items }
     ensures first { entries.new.items ≡ take index entries.old.items }
     ensures second { result.items ≡ raised_first T.raised (drop index entries.old.items) (sum_by T.value_of (take index entries.old.items) % 2 ^ 128) }
-    ensures counts { length entries.new.items + length result.items ≡ length entries.old.items }
+    ensures len { index + length result.items ≡ length entries.old.items }
 {
     let all = entries.as_slice();
     let total = total_of(&all[..index]);
