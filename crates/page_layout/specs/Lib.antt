@@ -25,6 +25,7 @@ pub mod CutNode
 pub mod Cuts
 pub mod BaEntry
 pub mod CutPage
+pub mod CutView
 pub mod Signed
 pub mod Dated
 pub mod LifeNode

@@ -32,7 +32,8 @@ pub struct CutPage {
     pub entries: ArrayVec<BaEntry, 17>,
 }
 
-fn count_in(page: &Page) -> usize
+/// How many entries a page may spell.
+pub(crate) fn count_in(page: &Page) -> usize
     ensures value { result ≡ count_in page.now }
     ensures few { result ≤ 16 }
 {

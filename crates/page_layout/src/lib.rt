@@ -11,6 +11,7 @@ mod children;
 mod counted;
 mod cut_node;
 mod cut_page;
+mod cut_view;
 mod dated;
 mod entry;
 mod free_page;
