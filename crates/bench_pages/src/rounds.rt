@@ -55,6 +55,12 @@ fn byte_of(page: &Page, round: u64) -> u64 {
     u64::from(page[(round % 4096) as usize])
 }
 
+// Writes a byte of the page again, so that each round reads the page anew when it is compiled.
+fn touch(copy: &mut Page, page: &Page, round: u64) {
+    let place = (round % 4096) as usize;
+    copy[place] = page[place];
+}
+
 fn time_writes<T: Spelled>(clock: &impl Clock, value: &T, rounds: u64) -> io::Result<Timed>
     requires kept { T.keeps value.now }
     requires some { 0 < rounds }
@@ -73,10 +79,12 @@ fn time_writes<T: Spelled>(clock: &impl Clock, value: &T, rounds: u64) -> io::Re
 fn time_reads<T: Spelled>(clock: &impl Clock, page: &Page, rounds: u64) -> io::Result<Timed>
     requires { 0 < rounds }
 {
+    let mut copy = *page;
     let mut seen: u64 = 0;
     let start = Instant::now(clock)?;
     for round in 0..rounds {
-        if T::read(page).is_some() {
+        touch(&mut copy, page, round);
+        if T::read(&copy).is_some() {
             seen = seen.wrapping_add(byte_of(page, round));
         }
     }
@@ -87,10 +95,12 @@ fn time_reads<T: Spelled>(clock: &impl Clock, page: &Page, rounds: u64) -> io::R
 fn time_views<T: Spelled>(clock: &impl Clock, page: &Page, rounds: u64) -> io::Result<Timed>
     requires { 0 < rounds }
 {
+    let mut copy = *page;
     let mut seen: u64 = 0;
     let start = Instant::now(clock)?;
     for round in 0..rounds {
-        if View::<T>::on(page).is_some() {
+        touch(&mut copy, page, round);
+        if View::<T>::on(&copy).is_some() {
             seen = seen.wrapping_add(byte_of(page, round));
         }
     }
