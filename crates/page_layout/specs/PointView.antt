@@ -1,11 +1,8 @@
 -- Pages of points, read in place.
-use Rattle.std.specs.Prelude.{◌≡◌, ℕ, ◌+◌, ◌*◌, ◌<◌, ◌≤◌, ◌^◌, min, zero, suc, List, [], ◌∷◌, ◌++◌, length, drop, slice_index, get_or, refl}
-use Rattle.std.specs.List.{All}
-use Rattle.std.proofs.Common.{sym, ap, ◌∙◌, subst, append_assoc, arith}
-use Rattle.bw_types.specs.declared.point.Point.{Point}
+use Rattle.std.specs.Prelude.{◌≡◌, ℕ, ◌<◌, ◌≤◌, ◌^◌, min, zero, suc, List, [], ◌∷◌, ◌++◌, length, drop, get_or, refl}
+use Rattle.std.proofs.Common.{ap, ◌∙◌, append_assoc, arith}
 use Rattle.page_layout.specs.Numbers.{spelled, number_in}
 use Rattle.page_layout.specs.Bytes.{AreBytes, bytes-drop}
-use Rattle.page_layout.specs.Three.{three_in, AreThree}
 use Rattle.page_layout.specs.Respelled.{Respells, respelled, respelled_at, number_in-lt, length-entries_at, each_of}
 use Rattle.page_layout.specs.PointLeaf.{point_bytes, point_at, IsPointTyped, IsPointLeaf, IsTyped, point_leaf_in}
 

@@ -1,5 +1,5 @@
 -- Bytes that are spelled again by what they spell.
-use Rattle.std.specs.Prelude.{◌≡◌, ℕ, zero, suc, ◌+◌, ◌-◌, ◌*◌, ◌^◌, ◌/◌, ◌%◌, ◌<◌, ◌≤◌, min, List, [], ◌∷◌, ◌++◌, length, take, drop, slice_index, get_or, refl}
+use Rattle.std.specs.Prelude.{◌≡◌, ℕ, zero, suc, ◌+◌, ◌-◌, ◌*◌, ◌^◌, ◌/◌, ◌%◌, ◌<◌, ◌≤◌, min, List, [], ◌∷◌, ◌++◌, length, drop, slice_index, get_or, refl}
 use Rattle.std.specs.Int.{byte_at, bytes_high_first}
 use Rattle.std.specs.List.{flat_map, All}
 use Rattle.std.proofs.Common.{ap, sym, ◌∙◌, append_assoc, length-append, length-drop, arith}
@@ -8,10 +8,10 @@ use Rattle.std.proofs.lemmas.Nat.{div-mul-add}
 use Rattle.std.proofs.Math.Nat.{zero-mul, suc-mul, mul_assoc, mul-le-mul_right, div-one, mod-eq_of_lt, pow-succ', one-le-pow, mul-add-div_right, mul-add-mod_self_right}
 use Rattle.byteorder.specs.Endian.{big_from}
 use Rattle.byteorder.specs.Numbers.{big_from-cons, big_from-lt}
-use Rattle.page_layout.specs.Numbers.{spelled, number_in, zeros, padded, length-spelled, length-zeros}
+use Rattle.page_layout.specs.Numbers.{spelled, number_in, zeros, length-spelled, length-zeros}
 use Rattle.page_layout.specs.Bytes.{AreBytes, bytes-drop}
 use Rattle.page_layout.specs.Entries.{entries_at}
-use Rattle.page_layout.specs.Counted.{front, counted_page, body_of, word_of, double_of, entries_of, regroup, word-counted, double-counted, count-counted}
+use Rattle.page_layout.specs.Counted.{front, counted_page, word_of, double_of, entries_of, regroup, word-counted, double-counted, count-counted}
 
 -- Any bytes of this size at the front are the spelling of the value that is read of them.
 abbrev pub Respells : {X : Type 0} → (X → List ℕ) → (List ℕ → X) → ℕ → Type 0

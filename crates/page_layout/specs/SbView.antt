@@ -1,6 +1,5 @@
 -- Nodes of the trees over versions, read in place.
-use Rattle.std.specs.Prelude.{◌≡◌, ℕ, ◌+◌, ◌*◌, ◌<◌, ◌≤◌, ◌^◌, min, List, ◌++◌, length, drop, slice_index, get_or, IsTrue, refl}
-use Rattle.std.specs.List.{All}
+use Rattle.std.specs.Prelude.{◌≡◌, ℕ, ◌<◌, ◌≤◌, min, List, ◌++◌, length, drop, slice_index, IsTrue}
 use Rattle.std.proofs.Common.{sym, ap, ◌∙◌, subst, append_assoc, arith}
 use Rattle.page_layout.specs.Numbers.{spelled, number_in}
 use Rattle.page_layout.specs.Bytes.{AreBytes, bytes-drop}

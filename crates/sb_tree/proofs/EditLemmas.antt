@@ -1,12 +1,11 @@
 -- The edits of entries in memory.
-use Rattle.std.proofs.Common.{◌≡◌, ◌≢◌, ℕ, zero, suc, ◌-◌, ◌%◌, ◌^◌, ◌<◌, ◌≤◌, inl, inr, List, [], ◌∷◌, ◌++◌, length, get_or, take, drop, refl, sym, ap, ◌∙◌, subst, arith, drop-cons, length-drop}
-use Rattle.std.specs.Prelude.{slice_set}
-use Rattle.std.specs.List.{All, sum_by}
+use Rattle.std.proofs.Common.{◌≡◌, ◌≢◌, ℕ, zero, suc, ◌-◌, ◌<◌, ◌≤◌, inl, inr, List, [], ◌∷◌, ◌++◌, length, get_or, take, drop, sym, ap, ◌∙◌, subst, arith, drop-cons}
+use Rattle.std.specs.List.{All}
 use Rattle.std.proofs.lemmas.Bool.{cases_lt}
-use Rattle.std.proofs.lemmas.List.{get_or-take, length-take, get_or_default, take-append-drop, take_all}
+use Rattle.std.proofs.lemmas.List.{get_or-take, length-take, get_or_default, take-append-drop}
 use Rattle.page_layout.specs.declared.sb_node.SbEntry.{SbEntry}
 use Rattle.sb_tree.specs.Cut.{IsCut}
-use Rattle.sb_tree.specs.Edits.{raised_entry, raised_first, leaf_entry, TakesIn, second_half}
+use Rattle.sb_tree.specs.Edits.{raised_entry, raised_first, leaf_entry, TakesIn}
 use Rattle.sb_tree.proofs.Order.{Ascends}
 
 pub ascending_at : (es : List SbEntry) (i j : ℕ) (d : SbEntry) → Ascends es → i < j → j < length es → (get_or es i d).low < (get_or es j d).low

@@ -1,6 +1,6 @@
 use Rattle.std.proofs.Common.{◌≡◌, ◌+◌, ◌*◌, ℕ, List, length, drop, slice_index, refl, sym, ap, ◌∙◌, subst, arith}
 use Rattle.page_layout.specs.Numbers.{zeros}
-use Rattle.page_layout.specs.Respelled.{count_of, IsFramed, counted-respelled, counted-framed}
+use Rattle.page_layout.specs.Respelled.{count_of, counted-respelled, counted-framed}
 use Rattle.page_layout.proofs.counted.is_counted.Goals as goal
 
 same_place : (n m size count : ℕ) → n ≡ size → m ≡ count → 16 + m * n ≡ 16 + count * size

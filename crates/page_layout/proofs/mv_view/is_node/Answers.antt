@@ -1,4 +1,4 @@
-use Rattle.std.proofs.Common.{◌≡◌, ◌<◌, ◌≤◌, ℕ, min, length, drop, sym, arith, ap, ◌∙◌, subst}
+use Rattle.std.proofs.Common.{◌≡◌, ℕ, min, drop, sym, arith, ◌∙◌, subst}
 use Rattle.std.specs.Prelude.{IsTrue, Bool, true, slice_index, List}
 use Rattle.page_layout.specs.Numbers.{number_in}
 use Rattle.page_layout.specs.Counted.{counted_page, entries_of, word_of, double_of}

@@ -1,4 +1,4 @@
-use Rattle.std.proofs.Common.{◌≡◌, ℕ, List, min, length, drop, slice_index, sym, arith, ap, ◌∙◌, subst}
+use Rattle.std.proofs.Common.{◌≡◌, ℕ, List, min, drop, slice_index, sym, arith, subst}
 use Rattle.page_layout.specs.Numbers.{number_in}
 use Rattle.page_layout.specs.Counted.{counted_page, entries_of, double_of}
 use Rattle.page_layout.specs.PointLeaf.{point_bytes, point_at, point_leaf_in, point_leaf_page}

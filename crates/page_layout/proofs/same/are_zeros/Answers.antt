@@ -1,5 +1,4 @@
 use Rattle.std.proofs.Common.{◌≡◌, ℕ, zero, suc, ◌-◌, List, [], ◌∷◌, length, get_or, take, drop, refl, sym, ap, ◌∙◌, arith}
-use Rattle.std.specs.Prelude.{IsTrue, false}
 use Rattle.page_layout.specs.Numbers.{zeros}
 use Rattle.page_layout.proofs.same.are_zeros.Goals as goal
 

@@ -1,4 +1,4 @@
-use Rattle.std.proofs.Common.{◌≡◌, ℕ, min, length, drop, arith, ap, ◌∙◌}
+use Rattle.std.proofs.Common.{◌≡◌, min, drop, arith}
 use Rattle.page_layout.specs.Numbers.{number_in}
 use Rattle.page_layout.specs.SbView.{sb-respells, length-sb_entries, is_sb_node, in_order}
 use Rattle.page_layout.proofs.sb_view.is_node.Goals as goal

@@ -1,8 +1,7 @@
-use Rattle.std.proofs.Common.{◌≡◌, ℕ, ◌+◌, ◌-◌, ◌*◌, ◌<◌, List, length, sym, ap, ◌∙◌, subst, arith}
-use Rattle.page_layout.specs.CutPage.{cut_page_in, count_in}
+use Rattle.std.proofs.Common.{◌≡◌, ℕ, ◌+◌, ◌-◌, ◌*◌, ap, ◌∙◌, arith}
+use Rattle.page_layout.specs.CutPage.{count_in}
 use Rattle.page_layout.specs.BaEntry.{ba_entry_at}
-use Rattle.page_layout.specs.CutView.{length-cut_entries, entry_on}
-use Rattle.page_layout.specs.declared.cut_page.CutPage.{CutPage}
+use Rattle.page_layout.specs.CutView.{entry_on}
 use Rattle.page_layout.proofs.cut_view.View+CutPage.entry.Goals as goal
 
 pub returns : goal.returns

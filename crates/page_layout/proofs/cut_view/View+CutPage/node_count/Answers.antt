@@ -1,5 +1,5 @@
-use Rattle.std.proofs.Common.{◌≡◌, ℕ, ◌-◌, ◌*◌, ◌<◌, List, length, sym, ap, ◌∙◌, subst, arith}
-use Rattle.page_layout.specs.CutPage.{cut_page_in, count_in}
+use Rattle.std.proofs.Common.{◌≡◌, ◌-◌, ◌*◌, length, sym, ap, ◌∙◌, arith}
+use Rattle.page_layout.specs.CutPage.{count_in}
 use Rattle.page_layout.specs.CutView.{length-cut_nodes}
 use Rattle.page_layout.specs.declared.cut_page.CutPage.{CutPage}
 use Rattle.page_layout.proofs.cut_view.View+CutPage.node_count.Goals as goal
