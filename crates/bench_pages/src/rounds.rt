@@ -4,7 +4,7 @@ ghost use Rattle.std.specs.Prelude.{◌<◌};
 use crate::full;
 use page_layout::{
     CutPage, FreePage, JournalHead, LifeNode, Meta, MvNode, PointLeaf, SbNode, Spelled, Super,
-    TableNode,
+    TableNode, View,
 };
 use page_ports::{Page, blank_page};
 use std::io;
@@ -55,6 +55,12 @@ fn byte_of(page: &Page, round: u64) -> u64 {
     u64::from(page[(round % 4096) as usize])
 }
 
+// Writes a byte of the page again, so that each round reads the page anew when it is compiled.
+fn touch(copy: &mut Page, page: &Page, round: u64) {
+    let place = (round % 4096) as usize;
+    copy[place] = page[place];
+}
+
 fn time_writes<T: Spelled>(clock: &impl Clock, value: &T, rounds: u64) -> io::Result<Timed>
     requires kept { T.keeps value.now }
     requires some { 0 < rounds }
@@ -73,10 +79,28 @@ fn time_writes<T: Spelled>(clock: &impl Clock, value: &T, rounds: u64) -> io::Re
 fn time_reads<T: Spelled>(clock: &impl Clock, page: &Page, rounds: u64) -> io::Result<Timed>
     requires { 0 < rounds }
 {
+    let mut copy = *page;
     let mut seen: u64 = 0;
     let start = Instant::now(clock)?;
     for round in 0..rounds {
-        if T::read(page).is_some() {
+        touch(&mut copy, page, round);
+        if T::read(&copy).is_some() {
+            seen = seen.wrapping_add(byte_of(page, round));
+        }
+    }
+    let nanos = start.elapsed(clock)?.as_nanos() / u128::from(rounds);
+    Ok(Timed { nanos, seen })
+}
+
+fn time_views<T: Spelled>(clock: &impl Clock, page: &Page, rounds: u64) -> io::Result<Timed>
+    requires { 0 < rounds }
+{
+    let mut copy = *page;
+    let mut seen: u64 = 0;
+    let start = Instant::now(clock)?;
+    for round in 0..rounds {
+        touch(&mut copy, page, round);
+        if View::<T>::on(&copy).is_some() {
             seen = seen.wrapping_add(byte_of(page, round));
         }
     }
@@ -111,18 +135,22 @@ fn print_type<T: Spelled>(
         Some(value) => {
             let writes = time_writes(rt, &value, rounds)?;
             let reads = time_reads::<T>(rt, page, rounds)?;
-            let seen = writes.seen.wrapping_add(reads.seen);
+            let views = time_views::<T>(rt, page, rounds)?;
+            let seen = writes
+                .seen
+                .wrapping_add(reads.seen)
+                .wrapping_add(views.seen);
             println!(rt;
-                "{name}: {} ns a write, {} ns a read ({seen})",
-                writes.nanos, reads.nanos
+                "{name}: {} ns a write, {} ns a read, {} ns a view ({seen})",
+                writes.nanos, reads.nanos, views.nanos
             )
         }
         None => println!(rt; "{name}: no spelling"),
     }
 }
 
-/// Prints how many nanoseconds a write and a read of a full page of each type took, over so many
-/// rounds.
+/// Prints how many nanoseconds a write, a read and a view of a full page of each type took, over so
+/// many rounds.
 pub(crate) fn print_times(rt: &(impl Print + Clock), rounds: u64) -> io::Result<()>
     requires { 0 < rounds }
 {

@@ -16,9 +16,11 @@ mod laws;
 #[cfg(test)]
 mod tests;
 mod value;
+mod view;
 
 pub use add::{add_at, add_beside};
 pub use child::new_child;
 pub use copy::{Copied, close_and_copy};
 pub use laws::later_laws;
 pub use value::{child_at, value_at};
+pub use view::{child_on, value_on};

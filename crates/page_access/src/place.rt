@@ -1,7 +1,7 @@
 //! Places by which calls reach nodes.
 ghost use Rattle.std.specs.Prelude.{◌↔◌, ℕ, IsTrue};
 
-use page_layout::TreePage;
+use page_layout::{TreePage, View};
 
 /// The place by which a call reaches a node of a tree.
 pub trait PlaceFor<T: TreePage>: Copy {
@@ -11,4 +11,11 @@ pub trait PlaceFor<T: TreePage>: Copy {
     /// Whether a node of this level keeps to the place.
     fn admits(&self, level: u8, node: &T) -> bool
         ensures { IsTrue result ↔ admits level self.now node.now };
+
+    /// Whether a node of this level, which is read in place, keeps to the place.
+    fn admits_view(&self, level: u8, view: &View<T>) -> bool
+        ensures { IsTrue result ↔ admits level self.now view.now }
+    {
+        self.admits(level, &view.to_value())
+    }
 }

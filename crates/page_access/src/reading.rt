@@ -6,8 +6,8 @@ ghost use Rattle.page_layout.specs.Spelled.{Spells, SpellsNone};
 ghost use Rattle.page_layout.specs.TreePage.{FitsLevel, FitsPlace, HoldsNoLevel};
 
 use crate::place::PlaceFor;
-use page_layout::{Spelled, TreePage};
-use page_ports::{PageFault, Pages, blank_page};
+use page_layout::{Spelled, TreePage, View};
+use page_ports::{Page, PageFault, Pages, blank_page};
 
 /// The value that the page spells.
 ///
@@ -54,6 +54,37 @@ pub fn read_level<T: TreePage, P: Pages>(
         return Err(PageFault::Damaged(page));
     }
     Ok(value)
+}
+
+/// The view of the node of this level that the page spells, where it keeps to the place by which it is
+/// reached: the page's bytes are put into these, and the node is read there.
+///
+/// `Damaged` carries this page. It comes exactly where the page is not in the map or spells no such
+/// node, save where the device failed first.
+pub fn view_in_place<'a, T: TreePage, L: PlaceFor<T>, P: Pages>(
+    pages: &mut P,
+    page: u64,
+    level: u8,
+    place: L,
+    bytes: &'a mut Page,
+) -> Result<View<'a, T>, PageFault>
+    ensures node { IfOk result (λ node. FitsPlace T.Spelled T.level_in L.admits level place node (T.spelling node)) }
+    ensures found { IfOk result (λ node. IsTrue (P.tells pages.old) → P.map pages.old page ≡ Some (T.spelling node)) }
+    ensures damaged { (p : ℕ) → result ≡ Err (PageFault.Damaged p) → (p ≡ page) × (IsTrue (P.tells pages.old)
+        → HoldsNoNode (FitsPlace T.Spelled T.level_in L.admits) (P.map pages.old) level place page) }
+    ensures reads { OnlyReads P.Pages 1 pages.old pages.new result }
+{
+    pages.get(page, bytes)?;
+    let Some(view) = View::<T>::on(bytes) else {
+        return Err(PageFault::Damaged(page));
+    };
+    if view.level() != level {
+        return Err(PageFault::Damaged(page));
+    }
+    if !place.admits_view(level, &view) {
+        return Err(PageFault::Damaged(page));
+    }
+    Ok(view)
 }
 
 /// The node of this level that the page spells, where it keeps to the place by which it is reached.

@@ -1,17 +1,23 @@
 pub mod Numbers
+pub mod Bytes
 pub mod Three
 pub mod Entries
 pub mod Counted
+pub mod Respelled
 pub mod Children
 pub mod Head
 pub mod FreePage
 pub mod SbNode
+pub mod SbView
 pub mod MvNode
+pub mod MvView
 pub mod Super
 pub mod Spelled
 pub mod Damage
+pub mod DamageLaws
 pub mod Footprint
 pub mod PointLeaf
+pub mod PointView
 pub mod TreePage
 pub mod TreeValue
 pub mod Meta
@@ -19,6 +25,7 @@ pub mod CutNode
 pub mod Cuts
 pub mod BaEntry
 pub mod CutPage
+pub mod CutView
 pub mod Signed
 pub mod Dated
 pub mod LifeNode
@@ -34,3 +41,5 @@ pub mod CutsLaws
 pub mod CutPageLaws
 pub mod LifeNodeLaws
 pub mod TableNodeLaws
+pub mod Totals
+pub mod Summed

@@ -1,5 +1,5 @@
 -- Nodes of the multiversion trees.
-use Rattle.std.specs.Prelude.{◌≡◌, ℕ, ◌<◌, ◌≤◌, ◌^◌, ◌++◌, List, length, drop, slice_index, IsTrue, Bool, ◌&&◌, ◌||◌, ◌==◌, nat_lt, nat_le, if◌then◌else◌}
+use Rattle.std.specs.Prelude.{◌≡◌, ℕ, ◌+◌, ◌%◌, ◌<◌, ◌≤◌, ◌^◌, ◌++◌, List, length, drop, slice_index, IsTrue, Bool, ◌&&◌, ◌||◌, ◌==◌, nat_lt, nat_le, if◌then◌else◌}
 use Rattle.std.specs.List.{All}
 use Rattle.std.proofs.Common.{ap, ◌∙◌, append_assoc, length-append}
 use Rattle.page_layout.specs.Numbers.{spelled, number_in, length-spelled, number_in-spelled, past-spelled, past_more}
@@ -16,6 +16,10 @@ mv_entry_bytes e = spelled 8 e.low ++ (spelled 4 e.start ++ (spelled 4 e.end ++ 
 -- an entry that the first 40 bytes may spell
 abbrev pub mv_entry_at : List ℕ → MvEntry
 mv_entry_at bytes = record { low = number_in 8 bytes; start = number_in 4 (drop 8 bytes); end = number_in 4 (drop 12 bytes); value = number_in 16 (drop 16 bytes); child = number_in 8 (drop 32 bytes) }
+
+-- the entry with so much more, modulo 2^128
+abbrev pub raised_entry : MvEntry → ℕ → MvEntry
+raised_entry e more = record { low = e.low; start = e.start; end = e.end; value = (e.value + more) % 2 ^ 128; child = e.child }
 
 -- The numbers are those of their types.
 abbrev pub IsMvEntryTyped : MvEntry → Type 0

@@ -1,5 +1,5 @@
 -- Nodes of the trees over versions.
-use Rattle.std.specs.Prelude.{◌≡◌, ℕ, ◌<◌, ◌≤◌, ◌^◌, ◌++◌, List, length, drop, slice_index, IsTrue}
+use Rattle.std.specs.Prelude.{◌≡◌, ℕ, ◌+◌, ◌%◌, ◌<◌, ◌≤◌, ◌^◌, ◌++◌, List, length, drop, slice_index, IsTrue}
 use Rattle.std.specs.List.{All}
 use Rattle.std.proofs.Common.{ap, ◌∙◌, append_assoc, length-append}
 use Rattle.page_layout.specs.Numbers.{spelled, number_in, length-spelled, number_in-spelled, past-spelled, past_more}
@@ -16,6 +16,10 @@ sb_entry_bytes e = spelled 4 e.low ++ (spelled 16 e.value ++ (spelled 8 e.child)
 -- an entry that the first 28 bytes may spell
 abbrev pub sb_entry_at : List ℕ → SbEntry
 sb_entry_at bytes = record { low = number_in 4 bytes; value = number_in 16 (drop 4 bytes); child = number_in 8 (drop 20 bytes) }
+
+-- the entry with so much more, modulo 2^128
+abbrev pub raised_entry : SbEntry → ℕ → SbEntry
+raised_entry e more = record { low = e.low; value = (e.value + more) % 2 ^ 128; child = e.child }
 
 -- The numbers are those of their types.
 abbrev pub IsSbEntryTyped : SbEntry → Type 0

@@ -1,13 +1,15 @@
 //! Pages of a kind with a level, a count, a word, a double word and as many entries.
-ghost use Rattle.std.specs.Prelude.{◌≡◌, ◌+◌, ◌*◌, ◌<◌, ◌≤◌, ◌^◌, length, drop};
+ghost use Rattle.std.specs.Prelude.{◌≡◌, ◌+◌, ◌*◌, ◌<◌, ◌≤◌, ◌^◌, ◌↔◌, IsTrue, length, drop, slice_index};
 ghost use Rattle.std.specs.List.{All};
 ghost use Rattle.arrayvec.specs.ArrayVec.{array_vec_len};
 ghost use Rattle.page_layout.specs.Numbers.{number_in};
+ghost use Rattle.page_layout.specs.Respelled.{Respells};
 ghost use Rattle.page_layout.specs.Counted.{front, counted_page, body_of, word_of, double_of, entries_of};
 
 use crate::entry::{Entry, Own, get_all, put_all};
 use crate::front::{Front, finish, put_u8, put_u16, put_u32, put_u64};
-use crate::number::{after, number_u16, number_u32, number_u64};
+use crate::number::{after, bytes_of, number_u16, number_u32, number_u64};
+use crate::same::are_zeros;
 use arrayvec::ArrayVec;
 use page_ports::Page;
 
@@ -84,4 +86,43 @@ pub(crate) fn read_double(page: &Page) -> u64
     ensures { result ≡ double_of page.now }
 {
     number_u64(after(page, 8))
+}
+
+/// Whether the page is the one of this kind, word and double word, and of the level and entries that are
+/// read of it: no more than this many, of a type that has no unnamed bytes.
+pub(crate) fn is_counted<F, T: Entry<F>>(
+    page: &Page,
+    kind: u8,
+    word: u32,
+    double: u64,
+    most: usize,
+) -> bool
+    requires respells { Respells T.spelling T.value_at T.SIZE }
+    requires count { most < 2 ^ 16 }
+    requires room { 16 + most * T.SIZE ≤ 4096 }
+    ensures { IsTrue result ↔ (page.now ≡ counted_page T.spelling kind (slice_index page.now 1) word double (entries_of T.value_at T.SIZE most page.now)) }
+{
+    let _bytes = bytes_of(page);
+    let count = usize::from(read_count(page));
+    if count > most {
+        return false;
+    }
+    if page[0] != kind {
+        return false;
+    }
+    if read_word(page) != word {
+        return false;
+    }
+    if read_double(page) != double {
+        return false;
+    }
+    are_zeros(after(page, 16 + count * T::SIZE))
+}
+
+/// The entry at this place among those of a page.
+pub(crate) fn entry_in<F, T: Entry<F>>(page: &Page, place: usize) -> T
+    requires { 16 + (place * T.SIZE + T.SIZE) ≤ 4096 }
+    ensures { result ≡ T.value_at (drop (place * T.SIZE) (body_of page.now)) }
+{
+    T::get(after(page, 16 + place * T::SIZE))
 }

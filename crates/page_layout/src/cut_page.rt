@@ -32,7 +32,8 @@ pub struct CutPage {
     pub entries: ArrayVec<BaEntry, 17>,
 }
 
-fn count_in(page: &Page) -> usize
+/// How many entries a page may spell.
+pub(crate) fn count_in(page: &Page) -> usize
     ensures value { result ≡ count_in page.now }
     ensures few { result ≤ 16 }
 {
@@ -97,6 +98,10 @@ impl TreePage for CutPage {
 
     fn level(&self) -> u8 {
         self.level
+    }
+
+    fn level_on(page: &Page) -> u8 {
+        page[1]
     }
 
     ghost in_use = { λ _. not_free _ refl };

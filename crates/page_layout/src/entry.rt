@@ -117,6 +117,34 @@ pub(crate) fn are_in_order<F, T: Entry<F>>(level: u8, entries: &[T]) -> bool
     each_keeps(level, entries) && each_precedes(entries)
 }
 
+/// Whether each of the first `count` entries of these bytes keeps its rule in a node of this level, and
+/// precedes the next one.
+pub(crate) fn stand_in_order<F, T: Entry<F>>(level: u8, count: usize, bytes: &[u8]) -> bool
+    requires room { count * T.SIZE ≤ length bytes.now }
+    ensures { IsTrue result ↔ AreInOrder (T.keeps level) T.precedes (entries_at T.value_at T.SIZE count bytes.now) }
+{
+    if count == 0 {
+        return true;
+    }
+    let mut last = T::get(bytes);
+    if !last.keeps(level) {
+        return false;
+    }
+    let mut rest = skip(bytes, T::SIZE);
+    for _ in 1..count {
+        let next = T::get(rest);
+        if !last.precedes(&next) {
+            return false;
+        }
+        if !next.keeps(level) {
+            return false;
+        }
+        last = next;
+        rest = skip(rest, T::SIZE);
+    }
+    true
+}
+
 impl Entry<Own> for u64 {
     const SIZE: usize = 8;
 

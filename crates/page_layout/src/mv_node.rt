@@ -1,15 +1,17 @@
 //! Nodes of the multiversion trees.
 ghost use Rattle.std.specs.Prelude.{refl, ◌≡◌, ◌<◌, IsTrue};
 ghost use Rattle.page_layout.specs.Counted.{not_free};
-ghost use Rattle.page_layout.specs.MvNode.{IsMvNode, IsTyped, mv_entry_bytes, mv_entry_at, IsMvEntryTyped, mv_keeps, mv_precedes, before_fits, length-mv_entry, mv_entry-back, mv_node_in, mv_node_page};
+ghost use Rattle.page_layout.specs.MvNode.{IsMvNode, IsTyped, raised_entry, mv_entry_bytes, mv_entry_at, IsMvEntryTyped, mv_keeps, mv_precedes, before_fits, length-mv_entry, mv_entry-back, mv_node_in, mv_node_page};
 ghost use Rattle.page_layout.specs.MvNodeLaws.{mv_node_in-page};
 
 use crate::children::child_fits;
 use crate::counted::{read_double, read_entries, read_word, write_counted};
 use crate::entry::{Entry, Own, are_in_order};
 use crate::front::{Front, put_u32, put_u64, put_u128};
-use crate::number::{number_u32, number_u64, number_u128, skip};
+use crate::mv_view::is_node;
+use crate::number::{bytes_of, number_u32, number_u64, number_u128, skip};
 use crate::spelled::{Spelled, TreePage};
+use crate::summed::Summed;
 use arrayvec::ArrayVec;
 use page_ports::Page;
 
@@ -86,10 +88,24 @@ impl Entry<Own> for MvEntry {
     ghost reads_back = { λ _ x rest typed _. mv_entry-back x rest typed };
 }
 
-fn before_fits(place: u32, before: u64) -> bool
+pub(crate) fn before_fits(place: u32, before: u64) -> bool
     ensures { result ≡ before_fits place before }
 {
     if place == 1 { before == 0 } else { before >= 1 }
+}
+
+impl Summed for MvEntry {
+    ghost value_of = { λ e. e.value };
+
+    ghost raised = { raised_entry };
+
+    fn value(&self) -> u128 {
+        self.value
+    }
+
+    fn raise(&mut self, more: u128) {
+        self.value = self.value.wrapping_add(more);
+    }
 }
 
 impl Spelled for MvNode {
@@ -129,6 +145,11 @@ impl Spelled for MvNode {
             && are_in_order(self.level, self.entries.as_slice())
     }
 
+    fn is_spelled(page: &Page) -> bool {
+        let _bytes = bytes_of(page);
+        is_node(page)
+    }
+
     ghost reads_back = { mv_node_in-page };
 }
 
@@ -137,6 +158,10 @@ impl TreePage for MvNode {
 
     fn level(&self) -> u8 {
         self.level
+    }
+
+    fn level_on(page: &Page) -> u8 {
+        page[1]
     }
 
     ghost in_use = { λ _. not_free _ refl };

@@ -1,6 +1,7 @@
 //! The numbers at the front of some bytes.
 ghost use Rattle.std.specs.Prelude.{◌≡◌, ◌+◌, ◌≤◌, length, drop};
 ghost use Rattle.page_layout.specs.Numbers.{number_in};
+ghost use Rattle.page_layout.specs.Bytes.{AreBytes};
 
 use byteorder::{BigEndian, ByteOrder};
 use page_ports::Page;
@@ -23,6 +24,24 @@ pub(crate) fn after(page: &Page, place: usize) -> &[u8]
 {
     let (_, rest) = page.as_slice().split_at(place);
     rest
+}
+
+// What the type says of bytes.
+fn are_bytes(bytes: &[u8])
+    ensures { AreBytes bytes.now }
+{
+    let _ = bytes;
+}
+
+/// The bytes of a page.
+pub(crate) fn bytes_of(page: &Page) -> &[u8]
+    ensures value { result.now ≡ page.now }
+    ensures len { length page.now ≡ 4096 }
+    ensures bytes { AreBytes page.now }
+{
+    let bytes = page.as_slice();
+    are_bytes(bytes);
+    bytes
 }
 
 /// The number in the first two bytes.

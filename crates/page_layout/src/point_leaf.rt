@@ -7,7 +7,8 @@ ghost use Rattle.page_layout.specs.PointLeafLaws.{point_leaf_in-page};
 use crate::counted::{read_double, read_entries, write_counted};
 use crate::entry::{Entry, Own};
 use crate::front::{Front, put_u32, put_u128};
-use crate::number::{number_u32, number_u128, skip};
+use crate::number::{bytes_of, number_u32, number_u128, skip};
+use crate::point_view::is_leaf;
 use crate::spelled::{Spelled, TreePage};
 use crate::three::{put_three_u64, three_u64};
 use arrayvec::ArrayVec;
@@ -94,6 +95,11 @@ impl Spelled for PointLeaf {
         1 <= count && count <= 64
     }
 
+    fn is_spelled(page: &Page) -> bool {
+        let _bytes = bytes_of(page);
+        is_leaf(page)
+    }
+
     ghost reads_back = { point_leaf_in-page };
 }
 
@@ -101,6 +107,10 @@ impl TreePage for PointLeaf {
     ghost level_in = { λ _. 1 };
 
     fn level(&self) -> u8 {
+        1
+    }
+
+    fn level_on(_page: &Page) -> u8 {
         1
     }
 

@@ -1,6 +1,8 @@
 //! Whether two pages are the same.
-ghost use Rattle.std.specs.Prelude.{◌≡◌, ◌↔◌, IsTrue};
+ghost use Rattle.std.specs.Prelude.{◌≡◌, ◌↔◌, IsTrue, length};
+ghost use Rattle.page_layout.specs.Numbers.{zeros};
 
+use crate::number::skip;
 use page_ports::Page;
 
 /// Whether the bytes of two pages are the same.
@@ -8,4 +10,24 @@ pub(crate) fn are_same(page: &Page, other: &Page) -> bool
     ensures { IsTrue result ↔ (page.now ≡ other.now) }
 {
     page == other
+}
+
+fn are_equal(bytes: &[u8], other: &[u8]) -> bool
+    ensures { IsTrue result ↔ (bytes.now ≡ other.now) }
+{
+    bytes == other
+}
+
+/// Whether these bytes are all 0.
+pub(crate) fn are_zeros(bytes: &[u8]) -> bool
+    ensures { IsTrue result ↔ (bytes.now ≡ zeros (length bytes.now)) }
+{
+    if bytes.is_empty() {
+        return true;
+    }
+    if bytes[0] != 0 {
+        return false;
+    }
+    // Each byte is the one before it.
+    are_equal(skip(bytes, 1), &bytes[..bytes.len() - 1])
 }

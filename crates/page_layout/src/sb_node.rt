@@ -2,15 +2,17 @@
 ghost use Rattle.std.specs.Prelude.{refl, ◌<◌, IsTrue};
 ghost use Rattle.page_layout.specs.Children.{child_fits};
 ghost use Rattle.page_layout.specs.Counted.{not_free};
-ghost use Rattle.page_layout.specs.SbNode.{IsSbNode, IsTyped, sb_entry_bytes, sb_entry_at, IsSbEntryTyped, length-sb_entry, sb_entry-back, sb_node_in, sb_node_page};
+ghost use Rattle.page_layout.specs.SbNode.{IsSbNode, IsTyped, raised_entry, sb_entry_bytes, sb_entry_at, IsSbEntryTyped, length-sb_entry, sb_entry-back, sb_node_in, sb_node_page};
 ghost use Rattle.page_layout.specs.SbNodeLaws.{sb_node_in-page};
 
 use crate::children::child_fits;
 use crate::counted::{read_entries, write_counted};
 use crate::entry::{Entry, Own, are_in_order};
 use crate::front::{Front, put_u32, put_u64, put_u128};
-use crate::number::{number_u32, number_u64, number_u128, skip};
+use crate::number::{bytes_of, number_u32, number_u64, number_u128, skip};
+use crate::sb_view::is_node;
 use crate::spelled::{Spelled, TreePage};
+use crate::summed::Summed;
 use arrayvec::ArrayVec;
 use page_ports::Page;
 
@@ -76,6 +78,20 @@ impl Entry<Own> for SbEntry {
     ghost reads_back = { λ _ x rest typed _. sb_entry-back x rest typed };
 }
 
+impl Summed for SbEntry {
+    ghost value_of = { λ e. e.value };
+
+    ghost raised = { raised_entry };
+
+    fn value(&self) -> u128 {
+        self.value
+    }
+
+    fn raise(&mut self, more: u128) {
+        self.value = self.value.wrapping_add(more);
+    }
+}
+
 impl Spelled for SbNode {
     ghost keeps = { IsSbNode };
 
@@ -103,6 +119,11 @@ impl Spelled for SbNode {
             && are_in_order(self.level, self.entries.as_slice())
     }
 
+    fn is_spelled(page: &Page) -> bool {
+        let _bytes = bytes_of(page);
+        is_node(page)
+    }
+
     ghost reads_back = { sb_node_in-page };
 }
 
@@ -111,6 +132,10 @@ impl TreePage for SbNode {
 
     fn level(&self) -> u8 {
         self.level
+    }
+
+    fn level_on(page: &Page) -> u8 {
+        page[1]
     }
 
     ghost in_use = { λ _. not_free _ refl };

@@ -33,6 +33,20 @@ pub trait Spelled: Drop {
     fn keeps_rules(&self) -> bool
         ensures { IsTrue result ↔ keeps self.now };
 
+    /// Whether the page spells a value: that which it may spell keeps the rules, and the page is its spelling.
+    fn is_spelled(page: &Page) -> bool
+        ensures exact { IsTrue result ↔ (keeps (value_in page.now) × (page.now ≡ spelling (value_in page.now))) }
+        ensures typed { is_typed (value_in page.now) }
+    {
+        let value = Self::guess(page);
+        if !value.keeps_rules() {
+            return false;
+        }
+        let mut again = blank_page();
+        value.write(&mut again);
+        are_same(&again, page)
+    }
+
     ghost reads_back: { (x : Self) → is_typed x → keeps x → value_in (spelling x) ≡ x };
 
     /// The value that the page spells, or `None` exactly where it spells none.
@@ -42,16 +56,10 @@ pub trait Spelled: Drop {
         // Where the page is the spelling of a value, that value is read.
         ensures only { (value : Self) → is_typed value → keeps value → page.now ≡ spelling value → result ≡ Some value }
     {
-        let value = Self::guess(page);
-        if !value.keeps_rules() {
+        if !Self::is_spelled(page) {
             return None;
         }
-        let mut again = blank_page();
-        value.write(&mut again);
-        if !are_same(&again, page) {
-            return None;
-        }
-        Some(value)
+        Some(Self::guess(page))
     }
 
     /// Proves that no two values have one spelling; it does nothing when it runs.
@@ -68,6 +76,13 @@ pub trait TreePage: Spelled {
     /// The level; a leaf has level 1.
     fn level(&self) -> u8
         ensures { result ≡ level_in self.now };
+
+    /// The level of the value that the page may spell.
+    fn level_on(page: &Page) -> u8
+        ensures { result ≡ level_in (Self.value_in page.now) }
+    {
+        Self::guess(page).level()
+    }
 
     ghost in_use: { (x : Self) → slice_index (Self.spelling x) 0 ≢ FREE_PAGE };
 }

@@ -1,18 +1,12 @@
 -- The edits of entries in memory.
-use Rattle.std.proofs.Common.{◌≡◌, ◌≢◌, ℕ, zero, suc, ◌-◌, ◌%◌, ◌^◌, ◌<◌, ◌≤◌, inl, inr, List, [], ◌∷◌, ◌++◌, length, get_or, take, drop, refl, sym, ap, ◌∙◌, subst, arith, drop-cons, length-drop}
-use Rattle.std.specs.Prelude.{slice_set}
-use Rattle.std.specs.List.{All, sum_by}
+use Rattle.std.proofs.Common.{◌≡◌, ◌≢◌, ℕ, zero, suc, ◌-◌, ◌<◌, ◌≤◌, inl, inr, List, [], ◌∷◌, ◌++◌, length, get_or, take, drop, sym, ap, ◌∙◌, subst, arith, drop-cons}
+use Rattle.std.specs.List.{All}
 use Rattle.std.proofs.lemmas.Bool.{cases_lt}
-use Rattle.std.proofs.lemmas.List.{get_or-take, length-take, get_or_default, take-append-drop, take_all}
+use Rattle.std.proofs.lemmas.List.{get_or-take, length-take, get_or_default, take-append-drop}
 use Rattle.page_layout.specs.declared.sb_node.SbEntry.{SbEntry}
 use Rattle.sb_tree.specs.Cut.{IsCut}
-use Rattle.sb_tree.specs.Edits.{raised_entry, raised_first, leaf_entry, TakesIn, second_half}
+use Rattle.sb_tree.specs.Edits.{raised_entry, raised_first, leaf_entry, TakesIn}
 use Rattle.sb_tree.proofs.Order.{Ascends}
-
-pub set_raised : (es : List SbEntry) (k x : ℕ) (e : SbEntry) → k < length es → e ≡ get_or es k e → slice_set es k (raised_entry e x) ≡ take k es ++ raised_first (drop k es) x
-set_raised [] k x e h same = absurd (omega (arith, h))
-set_raised (f ∷ es) zero x e h same = ap (λ (g : SbEntry). raised_entry g x ∷ es) same
-set_raised (f ∷ es) (suc k) x e h same = ap (λ (gs : List SbEntry). f ∷ gs) (set_raised es k x e (omega (arith, h)) same)
 
 pub ascending_at : (es : List SbEntry) (i j : ℕ) (d : SbEntry) → Ascends es → i < j → j < length es → (get_or es i d).low < (get_or es j d).low
 ascending_at [] i j d a less h = absurd (omega (arith, h))
@@ -62,19 +56,3 @@ takes_in_old es new shown (suc k) v x d same some bound here made =
     let all : new ≡ take k es ++ (raised_entry (get_or es k d) x ∷ drop (suc k) es) =
     made ∙ ap (λ (i : ℕ). take i es ++ raised_first (drop i es) x) less ∙ ap (λ (xs : List SbEntry). take k es ++ raised_first xs x) rest in
     inl (take k es, get_or es k d, drop (suc k) es, whole, at, all)
-
-pub half_made : (es shown copied new : List SbEntry) (i total : ℕ) → shown ≡ es → length es ≡ 65 → length (take (length shown - 32) (drop 32 shown)) ≤ i
-    → copied ≡ take i (take (length shown - 32) (drop 32 shown)) → total ≡ sum_by (λ e. e.value) (take 32 shown) % 2 ^ 128
-    → new ≡ raised_first copied total → new ≡ second_half es
-half_made es shown copied new i total same long past all summed made =
-    let part : take (length shown - 32) (drop 32 shown) ≡ drop 32 shown = take_all (length shown - 32) (drop 32 shown) (omega (arith, length-drop 32 shown)) in
-    let whole : copied ≡ drop 32 es = all ∙ take_all i (take (length shown - 32) (drop 32 shown)) past ∙ part ∙ ap (drop 32) same in
-    made ∙ ap (λ (xs : List SbEntry). raised_first xs total) whole
-    ∙ ap (λ (n : ℕ). raised_first (drop 32 es) n) (summed ∙ ap (λ (xs : List SbEntry). sum_by (λ (e : SbEntry). e.value) (take 32 xs) % 2 ^ 128) same)
-
-raised_count : (es : List SbEntry) (x : ℕ) → length (raised_first es x) ≡ length es
-raised_count [] x = refl
-raised_count (e ∷ es) x = refl
-
-pub half_count : (es new : List SbEntry) → length es ≡ 65 → new ≡ second_half es → length new ≡ 33
-half_count es new long same = ap (λ (xs : List SbEntry). length xs) same ∙ raised_count (drop 32 es) _ ∙ (let e : length (drop 32 es) ≡ 33 = omega (arith, long, length-drop 32 es) in e)

@@ -1,26 +1,31 @@
 -- Freeing the pages of a tree one child after another.
-use Rattle.std.proofs.Common.{◌≡◌, ℕ, zero, suc, ◌+◌, ◌-◌, ◌<◌, ◌≤◌, ◌^◌, ◌==◌, Bool, true, false, inl, inr, List, [], ◌∷◌, ◌++◌, length, get_or, take, drop, map, Some, refl, sym, ap, ◌∙◌, subst, arith, drop-cons}
+use Rattle.std.proofs.Common.{◌≡◌, ℕ, zero, suc, ◌+◌, ◌-◌, ◌<◌, ◌≤◌, ◌^◌, ◌==◌, ◌||◌, ◌⊎◌, Bool, true, false, cond, inl, inr, List, [], ◌∷◌, ◌++◌, length, get_or, take, drop, map, Option, Some, None, IsSome, refl, sym, ap, ◌∙◌, subst, arith, drop-cons}
 use Rattle.std.proofs.Math.ListN.{get_or-map}
 use Rattle.std.specs.List.{flat_map}
-use Rattle.std.proofs.lemmas.Bool.{cases_eq, ne_eqb, or_from, or_parts}
+use Rattle.std.specs.Option.{option_map_or}
+use Rattle.std.proofs.lemmas.Bool.{cases_Bool, or_cases, or_left, or_right, or_parts, eq-eqb, eqb-true}
 use Rattle.std.proofs.lemmas.List.{take-append-drop, length-map, get_or_default}
 use Rattle.std.proofs.lemmas.List.Concat.{flat_map-append}
+use Rattle.std.proofs.lemmas.List.Sums.{sum_by-append, sum_by-cons}
 use Rattle.page_ports.specs.Pages.{PageMap}
-use Rattle.page_ports.specs.Frame.{names_page, AreApart, AgreeOn, Replaces}
-use Rattle.page_ports.specs.FrameLaws.{Replaces-beside}
-use Rattle.page_layout.specs.Footprint.{NamesNoneTwice}
-use Rattle.page_layout.specs.SbNode.{sb_node_page}
+use Rattle.page_ports.specs.Frame.{names_page, AgreeOn, AreInMap, Replaces}
+use Rattle.page_ports.specs.FrameLaws.{Replaces-beside, names_page-append}
+use Rattle.page_layout.specs.Footprint.{NamesNoneTwice, IsNamedTwice, times_named}
+use Rattle.page_layout.specs.SbNode.{sb_node_page, sb_node_in}
 use Rattle.page_layout.specs.declared.sb_node.SbNode.{SbNode}
 use Rattle.page_layout.specs.declared.sb_node.SbEntry.{SbEntry}
 use Rattle.bw_types.specs.declared.point.Point.{Point}
 use Rattle.bw_types.specs.declared.tree.Tree.{Tree}
-use Rattle.sb_tree.specs.Steps.{node_on, entries_on, pages_below}
+use Rattle.sb_tree.specs.Steps.{no_node, node_on, entries_on, pages_below, tree_pages}
 use Rattle.sb_tree.specs.Stands.{EachStands, first_low, StandsBelow, RootStands, SbStands}
-use Rattle.sb_tree.specs.Damage.{FitsLevel, IsDamagedFrom, IsDamagedInside}
+use Rattle.sb_tree.specs.Damage.{FitsLevel, IsDamagedFrom, IsDamagedInside, IsDamagedForFree}
 use Rattle.sb_tree.proofs.Nodes.{entries_on-spelled, same_spelled}
-use Rattle.sb_tree.proofs.Frames.{same_pages, agree_first, agree_rest, agree_left, agree_right}
-use Rattle.sb_tree.proofs.Footprints.{once_left, once_right, once_apart, apart_sym, named_by_neither, flat_more}
+use Rattle.sb_tree.proofs.Frames.{same_pages}
+use Rattle.sb_tree.proofs.Footprints.{flat_more}
 use Rattle.sb_tree.proofs.Sound.{level_where_stands}
+
+none_some : {bytes : List ℕ} → ◌≡◌ {A = Option (List ℕ)} None (Some bytes) → ⊥
+none_some e = cc
 
 -- the pages of an entry's child
 abbrev pub own_pages : ℕ → PageMap → SbEntry → List ℕ
@@ -47,98 +52,182 @@ flat_at f es i d h =
     let whole : es ≡ take i es ++ (get_or es i d ∷ drop (suc i) es) = sym (take-append-drop i es) ∙ ap (λ (xs : List SbEntry). take i es ++ xs) (drop-cons es i d h) in
     ap (flat_map f) whole ∙ flat_map-append f (take i es) (get_or es i d ∷ drop (suc i) es)
 
-differ : {b : Bool} → b ≡ false → b ≡ true → ⊥
-differ e f = cc
+-- A page that is left is as it was.
+pub left_agree : (pages freed : List ℕ) (m0 mi : PageMap) → Replaces freed [] m0 mi → AreInMap mi pages → AgreeOn pages mi m0
+left_agree pages freed m0 mi r there = λ p named. elim (cases_Bool (names_page freed p)) [
+  | inl gone ↦ let none : IsSome (mi p) = there p named in let is_none : mi p ≡ None = r.gone p gone refl in absurd cc
+  | inr left ↦ sym (r.others p left refl)
+]
 
-one_apart : (page : ℕ) (xs : List ℕ) → names_page xs page ≡ false → AreApart xs (page ∷ [])
-one_apart page xs none = λ p named. or_from (page == p) false (elim (cases_eq page p) [
-  | inl same ↦ absurd (differ (subst (λ (q : ℕ). names_page xs q ≡ false) same none) named)
-  | inr other ↦ ne_eqb page p other
-]) refl
+pub all_in_map : (xs ys : List ℕ) (map : PageMap) → AreInMap map xs → AreInMap map ys → AreInMap map (xs ++ ys)
+all_in_map xs ys map first rest = λ p named. elim (or_cases (names_page xs p) (names_page ys p) (sym (names_page-append xs ys p) ∙ named)) [
+  | inl here ↦ first p here
+  | inr there ↦ rest p there
+]
 
-pub piece_once : (f : SbEntry → List ℕ) (page : ℕ) (es : List SbEntry) (i : ℕ) (d : SbEntry) → i < length es → NamesNoneTwice (page ∷ flat_map f es)
-    → NamesNoneTwice (f (get_or es i d)) × AreApart (f (get_or es i d)) (page ∷ flat_map f (take i es))
-piece_once f page es i d h once =
-    let whole = flat_at f es i d h in
-    let all = subst NamesNoneTwice whole once.1 in
-    let rest = once_right (flat_map f (take i es)) (f (get_or es i d) ++ flat_map f (drop (suc i) es)) all in
-    let others = apart_sym (flat_map f (take i es)) (f (get_or es i d)) (λ p named. (named_by_neither (f (get_or es i d)) (flat_map f (drop (suc i) es)) p
-    (once_apart (flat_map f (take i es)) (f (get_or es i d) ++ flat_map f (drop (suc i) es)) all p named)).0) in
-    let first : names_page (f (get_or es i d) ++ flat_map f (drop (suc i) es)) page ≡ false = (named_by_neither (flat_map f (take i es)) (f (get_or es i d) ++ flat_map f (drop (suc i) es)) page
-    (subst (λ (ps : List ℕ). names_page ps page ≡ false) whole once.0)).1 in
-    let mine = (named_by_neither (f (get_or es i d)) (flat_map f (drop (suc i) es)) page first).0 in (
-      once_left (f (get_or es i d)) (flat_map f (drop (suc i) es)) rest,
-      λ p named. or_from (page == p) (names_page (flat_map f (take i es)) p) ((or_parts (page == p) false (one_apart page (f (get_or es i d)) mine p named)).0) (others p named),
-    )
-
--- A child not yet freed is as it was.
-pub child_agrees : (level page : ℕ) (m0 mi : PageMap) (es : List SbEntry) (i : ℕ) (d : SbEntry) → i < length es
-    → NamesNoneTwice (page ∷ flat_map (own_pages level m0) es)
-    → Replaces (page ∷ flat_map (own_pages level m0) (take i es)) [] m0 mi
-    → AgreeOn (own_pages level m0 (get_or es i d)) m0 mi
-child_agrees level page m0 mi es i d h once r = λ p named.
-    r.others p ((piece_once (own_pages level m0) page es i d h once).1 p named) refl
-
+-- one more child is freed
 pub free_step : (level page : ℕ) (m0 mi mj : PageMap) (es : List SbEntry) (i : ℕ) (d : SbEntry) → i < length es
-    → NamesNoneTwice (page ∷ flat_map (own_pages level m0) es)
     → Replaces (page ∷ flat_map (own_pages level m0) (take i es)) [] m0 mi
-    → (NamesNoneTwice (pages_below level mi (get_or es i d).child) → Replaces (pages_below level mi (get_or es i d).child) [] mi mj)
+    → AreInMap mi (pages_below level mi (get_or es i d).child)
+    → Replaces (pages_below level mi (get_or es i d).child) [] mi mj
     → Replaces (page ∷ flat_map (own_pages level m0) (take (i + 1) es)) [] m0 mj
-free_step level page m0 mi mj es i d h once r call =
-    let agree = child_agrees level page m0 mi es i d h once r in
-    let same : pages_below level mi (get_or es i d).child ≡ own_pages level m0 (get_or es i d) = same_pages level m0 mi (get_or es i d).child agree in
-    let mine = (piece_once (own_pages level m0) page es i d h once).0 in
-    let more = subst (λ (ps : List ℕ). Replaces ps [] mi mj) same (call (subst NamesNoneTwice (sym same) mine)) in
+free_step level page m0 mi mj es i d h r there call =
+    let agree = left_agree (pages_below level mi (get_or es i d).child) (page ∷ flat_map (own_pages level m0) (take i es)) m0 mi r there in
+    let same : own_pages level m0 (get_or es i d) ≡ pages_below level mi (get_or es i d).child = same_pages level mi m0 (get_or es i d).child agree in
+    let more = subst (λ (ps : List ℕ). Replaces ps [] mi mj) (sym same) call in
     let all = Replaces-beside (page ∷ flat_map (own_pages level m0) (take i es)) [] (own_pages level m0 (get_or es i d)) [] m0 mi mj r more in
     subst (λ (ps : List ℕ). Replaces (page ∷ ps) [] m0 mj) (sym (flat_more (own_pages level m0) es i d h)) all
 
--- Damage in a child shows through pages that agree.
-agree_nth : (level : ℕ) (a b : PageMap) (es : List SbEntry) (child k : ℕ) → k < length es → get_or (map (λ (e : SbEntry). e.child) es) k child ≡ child
-    → AgreeOn (flat_map (own_pages level a) es) a b → AgreeOn (pages_below level a child) a b
-agree_nth level a b [] child k h at agree = absurd (omega (arith, h))
-agree_nth level a b (e ∷ es) child zero h at agree =
-    subst (λ (c : ℕ). AgreeOn (pages_below level a c) a b) at (agree_left (own_pages level a e) (flat_map (own_pages level a) es) a b agree)
-agree_nth level a b (e ∷ es) child (suc k) h at agree =
-    agree_nth level a b es child k (omega (arith, h)) at (agree_right (own_pages level a e) (flat_map (own_pages level a) es) a b agree)
+pub there_step : (level page : ℕ) (m0 mi : PageMap) (es : List SbEntry) (i : ℕ) (d : SbEntry) → i < length es
+    → Replaces (page ∷ flat_map (own_pages level m0) (take i es)) [] m0 mi
+    → AreInMap m0 (page ∷ flat_map (own_pages level m0) (take i es))
+    → AreInMap mi (pages_below level mi (get_or es i d).child)
+    → AreInMap m0 (page ∷ flat_map (own_pages level m0) (take (i + 1) es))
+there_step level page m0 mi es i d h r before there =
+    let pages : List ℕ = pages_below level mi (get_or es i d).child in
+    let agree = left_agree pages (page ∷ flat_map (own_pages level m0) (take i es)) m0 mi r there in
+    let same : own_pages level m0 (get_or es i d) ≡ pages = same_pages level mi m0 (get_or es i d).child agree in
+    let mine : AreInMap m0 pages = λ p named. subst IsSome (sym (agree p named)) (there p named) in
+    let all = all_in_map (page ∷ flat_map (own_pages level m0) (take i es)) (own_pages level m0 (get_or es i d)) m0 before (subst (λ (ps : List ℕ). AreInMap m0 ps) (sym same) mine) in
+    subst (λ (ps : List ℕ). AreInMap m0 (page ∷ ps)) (sym (flat_more (own_pages level m0) es i d h)) all
 
-pub damage_same : (level : ℕ) (a b : PageMap) (page damaged : ℕ) → AgreeOn (pages_below level a page) a b → IsDamagedFrom b level page damaged → IsDamagedFrom a level page damaged
-damage_same zero a b page damaged agree d = d
-damage_same (suc level) a b page damaged agree (inl d) =
-    let all = subst (λ (ps : List ℕ). AgreeOn ps a b) (pages-step level a page) agree in
-    let here = agree_first page (flat_map (own_pages level a) (entries_on a page)) a b all in
-    inl (d.0, λ node bytes there. d.1 node bytes (here ∙ there))
-damage_same (suc level) a b page damaged agree (inr d) =
-    let all = subst (λ (ps : List ℕ). AgreeOn ps a b) (pages-step level a page) agree in
-    let here = agree_first page (flat_map (own_pages level a) (entries_on a page)) a b all in
-    let rest = agree_rest page (flat_map (own_pages level a) (entries_on a page)) a b all in
-    let there : a page ≡ Some d.1 = sym here ∙ d.4 in
-    let entries : entries_on a page ≡ d.0.entries.items = entries_on-spelled a page d.0 d.5.typed d.5.rules (there ∙ ap (λ (bytes : List ℕ). Some bytes) d.5.spelled) in
-    let child = agree_nth level a b (entries_on a page) d.2 d.6.0
-    (subst (λ (es : List SbEntry). d.6.0 < length es) (sym entries) (omega (arith, d.6.1, length-map d.0.entries.items (λ (e : SbEntry). e.child))))
-    (ap (λ (es : List SbEntry). get_or (map (λ (e : SbEntry). e.child) es) d.6.0 d.2) entries ∙ d.6.2) rest in
-    inr (d.0, d.1, d.2, d.3, there, d.5, d.6, damage_same level a b d.2 damaged child d.7)
+-- A page is named as often as by the parts.
+pub times_append : (xs ys : List ℕ) (p : ℕ) → times_named (xs ++ ys) p ≡ times_named xs p + times_named ys p
+times_append xs ys p = sum_by-append (λ (x : ℕ). cond (x == p) 1 0) xs ys
+
+abbrev one_if : Bool → ℕ
+one_if b = cond b 1 0
+
+times_cons : (x : ℕ) (xs : List ℕ) (p : ℕ) → times_named (x ∷ xs) p ≡ cond (x == p) 1 0 + times_named xs p
+times_cons x xs p = sum_by-cons (λ (y : ℕ). cond (y == p) 1 0) x xs
+
+pub named_once : (xs : List ℕ) (p : ℕ) → names_page xs p ≡ true → 1 ≤ times_named xs p
+named_once [] p named = absurd cc
+named_once (x ∷ xs) p named = elim (cases_Bool (x == p)) [
+  | inl here ↦ omega (arith, times_cons x xs p, ap one_if here)
+  | inr other ↦
+      let rest : names_page xs p ≡ true = sym (ap (λ (b : Bool). b || names_page xs p) other) ∙ named in
+      omega (arith, times_cons x xs p, named_once xs p rest)
+]
+
+unnamed : (xs : List ℕ) (p : ℕ) → names_page xs p ≡ false → times_named xs p ≡ 0
+unnamed [] p none = refl
+unnamed (x ∷ xs) p none =
+    let parts = or_parts (x == p) (names_page xs p) none in
+    omega (arith, times_cons x xs p, ap one_if parts.0, unnamed xs p parts.1)
+
+pub not_twice : (xs : List ℕ) (p : ℕ) → NamesNoneTwice xs → times_named xs p ≤ 1
+not_twice [] p once = omega arith
+not_twice (x ∷ xs) p once = elim (cases_Bool (x == p)) [
+  | inl here ↦
+      let none : names_page xs p ≡ false = subst (λ (q : ℕ). names_page xs q ≡ false) (eqb-true x p here) once.0 in
+      omega (arith, times_cons x xs p, ap one_if here, unnamed xs p none)
+  | inr other ↦ omega (arith, times_cons x xs p, ap one_if other, not_twice xs p once.1)
+]
+
+-- A map that lost pages names no page more often.
+flat_fewer : (level : ℕ) (m0 mi : PageMap) (p : ℕ) → ((page : ℕ) → times_named (pages_below level mi page) p ≤ times_named (pages_below level m0 page) p)
+    → (es : List SbEntry) → times_named (flat_map (own_pages level mi) es) p ≤ times_named (flat_map (own_pages level m0) es) p
+flat_fewer level m0 mi p fewer [] = omega arith
+flat_fewer level m0 mi p fewer (e ∷ es) =
+    omega (
+      arith,
+      times_append (own_pages level mi e) (flat_map (own_pages level mi) es) p,
+      times_append (own_pages level m0 e) (flat_map (own_pages level m0) es) p,
+      fewer e.child,
+      flat_fewer level m0 mi p fewer es,
+    )
+
+pub fewer_named : (level : ℕ) (freed : List ℕ) (m0 mi : PageMap) (p page : ℕ) → Replaces freed [] m0 mi
+    → times_named (pages_below level mi page) p ≤ times_named (pages_below level m0 page) p
+fewer_named zero freed m0 mi p page r = omega arith
+fewer_named (suc level) freed m0 mi p page r =
+    let first = ap (λ (ps : List ℕ). times_named ps p) (pages-step level mi page) ∙ times_cons page (flat_map (own_pages level mi) (entries_on mi page)) p in
+    let second = ap (λ (ps : List ℕ). times_named ps p) (pages-step level m0 page) ∙ times_cons page (flat_map (own_pages level m0) (entries_on m0 page)) p in
+    elim (cases_Bool (names_page freed page)) [
+      | inl gone ↦
+          let none : entries_on mi page ≡ [] = ap (λ (o : Option (List ℕ)). (option_map_or sb_node_in o no_node).entries.items) (r.gone page gone refl) in
+          omega (arith, first, second, ap (λ (es : List SbEntry). times_named (flat_map (own_pages level mi) es) p) none)
+      | inr left ↦
+          let same : entries_on mi page ≡ entries_on m0 page = ap (λ (o : Option (List ℕ)). (option_map_or sb_node_in o no_node).entries.items) (r.others page left refl) in
+          omega (
+            arith,
+            first,
+            second,
+            ap (λ (es : List SbEntry). times_named (flat_map (own_pages level mi) es) p) same,
+            flat_fewer level m0 mi p (λ q. fewer_named level freed m0 mi p q r) (entries_on m0 page),
+          )
+    ]
+
+-- A page below a child is a page below its parent.
+named_child : (level : ℕ) (map0 : PageMap) (p : ℕ) (es : List SbEntry) (child k : ℕ) → k < length es → get_or (map (λ (e : SbEntry). e.child) es) k child ≡ child
+    → names_page (pages_below level map0 child) p ≡ true → names_page (flat_map (own_pages level map0) es) p ≡ true
+named_child level map0 p [] child k h at named = absurd (omega (arith, h))
+named_child level map0 p (e ∷ es) child zero h at named =
+    names_page-append (own_pages level map0 e) (flat_map (own_pages level map0) es) p
+    ∙ or_left _ _ (ap (λ (c : ℕ). names_page (pages_below level map0 c) p) at ∙ named)
+named_child level map0 p (e ∷ es) child (suc k) h at named =
+    names_page-append (own_pages level map0 e) (flat_map (own_pages level map0) es) p
+    ∙ or_right _ _ (named_child level map0 p es child k (omega (arith, h)) at named)
+
+-- What is damaged in a map that lost pages was damaged before, or is one of those that are lost.
+pub damage_left : (level : ℕ) (freed : List ℕ) (m0 mi : PageMap) (page damaged : ℕ) → Replaces freed [] m0 mi → IsDamagedFrom mi level page damaged
+    → IsDamagedFrom m0 level page damaged ⊎ ((names_page freed damaged ≡ true) × (names_page (pages_below level m0 page) damaged ≡ true))
+damage_left zero freed m0 mi page damaged r d = absurd d
+damage_left (suc level) freed m0 mi page damaged r (inl d) = elim (cases_Bool (names_page freed page)) [
+  | inl gone ↦ inr (
+    subst (λ (q : ℕ). names_page freed q ≡ true) (sym d.0) gone,
+    ap (λ (ps : List ℕ). names_page ps damaged) (pages-step level m0 page) ∙ or_left (page == damaged) _ (eq-eqb page damaged (sym d.0)),
+  )
+  | inr left ↦ inl (inl (d.0, λ node bytes there. d.1 node bytes (r.others page left refl ∙ there)))
+]
+damage_left (suc level) freed m0 mi page damaged r (inr (inl d)) = absurd d.4
+damage_left (suc level) freed m0 mi page damaged r (inr (inr d)) =
+    let left : names_page freed page ≡ false = elim (cases_Bool (names_page freed page)) [
+      | inl gone ↦ absurd (none_some (sym (r.gone page gone refl) ∙ d.4))
+      | inr left ↦ left
+    ] in
+    let there : m0 page ≡ Some d.1 = sym (r.others page left refl) ∙ d.4 in
+    let entries : entries_on m0 page ≡ d.0.entries.items = entries_on-spelled m0 page d.0 d.5.typed d.5.rules (there ∙ ap (λ (bytes : List ℕ). Some bytes) d.5.spelled) in
+    elim (damage_left level freed m0 mi d.2 damaged r d.7) [
+      | inl below ↦ inl (inr (inr (d.0, d.1, d.2, d.3, there, d.5, d.6, below)))
+      | inr both ↦ inr (
+        both.0,
+        ap (λ (ps : List ℕ). names_page ps damaged) (pages-step level m0 page)
+            ∙ or_right (page == damaged) _ (named_child level m0 damaged (entries_on m0 page) d.2 d.6.0
+            (subst (λ (es : List SbEntry). d.6.0 < length es) (sym entries) (omega (arith, d.6.1, length-map d.0.entries.items (λ (e : SbEntry). e.child))))
+            (ap (λ (es : List SbEntry). get_or (map (λ (e : SbEntry). e.child) es) d.6.0 d.2) entries ∙ d.6.2) both.1),
+      )
+    ]
 
 pub damaged_child : (level : ℕ) (m0 mi : PageMap) (page damaged : ℕ) (node : SbNode) (es : List SbEntry) (i : ℕ) (d : SbEntry) → 1 ≤ level
     → m0 page ≡ Some (sb_node_page node) → FitsLevel level node (sb_node_page node) → es ≡ node.entries.items → i < length es
-    → NamesNoneTwice (page ∷ flat_map (own_pages (level - 1) m0) es)
     → Replaces (page ∷ flat_map (own_pages (level - 1) m0) (take i es)) [] m0 mi
-    → (NamesNoneTwice (pages_below (level - 1) mi (get_or es i d).child) → IsDamagedFrom mi (level - 1) (get_or es i d).child damaged)
-    → IsDamagedFrom m0 level page damaged
-damaged_child zero m0 mi page damaged node es i d some there fits same h once r call = absurd (omega (arith, some))
-damaged_child (suc level) m0 mi page damaged node es i d some there fits same h once r call =
+    → IsDamagedFrom mi (level - 1) (get_or es i d).child damaged ⊎ IsNamedTwice (pages_below (level - 1) mi (get_or es i d).child) damaged
+    → IsDamagedFrom m0 level page damaged ⊎ IsNamedTwice (pages_below level m0 page) damaged
+damaged_child zero m0 mi page damaged node es i d some there fits same h r call = absurd (omega (arith, some))
+damaged_child (suc level) m0 mi page damaged node es i d some there fits same h r call =
     let less : suc level - 1 ≡ level = omega arith in
     let c : ℕ = (get_or es i d).child in
-    let once1 = subst (λ (l : ℕ). NamesNoneTwice (page ∷ flat_map (own_pages l m0) es)) less once in
     let r1 = subst (λ (l : ℕ). Replaces (page ∷ flat_map (own_pages l m0) (take i es)) [] m0 mi) less r in
-    let call1 = subst (λ (l : ℕ). NamesNoneTwice (pages_below l mi c) → IsDamagedFrom mi l c damaged) less call in
-    let agree = child_agrees level page m0 mi es i d h once1 r1 in
-    let pages : pages_below level mi c ≡ pages_below level m0 c = same_pages level m0 mi c agree in
-    let mine = (piece_once (own_pages level m0) page es i d h once1).0 in
-    let below = damage_same level m0 mi c damaged agree (call1 (subst NamesNoneTwice (sym pages) mine)) in
+    let call1 = subst (λ (l : ℕ). IsDamagedFrom mi l c damaged ⊎ IsNamedTwice (pages_below l mi c) damaged) less call in
+    let f : SbEntry → List ℕ = own_pages level m0 in
+    let freed : List ℕ = page ∷ flat_map f (take i es) in
     let bound : i < length (map (λ (e : SbEntry). e.child) node.entries.items) = subst (λ (xs : List SbEntry). i < length (map (λ (e : SbEntry). e.child) xs)) same (omega (arith, h, length-map es (λ (e : SbEntry). e.child))) in
     let at : get_or (map (λ (e : SbEntry). e.child) node.entries.items) i c ≡ c = ap (λ (xs : List SbEntry). get_or (map (λ (e : SbEntry). e.child) xs) i c) (sym same)
     ∙ get_or_default (map (λ (e : SbEntry). e.child) es) i c d.child (omega (arith, h, length-map es (λ (e : SbEntry). e.child))) ∙ get_or-map (λ (e : SbEntry). e.child) es i d in
-    inr (node, sb_node_page node, c, tt, there, fits, (i, bound, at), below)
+    let whole : pages_below (suc level) m0 page ≡ freed ++ (f (get_or es i d) ++ flat_map f (drop (suc i) es)) =
+    pages-step level m0 page ∙ ap (λ (xs : List SbEntry). page ∷ flat_map f xs) (entries_on-spelled m0 page node fits.typed fits.rules there ∙ sym same) ∙ ap (λ (ps : List ℕ). page ∷ ps) (flat_at f es i d h) in
+    let times : times_named (pages_below (suc level) m0 page) damaged ≡ times_named freed damaged + (times_named (f (get_or es i d)) damaged + times_named (flat_map f (drop (suc i) es)) damaged) =
+    ap (λ (ps : List ℕ). times_named ps damaged) whole ∙ times_append freed (f (get_or es i d) ++ flat_map f (drop (suc i) es)) damaged
+    ∙ ap (λ (n : ℕ). times_named freed damaged + n) (times_append (f (get_or es i d)) (flat_map f (drop (suc i) es)) damaged) in
+    elim call1 [
+      | inl inside ↦ elim (damage_left level freed m0 mi c damaged r1 inside) [
+        | inl below ↦ inl (inr (inr (node, sb_node_page node, c, tt, there, fits, (i, bound, at), below)))
+        | inr both ↦ inr (omega (arith, times, named_once freed damaged both.0, named_once (f (get_or es i d)) damaged both.1))
+      ]
+      | inr twice ↦ inr (omega (arith, times, twice, fewer_named level freed m0 mi damaged c r1))
+    ]
 
 pub damaged_itself : (level : ℕ) (pages : PageMap) (page damaged : ℕ) → 1 ≤ level → damaged ≡ page
     → ((node : SbNode) (bytes : List ℕ) → pages page ≡ Some bytes → FitsLevel level node bytes → ⊥) → IsDamagedFrom pages level page damaged
@@ -155,10 +244,12 @@ each_nth stands (e ∷ es) high child (suc k) h at each = each_nth stands es hig
 pub undamaged_inside : (level : ℕ) (pages : PageMap) (page low high least damaged : ℕ) → StandsBelow level pages page low high least → IsDamagedFrom pages level page damaged → ⊥
 undamaged_inside zero pages page low high least damaged s d = d
 undamaged_inside (suc zero) pages page low high least damaged s (inl d) = d.1 (node_on pages page) (sb_node_page (node_on pages page)) s.spelled (level_where_stands pages 1 page low high least s)
-undamaged_inside (suc zero) pages page low high least damaged s (inr d) = d.7
+undamaged_inside (suc zero) pages page low high least damaged s (inr (inl d)) = d.4
+undamaged_inside (suc zero) pages page low high least damaged s (inr (inr d)) = d.7
 undamaged_inside (suc (suc level)) pages page low high least damaged s (inl d) =
     d.1 (node_on pages page) (sb_node_page (node_on pages page)) s.0.spelled (level_where_stands pages (suc (suc level)) page low high least s.0)
-undamaged_inside (suc (suc level)) pages page low high least damaged s (inr d) =
+undamaged_inside (suc (suc level)) pages page low high least damaged s (inr (inl d)) = d.4
+undamaged_inside (suc (suc level)) pages page low high least damaged s (inr (inr d)) =
     let l : ℕ = suc (suc level) in
     let same : node_on pages page ≡ d.0 = same_spelled pages page (node_on pages page) d.0 d.1 l l s.0.spelled (level_where_stands pages l page low high least s.0) d.4 d.5 in
     let at = each_nth (λ child from to. StandsBelow (suc level) pages child from to 32) (entries_on pages page) high d.2 d.6.0
@@ -170,5 +261,9 @@ root_undamaged_inside : (levels : ℕ) (pages : PageMap) (root damaged : ℕ) �
 root_undamaged_inside zero pages root damaged s d = d
 root_undamaged_inside (suc level) pages root damaged s d = undamaged_inside (suc level) pages root 0 (2 ^ 32) 1 damaged s d
 
-pub tree_undamaged_inside : (pages : PageMap) (tree : Tree) (points : List Point) (damaged : ℕ) → SbStands pages tree points → IsDamagedInside pages tree damaged → ⊥
+tree_undamaged_inside : (pages : PageMap) (tree : Tree) (points : List Point) (damaged : ℕ) → SbStands pages tree points → IsDamagedInside pages tree damaged → ⊥
 tree_undamaged_inside pages tree points damaged s d = root_undamaged_inside tree.levels pages tree.root damaged s.nodes d
+
+pub tree_undamaged_for_free : (pages : PageMap) (tree : Tree) (points : List Point) (damaged : ℕ) → SbStands pages tree points → IsDamagedForFree pages tree damaged → ⊥
+tree_undamaged_for_free pages tree points damaged s (inl d) = tree_undamaged_inside pages tree points damaged s d
+tree_undamaged_for_free pages tree points damaged s (inr twice) = absurd (omega (arith, twice, not_twice (tree_pages pages tree) damaged s.once))

@@ -20,3 +20,4 @@ pub mod Standing
 pub mod Storing
 pub mod Totals
 pub mod Values
+pub mod InPlace

@@ -3,7 +3,7 @@ use Rattle.std.proofs.Common.{◌≡◌, ℕ, zero, suc, ◌<◌, ◌≤◌, ◌
 use Rattle.bw_types.specs.declared.point.Point.{Point}
 use Rattle.bw_types.specs.declared.tree.Tree.{Tree}
 use Rattle.page_ports.specs.Pages.{PageMap}
-use Rattle.page_layout.specs.Damage.{IsDamagedBelow}
+use Rattle.page_layout.specs.Damage.{IsDamagedBelow, NothingBeside}
 use Rattle.page_layout.specs.SbNode.{sb_node_page}
 use Rattle.page_layout.specs.declared.sb_node.SbNode.{SbNode}
 use Rattle.page_layout.specs.declared.sb_node.SbEntry.{SbEntry}
@@ -51,21 +51,23 @@ inner_stands pages stands level page least child place inner node s each from be
     (at3, omega (arith, low_is, leads.sought, p.3.here), omega (arith, high_is, leads.sought, first_low-later p.2 v place.high p.3.later below))
 
 pub undamaged : (level : ℕ) (pages : PageMap) (page least damaged : ℕ) (place : Place) → StandsBelow level pages page place.low place.high least
-    → place.low ≤ place.sought → place.sought < place.high → IsDamagedBelow FitsPlace LeadsTo pages level place page damaged → ⊥
+    → place.low ≤ place.sought → place.sought < place.high → IsDamagedBelow FitsPlace LeadsTo NothingBeside pages level place page damaged → ⊥
 undamaged zero pages page least damaged place s from below d = d
 undamaged (suc zero) pages page least damaged place s from below (inl d) =
     d.1 (node_on pages page) (sb_node_page (node_on pages page)) s.spelled (fits_where_stands pages 1 page least place s from)
-undamaged (suc zero) pages page least damaged place s from below (inr d) = d.7
+undamaged (suc zero) pages page least damaged place s from below (inr (inl d)) = d.4
+undamaged (suc zero) pages page least damaged place s from below (inr (inr d)) = d.7
 undamaged (suc (suc level)) pages page least damaged place s from below (inl d) =
     d.1 (node_on pages page) (sb_node_page (node_on pages page)) s.0.spelled (fits_where_stands pages (suc (suc level)) page least place s.0 from)
-undamaged (suc (suc level)) pages page least damaged place s from below (inr d) =
+undamaged (suc (suc level)) pages page least damaged place s from below (inr (inl d)) = d.4
+undamaged (suc (suc level)) pages page least damaged place s from below (inr (inr d)) =
     let l : ℕ = suc (suc level) in
     let same : node_on pages page ≡ d.0 = same_spelled pages page (node_on pages page) d.0 d.1 l l s.0.spelled (level_where_stands pages l page place.low place.high least s.0) d.4 d.5.fits in
     let inner = inner_stands pages (λ child from to. StandsBelow (suc level) pages child from to 32) l page least d.2 place d.3 d.0 s.0 s.1 from below (sym same) d.6 in
     undamaged (suc level) pages d.2 32 damaged d.3 inner.0 inner.1 inner.2 d.7
 
 root_undamaged : (levels : ℕ) (pages : PageMap) (root version damaged : ℕ) → RootStands levels pages root → version < 2 ^ 32
-    → IsDamagedBelow FitsPlace LeadsTo pages levels (root_place version) root damaged → ⊥
+    → IsDamagedBelow FitsPlace LeadsTo NothingBeside pages levels (root_place version) root damaged → ⊥
 root_undamaged zero pages root version damaged s fits d = d
 root_undamaged (suc levels) pages root version damaged s fits d =
     undamaged (suc levels) pages root 1 damaged (root_place version) s (omega arith) fits d

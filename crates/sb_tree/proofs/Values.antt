@@ -3,7 +3,8 @@ use Rattle.std.proofs.Common.{◌≡◌, ◌≢◌, ℕ, zero, suc, ◌+◌, ◌
 use Rattle.std.specs.List.{sum_by}
 use Rattle.std.proofs.Math.Nat.{add-mod-mod, mod-add-mod}
 use Rattle.page_ports.specs.Pages.{PageMap}
-use Rattle.page_layout.specs.Damage.{HoldsNoNode, IsDamagedBelow}
+use Rattle.page_layout.specs.Damage.{HoldsNoNode, IsDamagedBelow, NothingBeside}
+use Rattle.page_layout.specs.DamageLaws as laws
 use Rattle.page_layout.specs.declared.sb_node.SbNode.{SbNode}
 use Rattle.page_layout.specs.declared.sb_node.SbEntry.{SbEntry}
 use Rattle.page_layout.specs.SbNode.{sb_node_page}
@@ -55,19 +56,15 @@ index_value pages level page v k value below child node entries same some there 
 
 -- The node itself is damaged.
 pub damaged_here : (pages : PageMap) (level page : ℕ) (place : Place) (damaged : ℕ) → 1 ≤ level → damaged ≡ page
-    → HoldsNoNode FitsPlace pages level place page → IsDamagedBelow FitsPlace LeadsTo pages level place page damaged
-damaged_here pages zero page place damaged some same none = absurd (omega arith)
-damaged_here pages (suc level) page place damaged some same none = inl (same, none)
+    → HoldsNoNode FitsPlace pages level place page → IsDamagedBelow FitsPlace LeadsTo NothingBeside pages level place page damaged
+damaged_here pages level page place damaged some same none = laws.damaged_here FitsPlace LeadsTo NothingBeside pages level place page damaged some same none
 
 -- A node below it is damaged.
 pub damaged_further : (pages : PageMap) (level page child : ℕ) (place inner : Place) (node : SbNode) (damaged : ℕ) → 1 ≤ level
     → pages page ≡ Some (sb_node_page node) → FitsPlace level place node (sb_node_page node) → LeadsTo place node child inner
-    → IsDamagedBelow FitsPlace LeadsTo pages (level - 1) inner child damaged → IsDamagedBelow FitsPlace LeadsTo pages level place page damaged
-damaged_further pages zero page child place inner node damaged some there fits leads below = absurd (omega arith)
-damaged_further pages (suc level) page child place inner node damaged some there fits leads below =
-    let less : suc level - 1 ≡ level = omega arith in
-    let more = subst (λ (n : ℕ). IsDamagedBelow FitsPlace LeadsTo pages n inner child damaged) less below in
-    inr (node, sb_node_page node, child, inner, there, fits, leads, more)
+    → IsDamagedBelow FitsPlace LeadsTo NothingBeside pages (level - 1) inner child damaged → IsDamagedBelow FitsPlace LeadsTo NothingBeside pages level place page damaged
+damaged_further pages level page child place inner node damaged some there fits leads below =
+    laws.damaged_further FitsPlace LeadsTo NothingBeside pages level place page damaged node (sb_node_page node) child inner some there fits leads below
 
 -- The child at the cut, with its place, is where the node leads to.
 pub leads_at_cut : (place inner : Place) (node : SbNode) (entries : List SbEntry) (k child : ℕ) → entries ≡ node.entries.items

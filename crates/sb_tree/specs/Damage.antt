@@ -3,14 +3,15 @@ use Rattle.std.specs.Prelude.{◌≡◌, ℕ, zero, suc, ◌⊎◌, ◌<◌, ◌
 use Rattle.std.specs.List.{All, list_any}
 use Rattle.bw_types.specs.declared.tree.Tree.{Tree}
 use Rattle.page_ports.specs.Pages.{PageMap}
-use Rattle.page_layout.specs.Damage.{IsDamagedBelow}
+use Rattle.page_layout.specs.Damage.{IsDamagedBelow, NothingBeside}
+use Rattle.page_layout.specs.Footprint.{IsNamedTwice}
 use Rattle.page_layout.specs.TreePage as tree_page
 use Rattle.page_layout.specs.declared.spelled.Spelled.{Ghosts}
 use Rattle.page_layout.specs.SbNode.{IsSbNode, IsTyped, sb_node_page, sb_node_in}
 use Rattle.page_layout.specs.declared.sb_node.SbNode.{SbNode}
 use Rattle.page_layout.specs.declared.sb_node.SbEntry.{SbEntry}
 use Rattle.sb_tree.specs.declared.place.Place.{Place}
-use Rattle.sb_tree.specs.Steps.{entries_on, child_at}
+use Rattle.sb_tree.specs.Steps.{entries_on, child_at, tree_pages}
 use Rattle.sb_tree.specs.Stands.{first_low}
 
 -- what pages spell as nodes
@@ -55,17 +56,22 @@ root_place version = record { low = 0; high = 2 ^ 32; sought = version }
 
 -- The page is the first on the way from the root to a version that holds no fitting node.
 abbrev pub IsDamagedOnPath : PageMap → Tree → ℕ → ℕ → Type 0
-IsDamagedOnPath pages tree version damaged = IsDamagedBelow FitsPlace LeadsTo pages tree.levels (root_place version) tree.root damaged
+IsDamagedOnPath pages tree version damaged = IsDamagedBelow FitsPlace LeadsTo NothingBeside pages tree.levels (root_place version) tree.root damaged
 
 -- The page is one of those from this page of the level down that holds no node of its level.
 abbrev pub IsDamagedFrom : PageMap → ℕ → ℕ → ℕ → Type 0
 IsDamagedFrom pages level page damaged =
     IsDamagedBelow {N = SbNode} {P = Unit {0}} (λ level _ node bytes. FitsLevel level node bytes)
-    (λ _ node child _. Contains (map (λ (e : SbEntry). e.child) node.entries.items) child) pages level tt page damaged
+    (λ _ node child _. Contains (map (λ (e : SbEntry). e.child) node.entries.items) child) NothingBeside pages level tt page damaged
 
 -- The page is one of those from the root down that holds no node of its level.
 abbrev pub IsDamagedInside : PageMap → Tree → ℕ → Type 0
 IsDamagedInside pages tree damaged = IsDamagedFrom pages tree.levels tree.root damaged
+
+-- What freeing a tree may call damaged: a page that holds no node of its level, or one that is named twice, so
+-- that it is gone when it is reached again.
+abbrev pub IsDamagedForFree : PageMap → Tree → ℕ → Type 0
+IsDamagedForFree pages tree damaged = IsDamagedInside pages tree damaged ⊎ IsNamedTwice (tree_pages pages tree) damaged
 
 -- An addition at the version would split the page: each node on the way down is full, and no entry of the
 -- leaf begins at the version.

@@ -1,17 +1,14 @@
 -- How an addition changes the entries of a node.
-use Rattle.std.specs.Prelude.{◌≡◌, ℕ, zero, suc, ◌+◌, ◌%◌, ◌^◌, ◌<◌, ◌⊎◌, List, [], ◌∷◌, ◌++◌, take, drop, Option, Some, None}
+use Rattle.std.specs.Prelude.{◌≡◌, ℕ, zero, suc, ◌%◌, ◌^◌, ◌<◌, ◌⊎◌, List, [], ◌∷◌, ◌++◌, take, drop, Option, Some, None}
 use Rattle.std.specs.List.{All, sum_by}
+pub use Rattle.page_layout.specs.SbNode.{raised_entry}
+use Rattle.page_layout.specs.Summed as summed
 use Rattle.page_layout.specs.declared.sb_node.SbEntry.{SbEntry}
 use Rattle.sb_tree.specs.declared.second.Second.{Second}
 
--- the entry with so much more, modulo 2^128
-abbrev pub raised_entry : SbEntry → ℕ → SbEntry
-raised_entry e more = record { low = e.low; value = (e.value + more) % 2 ^ 128; child = e.child }
-
 -- the entries with so much more in the first, where there is one
 abbrev pub raised_first : List SbEntry → ℕ → List SbEntry
-raised_first [] more = []
-raised_first (e ∷ entries) more = raised_entry e more ∷ entries
+raised_first entries more = summed.raised_first raised_entry entries more
 
 -- a new entry of a leaf
 abbrev pub leaf_entry : ℕ → ℕ → SbEntry

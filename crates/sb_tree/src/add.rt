@@ -3,8 +3,9 @@ ghost use Rattle.std.specs.Prelude.{◌≡◌, ◌≢◌, ◌+◌, ◌<◌, ◌�
 ghost use Rattle.bw_types.specs.declared.point.Point.{Point};
 ghost use Rattle.page_ports.specs.Calls.{Grows};
 ghost use Rattle.page_ports.specs.Frame.{Replaces};
-ghost use Rattle.page_layout.specs.Damage.{IsDamagedBelow};
+ghost use Rattle.page_layout.specs.Damage.{IsDamagedBelow, NothingBeside};
 ghost use Rattle.page_layout.specs.Footprint.{NamesNoneTwice};
+ghost use Rattle.page_layout.specs.TreeValue.{IsTreeTyped, plain_tree_fits};
 ghost use Rattle.sb_tree.specs.Damage.{FitsPlace, IsDamagedForAdd, IsFullBelow, LeadsTo};
 ghost use Rattle.sb_tree.specs.Edits.{first_entries, leaf_entry as spec_leaf_entry, root_entries};
 ghost use Rattle.sb_tree.specs.Raised.{IsRaised, SecondFits, WasFull};
@@ -48,6 +49,10 @@ pub fn sb_add<S: Stage>(
         → Replaces (tree_pages (S.map stage.old) tree.old) (tree_pages (S.map stage.new) tree.new)
         (S.map stage.old) (S.map stage.new)) }
     ensures count { OnOk result (tree.new.count ≡ tree.old.count + 1) }
+    // What a page may spell before, it may spell afterwards, whatever the pages hold.
+    ensures rules { OnOk result (IsTrue (plain_tree_fits tree.old) → IsTrue (plain_tree_fits tree.new)) }
+    ensures typed { IsTreeTyped tree.new }
+    ensures beside { (tree.new.changes ≡ tree.old.changes) × (tree.new.last ≡ tree.old.last) }
     ensures unchanged { OnErr result (tree.new ≡ tree.old) }
     ensures damaged { (page : ℕ) → result ≡ Err (StageFault.Damaged page) → IsTrue (S.tells stage.old)
         → IsDamagedForAdd (S.map stage.old) (S.free_in_order stage.old) tree.old version page }
@@ -115,7 +120,7 @@ fn add_below<S: Stage>(
     ensures full { IfOk result (λ second. IsTrue (S.tells stage.old) → WasFull second (IsFullBelow level (S.map stage.old) page place.sought)) }
     ensures level { OnOk result (level ≤ 16) }
     ensures damaged { (damaged : ℕ) → result ≡ Err (StageFault.Damaged damaged) → IsTrue (S.tells stage.old)
-        → IsDamagedBelow FitsPlace LeadsTo (S.map stage.old) level place page damaged ⊎ (¬ S.free_in_order stage.old) }
+        → IsDamagedBelow FitsPlace LeadsTo NothingBeside (S.map stage.old) level place page damaged ⊎ (¬ S.free_in_order stage.old) }
     ensures grows { Grows S.Pages level stage.old stage.new result }
 {
     let mut node: SbNode = read_in_place(stage, page, level, place)?;
@@ -134,6 +139,7 @@ fn add_below<S: Stage>(
 
 // A leaf of one addition.
 fn first_leaf<S: Stage>(stage: &mut S, version: u32, value: u128) -> Result<u64, StageFault>
+    ensures number { IfOk result (λ page. 3 ≤ page) }
     ensures made { IfOk result (λ page. IsTrue (S.tells stage.old) → (S.map stage.old page ≡ None)
         × (S.map stage.new page ≡ Some (page_of 1 (first_entries version value)))
         × ((p : ℕ) → (page == p) ≡ false → S.map stage.new p ≡ S.map stage.old p)) }
@@ -168,6 +174,7 @@ fn new_root<S: Stage>(
     requires levels { (1 ≤ levels) × (levels < 16) }
     requires pages { (3 ≤ first) × (3 ≤ second.page) }
     requires low { 0 < second.low }
+    ensures number { IfOk result (λ page. 3 ≤ page) }
     ensures made { IfOk result (λ page. IsTrue (S.tells stage.old) → (S.map stage.old page ≡ None)
         × (S.map stage.new page ≡ Some (page_of (levels + 1) (root_entries first second)))
         × ((p : ℕ) → (page == p) ≡ false → S.map stage.new p ≡ S.map stage.old p)) }

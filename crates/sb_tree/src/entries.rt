@@ -1,6 +1,6 @@
 //! The entries of a node.
-ghost use Rattle.std.specs.Prelude.{◌≡◌, ◌+◌, ◌-◌, ◌%◌, ◌^◌, ◌≤◌, ◌<◌, ℕ, length};
-ghost use Rattle.std.specs.List.{AllAdjacentBelow, sum_by};
+ghost use Rattle.std.specs.Prelude.{◌≡◌, ◌≤◌, ◌<◌, ℕ, length};
+ghost use Rattle.std.specs.List.{AllAdjacentBelow};
 ghost use Rattle.sb_tree.specs.Cut.{IsCut};
 ghost use Rattle.sb_tree.specs.Damage.{low_from, next_from};
 ghost use Rattle.sb_tree.specs.Steps.{child_at};
@@ -14,17 +14,6 @@ pub fn begun_count(entries: &[SbEntry], version: u32) -> usize
     ensures { IsCut entries.now result version }
 {
     entries.partition_point(|e| e.low <= version)
-}
-
-/// The total of the values of the entries, modulo `2^128`.
-pub fn total_of(entries: &[SbEntry]) -> u128
-    ensures { result ≡ sum_by (λ e. e.value) entries.now % 2 ^ 128 }
-{
-    let mut total: u128 = 0;
-    for e in entries {
-        total = total.wrapping_add(e.value);
-    }
-    total
 }
 
 /// The place of the child at which the first `begun` entries end, which are those that have begun at

@@ -1,10 +1,10 @@
 //! Freeing a tree.
-ghost use Rattle.std.specs.Prelude.{◌≡◌, ◌≢◌, ℕ, List, [], Err, IsTrue, OnOk};
+ghost use Rattle.std.specs.Prelude.{◌≡◌, ◌≢◌, ◌⊎◌, ℕ, List, [], Err, IsTrue, OnOk};
 ghost use Rattle.bw_types.specs.declared.point.Point.{Point};
-ghost use Rattle.page_layout.specs.Footprint.{NamesNoneTwice};
+ghost use Rattle.page_layout.specs.Footprint.{IsNamedTwice};
 ghost use Rattle.page_ports.specs.Calls.{Changes};
-ghost use Rattle.page_ports.specs.Frame.{Replaces};
-ghost use Rattle.sb_tree.specs.Damage.{IsDamagedFrom, IsDamagedInside};
+ghost use Rattle.page_ports.specs.Frame.{AreInMap, Replaces};
+ghost use Rattle.sb_tree.specs.Damage.{IsDamagedForFree, IsDamagedFrom};
 ghost use Rattle.sb_tree.specs.Stands.{SbStands};
 ghost use Rattle.sb_tree.specs.Steps.{pages_below, tree_pages};
 
@@ -17,13 +17,14 @@ use page_ports::{Stage, StageFault};
 ///
 /// After a refusal the stage is to be abandoned. `Disk` comes only where the count of faults rose, and
 /// `PageLimit` never. `Damaged` carries a page that is missing, is no node of its level, or is reached
-/// twice.
+/// a second time.
 pub fn sb_free<S: Stage>(stage: &mut S, tree: &Tree) -> Result<(), StageFault>
-    ensures freed { OnOk result (IsTrue (S.tells stage.old) → (points : List Point)
-        → SbStands (S.map stage.old) tree.now points
+    // Whatever the pages hold, those of the tree were in the map and are gone, and nothing else changed.
+    ensures there { OnOk result (IsTrue (S.tells stage.old) → AreInMap (S.map stage.old) (tree_pages (S.map stage.old) tree.now)) }
+    ensures freed { OnOk result (IsTrue (S.tells stage.old)
         → Replaces (tree_pages (S.map stage.old) tree.now) [] (S.map stage.old) (S.map stage.new)) }
     ensures damaged { (page : ℕ) → result ≡ Err (StageFault.Damaged page) → IsTrue (S.tells stage.old)
-        → NamesNoneTwice (tree_pages (S.map stage.old) tree.now) → IsDamagedInside (S.map stage.old) tree.now page }
+        → IsDamagedForFree (S.map stage.old) tree.now page }
     ensures sound { (points : List Point) (page : ℕ) → IsTrue (S.tells stage.old)
         → SbStands (S.map stage.old) tree.now points → result ≢ Err (StageFault.Damaged page) }
     ensures changes { Changes S.Pages 0 stage.old stage.new result }
@@ -33,10 +34,11 @@ pub fn sb_free<S: Stage>(stage: &mut S, tree: &Tree) -> Result<(), StageFault>
 
 // Frees the page of a level, and those below it.
 fn free_below<S: Stage>(stage: &mut S, page: u64, level: u8) -> Result<(), StageFault>
-    ensures freed { OnOk result (IsTrue (S.tells stage.old) → NamesNoneTwice (pages_below level (S.map stage.old) page)
+    ensures there { OnOk result (IsTrue (S.tells stage.old) → AreInMap (S.map stage.old) (pages_below level (S.map stage.old) page)) }
+    ensures freed { OnOk result (IsTrue (S.tells stage.old)
         → Replaces (pages_below level (S.map stage.old) page) [] (S.map stage.old) (S.map stage.new)) }
     ensures damaged { (damaged : ℕ) → result ≡ Err (StageFault.Damaged damaged) → IsTrue (S.tells stage.old)
-        → NamesNoneTwice (pages_below level (S.map stage.old) page) → IsDamagedFrom (S.map stage.old) level page damaged }
+        → IsDamagedFrom (S.map stage.old) level page damaged ⊎ IsNamedTwice (pages_below level (S.map stage.old) page) damaged }
     ensures changes { Changes S.Pages 0 stage.old stage.new result }
 {
     if level == 0 {

@@ -12,6 +12,8 @@
 mod add;
 mod edit;
 mod entries;
+#[cfg(test)]
+mod failing;
 mod free;
 mod laws;
 mod place;
@@ -20,6 +22,7 @@ mod store;
 #[cfg(test)]
 mod tests;
 mod value;
+mod view;
 
 pub use add::sb_add;
 pub use free::sb_free;

@@ -4,8 +4,9 @@ ghost use Rattle.std.specs.List.{All};
 ghost use Rattle.sb_tree.specs.Damage.{IsInPlace, root_place as spec_root_place};
 ghost use Rattle.sb_tree.specs.Stands.{first_low};
 
+use crate::view::is_in_place;
 use page_access::PlaceFor;
-use page_layout::{SbEntry, SbNode};
+use page_layout::{SbEntry, SbNode, View};
 
 /// How a call that seeks a version reaches a node: as the one for the versions from `low` to before
 /// `high`.
@@ -34,6 +35,10 @@ impl PlaceFor<SbNode> for Place {
         let entries = node.entries.as_slice();
         lie_within(entries, self.low, self.high)
             && (level == 1 || lead_to(entries, self.high, self.sought))
+    }
+
+    fn admits_view(&self, level: u8, view: &View<SbNode>) -> bool {
+        is_in_place(view, level, *self)
     }
 }
 

@@ -3,10 +3,9 @@ ghost use Rattle.std.specs.Prelude.{◌≡◌, ℕ, Err, IsTrue, IsSome, IfOk};
 ghost use Rattle.page_ports.specs.Calls.{Grows};
 ghost use Rattle.sb_tree.specs.Stored.{IsSecondOf, IsStorable, IsStored};
 
-use crate::edit::split_off;
 use crate::second::Second;
 use page_access::put_page;
-use page_layout::SbNode;
+use page_layout::{SbNode, split_off};
 use page_ports::{Stage, StageFault};
 
 /// Stores the node in its page. Where it has 65 entries, the last 33 of them go to a new page, which
@@ -25,7 +24,7 @@ pub fn store<S: Stage>(stage: &mut S, page: u64, node: SbNode) -> Result<Option<
         return Ok(None);
     }
     let mut first = node.entries;
-    let second = split_off(&mut first);
+    let second = split_off(&mut first, 32);
     let low = second.as_slice()[0].low;
     let second_page = stage.allot()?;
     let level = node.level;

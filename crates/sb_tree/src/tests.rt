@@ -1,7 +1,10 @@
-//! Trees in memory: additions against plain sums, and what damage is answered.
+//! Trees in memory: additions against plain sums, what damage is answered, and calls that fail.
+ghost use Rattle.std.specs.Prelude.{◌≤◌};
+
+use crate::failing::Failing;
 use crate::{sb_add, sb_free, sb_value};
 use bw_types::Tree;
-use page_ports::{FREE_PAGE, MemStage, Page, PageFault, Stage, StageFault, blank_page};
+use page_ports::{FREE_PAGE, MemStage, Page, PageFault, Pages, Stage, StageFault, blank_page};
 use std::alloc::{AllocError, Global};
 use std::test::Fail;
 
@@ -86,6 +89,94 @@ fn many_additions(rt: HostRuntime) -> Result<(), Fail> {
     assert_eq!(rt; tree.levels, 3);
     assert!(rt; has_plain_sums(&mut stage, &tree, &additions));
     sb_free(&mut stage, &tree)?;
+    assert!(rt; holds_no_pages(&mut stage));
+    Ok(())
+}
+
+// Whether none of the pages that were given out is in the map.
+fn holds_no_pages(stage: &mut MemStage) -> bool {
+    let mut bytes = blank_page();
+    for page in 3..stage.allotted() {
+        if stage.get(page, &mut bytes) != Err(PageFault::Damaged(page)) {
+            return false;
+        }
+    }
+    true
+}
+
+// A tree of one full leaf.
+fn full_leaf(alloc: Global, limit: u64, tree: &mut Tree) -> Result<Failing<MemStage>, StageFault>
+    requires low { 3 ≤ limit }
+    requires high { limit ≤ 4294967295 }
+{
+    let mut stage = Failing {
+        stage: MemStage::new(alloc, limit),
+        calls_left: u64::MAX,
+        faults: 0,
+    };
+    for version in 0..64u32 {
+        sb_add(&mut stage, tree, version, 1)?;
+    }
+    Ok(stage)
+}
+
+#[test]
+fn each_call_of_a_split_fails(rt: HostRuntime) -> Result<(), Fail> {
+    let failures = [
+        StageFault::Disk,
+        StageFault::NoMemory,
+        StageFault::Disk,
+        StageFault::Disk,
+        StageFault::NoMemory,
+        StageFault::Disk,
+    ];
+    for calls in 0..failures.len() {
+        let mut tree = Tree::default();
+        let mut stage = full_leaf(rt.alloc(), 10, &mut tree)?;
+        let before = tree;
+        stage.calls_left = calls as u64;
+        assert_eq!(rt; sb_add(&mut stage, &mut tree, 64, 1), Err(failures[calls]));
+        assert_eq!(rt; tree, before);
+    }
+    let mut tree = Tree::default();
+    let mut stage = full_leaf(rt.alloc(), 10, &mut tree)?;
+    stage.calls_left = failures.len() as u64;
+    sb_add(&mut stage, &mut tree, 64, 1)?;
+    assert_eq!(rt; tree.levels, 2);
+    assert_eq!(rt; sb_value(&mut stage, &tree, 64), Err(PageFault::Disk));
+    assert_eq!(rt; sb_value(&mut stage, &tree, 64), Ok(65));
+    Ok(())
+}
+
+#[test]
+fn a_value_and_a_free_fail(rt: HostRuntime) -> Result<(), Fail> {
+    let mut tree = Tree::default();
+    let mut stage = full_leaf(rt.alloc(), 10, &mut tree)?;
+    stage.calls_left = 0;
+    assert_eq!(rt; sb_value(&mut stage, &tree, 5), Err(PageFault::Disk));
+    assert_eq!(rt; sb_value(&mut stage, &tree, 5), Ok(6));
+    stage.calls_left = 1;
+    assert_eq!(rt; sb_free(&mut stage, &tree), Err(StageFault::Disk));
+    assert_eq!(rt; sb_free(&mut stage, &tree), Ok(()));
+    assert_eq!(rt;
+        sb_free(&mut stage, &tree),
+        Err(StageFault::Damaged(tree.root))
+    );
+    Ok(())
+}
+
+#[test]
+fn a_split_meets_the_limit(rt: HostRuntime) -> Result<(), Fail> {
+    for limit in 4..6u64 {
+        let mut tree = Tree::default();
+        let mut stage = full_leaf(rt.alloc(), limit, &mut tree)?;
+        let before = tree;
+        assert_eq!(rt;
+            sb_add(&mut stage, &mut tree, 64, 1),
+            Err(StageFault::PageLimit(limit))
+        );
+        assert_eq!(rt; tree, before);
+    }
     Ok(())
 }
 

@@ -2,18 +2,18 @@
 ghost use Rattle.std.specs.Prelude.{◌≡◌, ◌≢◌, ◌%◌, ◌^◌, ℕ, List, [], Err, IsTrue, IfOk};
 ghost use Rattle.bw_types.specs.Dominance.{dominance_sum};
 ghost use Rattle.bw_types.specs.declared.point.Point.{Point};
-ghost use Rattle.page_layout.specs.Damage.{IsDamagedBelow};
+ghost use Rattle.page_layout.specs.Damage.{IsDamagedBelow, NothingBeside};
 ghost use Rattle.page_ports.specs.Calls.{OnlyReads};
 ghost use Rattle.sb_tree.specs.Damage.{FitsPlace, IsDamagedOnPath, LeadsTo};
 ghost use Rattle.sb_tree.specs.Stands.{SbStands};
 ghost use Rattle.sb_tree.specs.Steps.{total_below, tree_value};
 
-use crate::entries::{begun_count, child_before, inner_place, total_of};
 use crate::place::{Place, root_place};
+use crate::view::{begun_on, child_on, inner_place_on};
 use bw_types::Tree;
-use page_access::read_in_place;
-use page_layout::SbNode;
-use page_ports::{PageFault, Pages};
+use page_access::view_in_place;
+use page_layout::{SbNode, View};
+use page_ports::{Page, PageFault, Pages, blank_page};
 
 /// The value of the tree at a version: the sum of what was added at that version and before, modulo
 /// `2^128`. It gets at most as many pages as the tree has levels.
@@ -32,12 +32,21 @@ pub fn sb_value<P: Pages>(pages: &mut P, tree: &Tree, version: u32) -> Result<u1
         → SbStands (P.map pages.old) tree.now points → result ≢ Err (PageFault.Damaged page) }
     ensures reads { OnlyReads P.Pages tree.now.levels pages.old pages.new result }
 {
-    value_below(pages, tree.root, tree.levels, root_place(version))
+    let mut bytes = blank_page();
+    value_below(
+        pages,
+        &mut bytes,
+        tree.root,
+        tree.levels,
+        root_place(version),
+    )
 }
 
-// The value of the page, and of those below it, at the version sought.
+// The value of the page, and of those below it, at the version sought. Each page is read in place in
+// these bytes.
 fn value_below<P: Pages>(
     pages: &mut P,
+    bytes: &mut Page,
     page: u64,
     level: u8,
     place: Place,
@@ -45,21 +54,19 @@ fn value_below<P: Pages>(
     ensures value { IfOk result (λ value. IsTrue (P.tells pages.old)
         → value ≡ total_below level (P.map pages.old) page place.sought % 2 ^ 128) }
     ensures damaged { (damaged : ℕ) → result ≡ Err (PageFault.Damaged damaged) → IsTrue (P.tells pages.old)
-        → IsDamagedBelow FitsPlace LeadsTo (P.map pages.old) level place page damaged }
+        → IsDamagedBelow FitsPlace LeadsTo NothingBeside (P.map pages.old) level place page damaged }
     ensures reads { OnlyReads P.Pages level pages.old pages.new result }
 {
     if level == 0 {
         return Ok(0);
     }
-    let node: SbNode = read_in_place(pages, page, level, place)?;
-    let entries = node.entries.as_slice();
-    let begun = begun_count(entries, place.sought);
-    let value = total_of(&entries[..begun]);
+    let node: View<SbNode> = view_in_place(pages, page, level, place, bytes)?;
+    let begun = begun_on(&node, place.sought);
     if level == 1 {
-        return Ok(value);
+        return Ok(begun.total);
     }
-    let inner = inner_place(entries, begun, place);
-    let child = child_before(entries, begun);
-    let below = value_below(pages, child, level - 1, inner)?;
-    Ok(value.wrapping_add(below))
+    let inner = inner_place_on(&node, begun.count, place);
+    let child = child_on(&node, begun.count);
+    let below = value_below(pages, bytes, child, level - 1, inner)?;
+    Ok(begun.total.wrapping_add(below))
 }

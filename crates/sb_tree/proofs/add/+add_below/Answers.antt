@@ -2,7 +2,7 @@ use Rattle.std.proofs.Common.{◌-◌, inl, inr, List, Err, rules, arith, subst,
 use Rattle.std.proofs.lemmas.Result.{err_from_is_err_and, IfOk-weaker}
 use Rattle.page_ports.specs.Pages.{PageMap}
 use Rattle.page_ports.specs.declared.page.StageFault.TheVariants.{Damaged}
-use Rattle.page_layout.specs.Damage.{IsDamagedBelow}
+use Rattle.page_layout.specs.Damage.{IsDamagedBelow, NothingBeside}
 use Rattle.page_layout.specs.declared.sb_node.SbEntry.{SbEntry}
 use Rattle.sb_tree.specs.Damage.{FitsPlace, LeadsTo, IsFullBelow}
 use Rattle.sb_tree.specs.Raised.{SecondFits, WasFull}
@@ -70,7 +70,7 @@ returns-in_err-second-clause-damaged g t c = λ damaged e tells.
     c.begun_count-begun.ensures (c.child_before-child.ensures _ c.begun_count-begun.ensures) c.inner_place-inner.ensures.low c.inner_place-inner.ensures.high c.inner_place-inner.ensures.sought in
     elim (c.in_err-second.ensures.damaged damaged (ap Err same) (search rules)) [
       | inl why ↦
-          let below = subst (λ (m : PageMap). IsDamagedBelow FitsPlace LeadsTo m (c.args.level - 1) c.inner_place-inner.result c.child_before-child.result damaged) c.read_in_place.ensures.reads.read.map why in
+          let below = subst (λ (m : PageMap). IsDamagedBelow FitsPlace LeadsTo NothingBeside m (c.args.level - 1) c.inner_place-inner.result c.child_before-child.result damaged) c.read_in_place.ensures.reads.read.map why in
           inl (damaged_further (g.S.Pages.map c.args.stage.now) c.args.level c.args.page c.child_before-child.result c.args.place c.inner_place-inner.result c.in_ok-node.node damaged
           c.requires.level (c.in_ok-node.ensures.found tells) c.in_ok-node.ensures.node leads below)
       | inr unordered ↦ inr (λ ordered. unordered (c.read_in_place.ensures.reads.read.free_in_order ordered))

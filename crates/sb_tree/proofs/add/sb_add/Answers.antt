@@ -2,7 +2,7 @@ use Rattle.std.proofs.Common.{◌≡◌, ◌≤◌, ◌<◌, ◌^◌, inl, inr, 
 use Rattle.std.proofs.lemmas.Result.{err_from_is_err_and}
 use Rattle.bw_types.specs.declared.point.Point.{Point}
 use Rattle.page_ports.specs.declared.page.StageFault.TheVariants.{Damaged}
-use Rattle.page_layout.specs.Damage.{IsDamagedBelow}
+use Rattle.page_layout.specs.Damage.{IsDamagedBelow, NothingBeside}
 use Rattle.sb_tree.specs.declared.place.Place.{Place}
 use Rattle.sb_tree.specs.Damage.{FitsPlace, LeadsTo, IsFullBelow}
 use Rattle.sb_tree.specs.Stands.{SbStands}
@@ -29,7 +29,7 @@ returns-in_err-add_below-clause-damaged g c = λ page e tells.
     let p = err_from_is_err_and c.from_residual-in_err-add_below.result c.from_residual-in_err-add_below.ensures.1 in
     let same = exit_error c.from_residual-in_err-add_below.result c.in_err-add_below.field-0.0 (Damaged page) p e in
     elim (c.in_err-add_below.ensures.damaged page (ap Err same) tells) [
-      | inl why ↦ inl (subst (λ (q : Place). IsDamagedBelow FitsPlace LeadsTo (g.S.Pages.map c.args.stage.now) c.args.tree.now.levels q c.args.tree.now.root page) c.root_place-place.ensures why)
+      | inl why ↦ inl (subst (λ (q : Place). IsDamagedBelow FitsPlace LeadsTo NothingBeside (g.S.Pages.map c.args.stage.now) c.args.tree.now.levels q c.args.tree.now.root page) c.root_place-place.ensures why)
       | inr unordered ↦ inr (inr (inr unordered))
     ]
 
@@ -39,7 +39,7 @@ returns-in_err-add_below-clause-sound g c = λ points page tells s few balanced 
     let same = exit_error c.from_residual-in_err-add_below.result c.in_err-add_below.field-0.0 (Damaged page) p e in
     elim (c.in_err-add_below.ensures.damaged page (ap Err same) tells) [
       | inl why ↦ tree_undamaged (g.S.Pages.map c.args.stage.now) c.args.tree.now points c.args.version page s (omega (arith, c.ranges.version.fits))
-          (subst (λ (q : Place). IsDamagedBelow FitsPlace LeadsTo (g.S.Pages.map c.args.stage.now) c.args.tree.now.levels q c.args.tree.now.root page) c.root_place-place.ensures why)
+          (subst (λ (q : Place). IsDamagedBelow FitsPlace LeadsTo NothingBeside (g.S.Pages.map c.args.stage.now) c.args.tree.now.levels q c.args.tree.now.root page) c.root_place-place.ensures why)
       | inr unordered ↦ unordered ordered
     ]
 

@@ -1,9 +1,7 @@
 use Rattle.std.proofs.Common.{◌-◌, IsTrue, [], ◌∷◌, take}
 use Rattle.std.specs.List.{flat_map}
 use Rattle.page_ports.specs.Calls.{WentOn}
-use Rattle.page_ports.specs.Frame.{Replaces}
-use Rattle.page_layout.specs.Footprint.{NamesNoneTwice}
-use Rattle.sb_tree.specs.Steps.{pages_below}
+use Rattle.page_ports.specs.Frame.{AreInMap, Replaces}
 use Rattle.sb_tree.proofs.Freeing.{own_pages}
 use Rattle.sb_tree.proofs.free.+free_below.Given as goal
 
@@ -12,7 +10,8 @@ decreases-free_below g l = l.level
 
 abbrev pub invariant-loop-entry : goal.invariant-loop-entry
 invariant-loop-entry g l = record {
-  freed : IsTrue (g.S.Pages.tells l.fn.stage) → NamesNoneTwice (pages_below l.level (g.S.Pages.map l.fn.stage) l.page)
+  there : IsTrue (g.S.Pages.tells l.fn.stage) → AreInMap (g.S.Pages.map l.fn.stage) (l.page ∷ flat_map (own_pages (l.level - 1) (g.S.Pages.map l.fn.stage)) (take l.entry-index l.entry-items));
+  freed : IsTrue (g.S.Pages.tells l.fn.stage)
       → Replaces (l.page ∷ flat_map (own_pages (l.level - 1) (g.S.Pages.map l.fn.stage)) (take l.entry-index l.entry-items)) [] (g.S.Pages.map l.fn.stage) (g.S.Pages.map l.stage);
   went_on : WentOn g.S.Pages 0 l.fn.stage l.stage;
 }

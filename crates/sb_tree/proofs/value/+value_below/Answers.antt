@@ -1,8 +1,8 @@
-use Rattle.std.proofs.Common.{◌-◌, ◌%◌, ◌^◌, ℕ, Err, rules, arith, subst, ap, ◌∙◌}
+use Rattle.std.proofs.Common.{◌-◌, ◌%◌, ◌^◌, ℕ, Err, rules, arith, subst, refl, ap, ◌∙◌}
 use Rattle.std.proofs.lemmas.Result.{err_from_is_err_and}
 use Rattle.page_ports.specs.Pages.{PageMap}
 use Rattle.page_ports.specs.declared.page.PageFault.TheVariants.{Damaged}
-use Rattle.page_layout.specs.Damage.{IsDamagedBelow}
+use Rattle.page_layout.specs.Damage.{IsDamagedBelow, NothingBeside}
 use Rattle.sb_tree.specs.Damage.{FitsPlace, LeadsTo}
 use Rattle.sb_tree.specs.Steps.{total_below}
 use Rattle.sb_tree.proofs.Exits.{exit_error}
@@ -18,43 +18,43 @@ returns-in_err-node-clause-damaged g t c = λ damaged e tells.
 
 pub returns-then-level-eq1-clause-value : goal.returns-then-level-eq1-clause-value
 returns-then-level-eq1-clause-value g t c = λ tells.
-    leaf_value (g.P.Pages.map c.args.pages.now) c.args.level c.args.page c.args.place.sought c.begun_count-begun.result c.total_of-value.result
-    c.in_ok-node.node c.as_slice-entries.result.now c.as_slice-entries.ensures.value c.if-level-eq1.true
-    (c.in_ok-node.ensures.found tells) c.in_ok-node.ensures.node.fits c.begun_count-begun.ensures c.total_of-value.ensures
+    leaf_value (g.P.Pages.map c.args.pages.now) c.args.level c.args.page c.args.place.sought c.begun_on-begun.result.count c.begun_on-begun.result.total
+    c.in_ok-node.node c.in_ok-node.node.entries.items refl c.if-level-eq1.true
+    (c.in_ok-node.ensures.found tells) c.in_ok-node.ensures.node.fits c.begun_on-begun.ensures.cut c.begun_on-begun.ensures.total
 
-pub inner_place-inner-requires : goal.inner_place-inner-requires
-inner_place-inner-requires g t c = (
-  some_at_cut c.args.level c.args.place c.in_ok-node.node c.as_slice-entries.result.now c.begun_count-begun.result _ c.as_slice-entries.ensures.value
-      c.in_ok-node.ensures.node c.if-level-eq1.false c.begun_count-begun.ensures,
-  c.begun_count-begun.ensures,
+pub inner_place_on-inner-requires : goal.inner_place_on-inner-requires
+inner_place_on-inner-requires g t c = (
+  some_at_cut c.args.level c.args.place c.in_ok-node.node c.in_ok-node.node.entries.items c.begun_on-begun.result.count _ refl
+      c.in_ok-node.ensures.node c.if-level-eq1.false c.begun_on-begun.ensures.cut,
+  c.begun_on-begun.ensures.cut,
+)
+
+pub child_on-child-requires : goal.child_on-child-requires
+child_on-child-requires g t c = (
+  some_at_cut c.args.level c.args.place c.in_ok-node.node c.in_ok-node.node.entries.items c.begun_on-begun.result.count _ refl
+      c.in_ok-node.ensures.node c.if-level-eq1.false c.begun_on-begun.ensures.cut,
+  c.begun_on-begun.ensures.cut.bound,
 )
 
 pub returns-in_err-below-clause-damaged : goal.returns-in_err-below-clause-damaged
 returns-in_err-below-clause-damaged g t c = λ damaged e tells.
     let p = err_from_is_err_and c.from_residual-in_err-below.result c.from_residual-in_err-below.ensures.1 in
-    let entries = c.as_slice-entries.result.now in
+    let entries = c.in_ok-node.node.entries.items in
     let same = exit_error c.from_residual-in_err-below.result c.in_err-below.field-0.0 (Damaged damaged) p e in
-    let leads = leads_at_cut c.args.place c.inner_place-inner.result c.in_ok-node.node entries c.begun_count-begun.result c.child_before-child.result c.as_slice-entries.ensures.value
-    c.begun_count-begun.ensures (c.child_before-child.ensures _ c.begun_count-begun.ensures) c.inner_place-inner.ensures.low c.inner_place-inner.ensures.high c.inner_place-inner.ensures.sought in
+    let leads = leads_at_cut c.args.place c.inner_place_on-inner.result c.in_ok-node.node entries c.begun_on-begun.result.count c.child_on-child.result refl
+    c.begun_on-begun.ensures.cut (c.child_on-child.ensures _ c.begun_on-begun.ensures.cut) c.inner_place_on-inner.ensures.low c.inner_place_on-inner.ensures.high c.inner_place_on-inner.ensures.sought in
     let why = c.in_err-below.ensures.damaged damaged (ap Err same) (search rules) in
-    let below = subst (λ (m : PageMap). IsDamagedBelow FitsPlace LeadsTo m (c.args.level - 1) c.inner_place-inner.result c.child_before-child.result damaged) c.read_in_place.ensures.reads.read.map why in
-    damaged_further (g.P.Pages.map c.args.pages.now) c.args.level c.args.page c.child_before-child.result c.args.place c.inner_place-inner.result c.in_ok-node.node damaged
+    let below = subst (λ (m : PageMap). IsDamagedBelow FitsPlace LeadsTo NothingBeside m (c.args.level - 1) c.inner_place_on-inner.result c.child_on-child.result damaged) c.view_in_place.ensures.reads.read.map why in
+    damaged_further (g.P.Pages.map c.args.pages.now) c.args.level c.args.page c.child_on-child.result c.args.place c.inner_place_on-inner.result c.in_ok-node.node damaged
     (omega (arith, c.if-level-eq0.false)) (c.in_ok-node.ensures.found tells) c.in_ok-node.ensures.node leads below
 
 pub returns-clause-value : goal.returns-clause-value
 returns-clause-value g t c = λ tells.
     let v = c.args.place.sought in
     let total = c.in_ok-below.ensures.value (search rules) in
-    let same_place = ap (λ (w : ℕ). total_below (c.args.level - 1) (g.P.Pages.map c.read_in_place.new.pages) c.child_before-child.result w % 2 ^ 128) c.inner_place-inner.ensures.sought in
-    let same_map = ap (λ (m : PageMap). total_below (c.args.level - 1) m c.child_before-child.result v % 2 ^ 128) c.read_in_place.ensures.reads.read.map in
-    index_value (g.P.Pages.map c.args.pages.now) c.args.level c.args.page v c.begun_count-begun.result c.total_of-value.result c.in_ok-below.below c.child_before-child.result
-    c.in_ok-node.node c.as_slice-entries.result.now c.as_slice-entries.ensures.value (omega (arith, c.if-level-eq0.false))
-    (c.in_ok-node.ensures.found tells) c.in_ok-node.ensures.node.fits c.begun_count-begun.ensures
-    (c.child_before-child.ensures _ c.begun_count-begun.ensures) c.total_of-value.ensures (total ∙ same_place ∙ same_map)
-
-pub child_before-child-requires : goal.child_before-child-requires
-child_before-child-requires g t c = (
-  some_at_cut c.args.level c.args.place c.in_ok-node.node c.as_slice-entries.result.now c.begun_count-begun.result _ c.as_slice-entries.ensures.value
-      c.in_ok-node.ensures.node c.if-level-eq1.false c.begun_count-begun.ensures,
-  c.begun_count-begun.ensures.bound,
-)
+    let same_place = ap (λ (w : ℕ). total_below (c.args.level - 1) (g.P.Pages.map c.view_in_place.new.pages) c.child_on-child.result w % 2 ^ 128) c.inner_place_on-inner.ensures.sought in
+    let same_map = ap (λ (m : PageMap). total_below (c.args.level - 1) m c.child_on-child.result v % 2 ^ 128) c.view_in_place.ensures.reads.read.map in
+    index_value (g.P.Pages.map c.args.pages.now) c.args.level c.args.page v c.begun_on-begun.result.count c.begun_on-begun.result.total c.in_ok-below.below c.child_on-child.result
+    c.in_ok-node.node c.in_ok-node.node.entries.items refl (omega (arith, c.if-level-eq0.false))
+    (c.in_ok-node.ensures.found tells) c.in_ok-node.ensures.node.fits c.begun_on-begun.ensures.cut
+    (c.child_on-child.ensures _ c.begun_on-begun.ensures.cut) c.begun_on-begun.ensures.total (total ∙ same_place ∙ same_map)

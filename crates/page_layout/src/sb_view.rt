@@ -1,0 +1,49 @@
+//! Nodes of the trees over versions, read in place.
+ghost use Rattle.std.specs.Prelude.{◌≡◌, ◌<◌, ◌↔◌, IsTrue, length, get_or};
+ghost use Rattle.page_layout.specs.SbNode.{IsSbNode, sb_node_in, sb_node_page};
+ghost use Rattle.page_layout.specs.declared.sb_node.SbEntry.{SbEntry};
+
+use crate::counted::{entry_in, is_counted, read_body, read_count};
+use crate::entry::{Own, stand_in_order};
+use crate::sb_node::{SbEntry, SbNode};
+use crate::view::View;
+use page_ports::Page;
+
+const KIND: u8 = 2;
+
+const MOST: usize = 64;
+
+impl<'a> View<'a, SbNode> {
+    /// How many entries there are.
+    pub fn len(&self) -> usize
+        ensures { result ≡ length self.now.entries.items }
+    {
+        usize::from(read_count(self.page)).min(MOST)
+    }
+
+    /// The entry at this place.
+    pub fn entry(&self, place: usize) -> SbEntry
+        requires { place < length self.now.entries.items }
+        ensures { (d : SbEntry) → result ≡ get_or self.now.entries.items place d }
+    {
+        entry_in::<Own, SbEntry>(self.page, place)
+    }
+}
+
+/// Whether the page spells a node.
+pub(crate) fn is_node(page: &Page) -> bool
+    ensures { IsTrue result ↔ (IsSbNode (sb_node_in page.now) × (page.now ≡ sb_node_page (sb_node_in page.now))) }
+{
+    let level = page[1];
+    let count = usize::from(read_count(page)).min(MOST);
+    if level < 1 || level > 16 {
+        return false;
+    }
+    if count < 1 {
+        return false;
+    }
+    if !is_counted::<Own, SbEntry>(page, KIND, 0, 0, MOST) {
+        return false;
+    }
+    stand_in_order::<Own, SbEntry>(level, count, read_body(page))
+}
