@@ -7,6 +7,7 @@ pub mod Found
 pub mod Halving
 pub mod Later
 pub mod Leading
+pub mod LivingLows
 pub mod Order
 pub mod Paths
 pub mod Putting
