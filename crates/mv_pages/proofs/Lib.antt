@@ -8,6 +8,7 @@ pub mod Halving
 pub mod Later
 pub mod Leading
 pub mod LivingLows
+pub mod LowOrder
 pub mod Order
 pub mod Paths
 pub mod Putting

@@ -1,11 +1,11 @@
 -- Which lows are alive after a change.
-use Rattle.std.proofs.Common.{◌≡◌, ℕ, ◌+◌, ◌<◌, ◌≤◌, inl, inr, Bool, true, false, ◌==◌, cond, nat_lt, List, [], ◌∷◌, ◌++◌, map, Option, Some, None, refl, sym, ap, ◌∙◌, subst, arith}
-use Rattle.std.specs.List.{All, sum_by, filter}
+use Rattle.std.proofs.Common.{◌≡◌, ℕ, ◌<◌, ◌≤◌, inl, inr, true, false, ◌==◌, nat_lt, List, [], ◌∷◌, ◌++◌, refl, sym, ap, ◌∙◌, subst, arith}
+use Rattle.std.specs.List.{All}
 use Rattle.std.proofs.lemmas.Bool.{cases_lt, cases_Bool, true≢false, lt-ltb, le-ltb, ltb-true, ltb-false, eq-eqb, ne_eqb}
 use Rattle.std.proofs.lemmas.List.Elements.{All-cons, All-nil, All-head, All-tail}
 use Rattle.std.proofs.lemmas.List.Sums.{sum_by-cons}
 use Rattle.page_layout.specs.declared.mv_node.MvEntry.{MvEntry}
-use Rattle.mv_pages.specs.Alive.{is_alive, alive_at, is_alive_from, alive_one, alive_count, AreEntriesOf, IsPastOf, IsChangeable}
+use Rattle.mv_pages.specs.Alive.{is_alive, is_alive_from, alive_one, alive_count, IsPastOf}
 use Rattle.mv_pages.specs.Copies.{renewed, copies, with_more, first_raised}
 use Rattle.mv_pages.specs.Edits.{closed, put_in, IsChanged}
 use Rattle.mv_pages.specs.Lows.{alive_lows, with_low}
@@ -66,7 +66,7 @@ below_of w low y miss lives le = elim (cases_lt y.low low) [
   | inr over ↦ absurd (apart w low y miss lives (omega (arith, le, over)))
 ]
 
-above_of : (w low : ℕ) (y : MvEntry) → is_alive_from w low y ≡ false → is_alive w y ≡ true → low ≤ y.low → low < y.low
+pub above_of : (w low : ℕ) (y : MvEntry) → is_alive_from w low y ≡ false → is_alive w y ≡ true → low ≤ y.low → low < y.low
 above_of w low y miss lives le = elim (cases_lt low y.low) [
   | inl less ↦ less
   | inr over ↦ absurd (apart w low y miss lives (omega (arith, le, over)))
@@ -225,3 +225,14 @@ lows-append w (x ∷ xs) ys = elim (cases_Bool (is_alive w x)) [
 pub lows-raised : (w more : ℕ) (es : List MvEntry) → alive_lows (first_raised more es) w ≡ alive_lows es w
 lows-raised w more [] = refl
 lows-raised w more (e ∷ es) = lows_swap w [] e (with_more more e) es refl refl
+
+-- What may be changed at a version has the same lows at a later one.
+pub later_lows : (v w : ℕ) (es : List MvEntry) → v < 4294967295 → v ≤ w → All (IsPastOf v) es → alive_lows es w ≡ alive_lows es v
+later_lows v w [] last late past = refl
+later_lows v w (e ∷ es) last late past =
+    let mine = All-head (IsPastOf v) e es past in
+    let rest = later_lows v w es last late (All-tail (IsPastOf v) e es past) in
+    elim (cases_Bool (is_alive v e)) [
+      | inl lives ↦ lows_cons w e es (alive_later v w e last late mine lives) ∙ ap (λ (ls : List ℕ). e.low ∷ ls) rest ∙ sym (lows_cons v e es lives)
+      | inr gone ↦ lows_skip w e es (dead_later v w e last late mine gone) ∙ rest ∙ sym (lows_skip v e es gone)
+    ]

@@ -1,6 +1,6 @@
 -- The lows of the entries of a node that are alive at a version. They cut its keys into intervals: each key
 -- belongs to the last low at or below it, up to the next one.
-use Rattle.std.specs.Prelude.{ℕ, ◌==◌, nat_lt, nat_le, cond, List, [], ◌∷◌, Option, Some, None, map}
+use Rattle.std.specs.Prelude.{ℕ, ◌==◌, ◌&&◌, ◌||◌, Bool, true, nat_lt, nat_le, cond, List, [], ◌∷◌, Option, Some, None, map}
 use Rattle.page_layout.specs.declared.mv_node.MvEntry.{MvEntry}
 use Rattle.mv_pages.specs.Alive.{alive_at, or_later}
 use Rattle.mv_pages.specs.Edits.{Cut}
@@ -28,3 +28,26 @@ low_at (low ∷ lows) key = or_later (cond (nat_le low key) (Some low) None) (lo
 abbrev pub low_above : List ℕ → ℕ → Option ℕ
 low_above [] key = None
 low_above (low ∷ lows) key = cond (nat_lt key low) (Some low) (low_above lows key)
+
+-- the low is above the last one, where there is one
+abbrev pub follows : Option ℕ → ℕ → Bool
+follows None low = true
+follows (Some last) low = nat_lt last low
+
+-- each of the lows is above the one before it, and the first above the last one of before, where there is one
+abbrev pub ascend_from : Option ℕ → List ℕ → Bool
+ascend_from last [] = true
+ascend_from last (low ∷ lows) = follows last low && ascend_from (Some low) lows
+
+-- each of the lows is above the one before it
+abbrev pub ascend : List ℕ → Bool
+ascend lows = ascend_from None lows
+
+-- where an entry begins, if there is one
+abbrev pub low_of : Option MvEntry → Option ℕ
+low_of None = None
+low_of (Some e) = Some e.low
+
+-- the entry starts at or before the version, and if it is closed, it ends there or before
+abbrev pub is_past : ℕ → MvEntry → Bool
+is_past version e = nat_le e.start version && (e.end == 4294967295 || nat_le e.end version)
