@@ -42,3 +42,9 @@ is_same_class Inside Inside = true
 is_same_class Below Below = true
 is_same_class (Border dimension) (Border other) = nat_eq dimension other
 is_same_class class other = false
+
+-- the class is one of the points outside an entry: Below, or at a border
+abbrev pub is_outside : Class → Bool
+is_outside Below = true
+is_outside (Border dimension) = true
+is_outside class = false

@@ -10,9 +10,9 @@ use Rattle.bw_types.specs.declared.point.Point.{Point}
 use Rattle.bw_types.specs.declared.region.Region.{Region}
 use Rattle.ba_records.specs.declared.classes.Class.{Class}
 use Rattle.ba_records.specs.declared.classes.Class.TheVariants.{Beyond, Inside, Below, Border}
-use Rattle.ba_records.specs.Classes.{first_below, lies_in, class_of, is_same_class}
+use Rattle.ba_records.specs.Classes.{first_below, lies_in, class_of, is_outside, is_same_class}
 use Rattle.ba_records.specs.Borders.{keys_without, without_dimension}
-use Rattle.ba_records.specs.Sums.{points_of_class, border_points, sum_below, SumsByClass}
+use Rattle.ba_records.specs.Sums.{points_of_class, points_outside, border_points, sum_below, SumsByClass, SumsByOutside}
 use Rattle.ba_records.specs.CountLaws.{beyond_never_counts, below_counts_by_version, border_counts_without, border_is}
 
 -- ---- sums over the numbers below n
@@ -84,7 +84,7 @@ by_class n (Border j) w below g beyond under border =
     rw (sum_below-one n j g here.0) (omega (arith, e))
 
 -- the first dimension below is one of the dimensions
-first_is_one : (d : ℕ) (ks ls : List ℕ) → keys_at_most (take d ls) (take d ks) ≡ false → first_below (take d ks) (take d ls) < d
+pub first_is_one : (d : ℕ) (ks ls : List ℕ) → keys_at_most (take d ls) (take d ks) ≡ false → first_below (take d ks) (take d ls) < d
 first_is_one zero ks ls t = absurd (true≢false t)
 first_is_one (suc d) ks [] t = absurd (true≢false t)
 first_is_one (suc d) [] (b ∷ ls) t = absurd (true≢false t)
@@ -137,3 +137,27 @@ modulus a b n m g =
 pub sums_by_class : SumsByClass
 sums_by_class dims region points keys version l m h =
     ap (λ s. s % 2 ^ 128) (totals dims region points keys version l m h) ∙ modulus (dominated_weight dims (points_of_class dims region Inside points) keys version) (dominated_weight 0 (points_of_class dims region Below points) [] version) dims (2 ^ 128) (λ i. dominated_weight (dims - 1) (border_points dims region i points) (keys_without i keys) version)
+
+-- ---- the law of a pocket
+
+-- a weight goes to the points Inside or to those outside
+by_side : (class : Class) (w : ℕ) → (class ≡ Beyond → w ≡ 0) → w ≡ (if is_same_class Inside class then w else 0) + (if is_outside class then w else 0)
+by_side Beyond w beyond = let e = beyond refl in omega (arith, e)
+by_side Inside w beyond = omega arith
+by_side Below w beyond = omega arith
+by_side (Border i) w beyond = omega arith
+
+side_totals : (dims : ℕ) (region : Region) (points : List Point) (keys : List ℕ) (version : ℕ) → dims ≤ length keys → lies_in dims keys region ≡ true → dominated_weight dims points keys version ≡ dominated_weight dims (points_of_class dims region Inside points) keys version + dominated_weight dims (points_outside dims region points) keys version
+side_totals dims region [] keys version l h = refl
+side_totals dims region (p ∷ points) keys version l h =
+    let whole = sum_by-cons (weight_at dims keys version) p points in
+    let inside = sum-kept (weight_at dims keys version) (λ x. is_same_class Inside (class_of dims x.keys region)) p points in
+    let outside = sum-kept (weight_at dims keys version) (λ x. is_outside (class_of dims x.keys region)) p points in
+    let mine = by_side (class_of dims p.keys region) (weight_at dims keys version p) (λ e. rw (beyond_never_counts dims region keys version p l h e) refl) in
+    let rest = side_totals dims region points keys version l h in
+    omega (arith, whole, inside, outside, mine, rest)
+
+pub sums_by_outside : SumsByOutside
+sums_by_outside dims region points keys version l h =
+    ap (λ s. s % 2 ^ 128) (side_totals dims region points keys version l h)
+    ∙ add-mod (dominated_weight dims (points_of_class dims region Inside points) keys version) (dominated_weight dims (points_outside dims region points) keys version) (2 ^ 128)

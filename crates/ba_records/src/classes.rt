@@ -1,4 +1,5 @@
-ghost use Rattle.std.specs.Prelude.{◌≡◌, ◌≤◌, length};
+ghost use Rattle.std.specs.Prelude.{◌≡◌, ◌<◌, ◌≤◌, ℕ, length};
+ghost use Rattle.ba_records.specs.declared.classes.Class.{Class};
 ghost use Rattle.ba_records.specs.Classes.{class_of, keys_before, first_below as first_key_below};
 ghost use Rattle.bw_types.specs.Dominance.{keys_at_most};
 
@@ -23,7 +24,8 @@ pub enum Class {
 pub fn classify(point: &Point, region: &Region, dims: u8) -> Class
     requires at_least { 1 ≤ dims }
     requires at_most { dims ≤ 3 }
-    ensures { result ≡ class_of dims point.now.keys region.now }
+    ensures class { result ≡ class_of dims point.now.keys region.now }
+    ensures border { (dimension : ℕ) → result ≡ Class.Border dimension → dimension < dims }
 {
     let dims = usize::from(dims);
     let keys = &point.keys[..dims];

@@ -15,4 +15,4 @@ mod tests;
 
 pub use bw_types::{BaEntry, Outside};
 pub use classes::{Class, classify};
-pub use dropping::drop_dimension;
+pub use dropping::{drop_dimension, drop_key};

@@ -5,7 +5,7 @@ use Rattle.std.proofs.lemmas.Bool.{cases_lt, cases_eq, lt-ltb, le-ltb, leb-true,
 use Rattle.std.proofs.lemmas.List.{get_or_append_left, get_or-append_right, get_or_past, set_past, take-append-le, drop-append-le}
 use Rattle.bw_types.specs.declared.region.Region.{Region}
 use Rattle.page_layout.specs.Cuts.{Cuts, Entry, Cut, entry_count, in_dimensions}
-use Rattle.kdb_pages.specs.Regions.{IsInThree, Holds, IsNotEmpty, IsInside, AreProper, below_cut, above_cut, regions_of, place_of, cut_at, RegionsAreCounted, FoundHolds, OthersHoldNot, PartsAreWithin, NoneIsEmpty, CutIsCounted, CutReplaces, CutIsProper}
+use Rattle.kdb_pages.specs.Regions.{IsInThree, Holds, IsNotEmpty, LiesIn, IsInside, AreProper, below_cut, above_cut, regions_of, region_at, place_of, cut_at, RegionsAreCounted, FoundHolds, OthersHoldNot, PartsAreWithin, PartsLieIn, NoneIsEmpty, CutIsCounted, CutReplaces, CutIsProper}
 
 -- the choice where the test holds, and where it does not
 pub if_true : {X : Type 0} (b : Bool) (x y : X) → b ≡ true → (if b then x else y) ≡ x
@@ -205,6 +205,69 @@ some_at (Cut d k low high) region index none dims is proper some lt =
 
 pub none_empty : NoneIsEmpty
 none_empty cuts region index dims is proper some lt = some_at cuts region index region dims is proper some lt
+
+-- the parts of a cut lie in the region
+below_lies : (region : Region) (d k : ℕ) → IsInThree region → d < 3 → IsInside region d k → LiesIn (below_cut region d k) region
+below_lies region d k is few inside = record {
+  lows = λ i less. omega arith;
+  highs = λ i less. at_set (λ n. n ≤ get_or region.high i 0) region.high d k i (let e = is.highs in omega arith)
+      (λ e. subst (λ (n : ℕ). k ≤ get_or region.high n 0) (sym e) (let b = inside.before_high in omega arith)) (λ ne. omega arith);
+}
+
+above_lies : (region : Region) (d k : ℕ) → IsInThree region → d < 3 → IsInside region d k → LiesIn (above_cut region d k) region
+above_lies region d k is few inside = record {
+  lows = λ i less. at_set (λ n. get_or region.low i 0 ≤ n) region.low d k i (let e = is.lows in omega arith)
+      (λ e. subst (λ (n : ℕ). get_or region.low n 0 ≤ k) (sym e) (let b = inside.after_low in omega arith)) (λ ne. omega arith);
+  highs = λ i less. omega arith;
+}
+
+lies_further : (part middle region : Region) → LiesIn part middle → LiesIn middle region → LiesIn part region
+lies_further part middle region inner outer = record {
+  lows = λ i less. let a = inner.lows i less in let b = outer.lows i less in omega arith;
+  highs = λ i less. let a = inner.highs i less in let b = outer.highs i less in omega arith;
+}
+
+lies_at : (cuts : Cuts) (region : Region) (index : ℕ) (none : Region) → IsTrue (in_dimensions cuts) → IsInThree region → AreProper cuts region
+    → index < entry_count cuts → LiesIn (get_or (regions_of cuts region) index none) region
+lies_at Entry region zero none dims is proper lt = record { lows = λ i less. omega arith; highs = λ i less. omega arith }
+lies_at Entry region (suc index) none dims is proper lt = absurd (omega arith)
+lies_at (Cut d k low high) region index none dims is proper lt =
+    let ds = dimensions d k low high dims in
+    let P : Region → Type 0 = λ r. LiesIn r region in
+    elim (cases_lt index (entry_count low)) [
+      | inl less ↦
+          let inner = lies_at low (below_cut region d k) index none ds.lows (below_three region d k is) proper.1 less in
+          subst P (sym (region_low d k low high region none index less)) (lies_further (get_or (regions_of low (below_cut region d k)) index none) (below_cut region d k) region inner (below_lies region d k is ds.few proper.0))
+      | inr le ↦
+          let rest : index - entry_count low < entry_count high = (let whole : index < entry_count low + entry_count high = lt in omega arith) in
+          let inner = lies_at high (above_cut region d k) (index - entry_count low) none ds.highs (above_three region d k is) proper.2 rest in
+          subst P (sym (region_high d k low high region none index le))
+          (lies_further (get_or (regions_of high (above_cut region d k)) (index - entry_count low) none) (above_cut region d k) region inner (above_lies region d k is ds.few proper.0))
+    ]
+
+pub parts_lie_in : PartsLieIn
+parts_lie_in cuts region index dims is proper lt = lies_at cuts region index region dims is proper lt
+
+-- the entries of the low side end at the cut's key or before, and those of the high side begin there or after
+pub low_ends : (d k : ℕ) (low high : Cuts) (region : Region) (index : ℕ) → IsTrue (in_dimensions (Cut d k low high)) → IsInThree region → AreProper (Cut d k low high) region
+    → index < entry_count low → get_or (region_at low (below_cut region d k) index).high d 0 ≤ k
+low_ends d k low high region index dims is proper lt =
+    let ds = dimensions d k low high dims in
+    let lies = parts_lie_in low (below_cut region d k) index ds.lows (below_three region d k is) proper.1 lt in
+    let has : d < length region.high = (let e = is.highs in let few = ds.few in omega arith) in
+    let edge : get_or (set region.high d k) d 0 ≡ k = get_or-set_same region.high d k 0 has in
+    let end : get_or (region_at low (below_cut region d k) index).high d 0 ≤ get_or (set region.high d k) d 0 = lies.highs d ds.few in
+    omega arith
+
+pub high_begins : (d k : ℕ) (low high : Cuts) (region : Region) (index : ℕ) → IsTrue (in_dimensions (Cut d k low high)) → IsInThree region → AreProper (Cut d k low high) region
+    → index < entry_count high → k ≤ get_or (region_at high (above_cut region d k) index).low d 0
+high_begins d k low high region index dims is proper lt =
+    let ds = dimensions d k low high dims in
+    let lies = parts_lie_in high (above_cut region d k) index ds.highs (above_three region d k is) proper.2 lt in
+    let has : d < length region.low = (let e = is.lows in let few = ds.few in omega arith) in
+    let edge : get_or (set region.low d k) d 0 ≡ k = get_or-set_same region.low d k 0 has in
+    let begin : get_or (set region.low d k) d 0 ≤ get_or (region_at high (above_cut region d k) index).low d 0 = lies.lows d ds.few in
+    omega arith
 
 -- a cut in the low side, and in the high side
 pub cut_low : (e j : ℕ) (low high : Cuts) (index d k : ℕ) → index < entry_count low → cut_at (Cut e j low high) index d k ≡ Cut e j (cut_at low index d k) high

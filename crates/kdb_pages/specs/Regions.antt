@@ -17,6 +17,19 @@ pub record Holds (region : Region) (keys : List ℕ) : Type 0 where
 abbrev pub IsNotEmpty : Region → Type 0
 IsNotEmpty region = (dimension : ℕ) → dimension < 3 → slice_index region.low dimension < slice_index region.high dimension
 
+-- what the keys of the dimension are below in a tree of so many dimensions: past them there is the key 0 alone
+abbrev pub end_of : ℕ → ℕ → ℕ
+end_of dims dimension = if nat_lt dimension dims then 18446744069414584320 else 1
+
+-- the region of the root of a tree of so many dimensions
+abbrev pub root_region : ℕ → Region
+root_region dims = record { low = 0 ∷ 0 ∷ 0 ∷ []; high = end_of dims 0 ∷ end_of dims 1 ∷ end_of dims 2 ∷ [] }
+
+-- The part lies in the region: in each of three dimensions it begins at the region's low or after, and ends at its high or before.
+pub record LiesIn (part region : Region) : Type 0 where
+  pub lows : (dimension : ℕ) → dimension < 3 → slice_index region.low dimension ≤ slice_index part.low dimension
+  pub highs : (dimension : ℕ) → dimension < 3 → slice_index part.high dimension ≤ slice_index region.high dimension
+
 -- the part of the region whose keys of the dimension are below the key
 abbrev pub below_cut : Region → ℕ → ℕ → Region
 below_cut region dimension key = record { low = region.low; high = slice_set region.high dimension key }
@@ -73,6 +86,11 @@ OthersHoldNot = (cuts : Cuts) (region : Region) (keys : List ℕ) (index : ℕ) 
 abbrev pub PartsAreWithin : Type 0
 PartsAreWithin = (cuts : Cuts) (region : Region) (keys : List ℕ) (index : ℕ) → IsTrue (in_dimensions cuts) → IsInThree region → AreProper cuts region
     → index < entry_count cuts → Holds (region_at cuts region index) keys → Holds region keys
+
+-- Where each cut lies inside its region, the ends of each entry's region lie in the whole one.
+abbrev pub PartsLieIn : Type 0
+PartsLieIn = (cuts : Cuts) (region : Region) (index : ℕ) → IsTrue (in_dimensions cuts) → IsInThree region → AreProper cuts region
+    → index < entry_count cuts → LiesIn (region_at cuts region index) region
 
 -- Where each cut lies inside its region, which is not empty, no entry's region is empty.
 abbrev pub NoneIsEmpty : Type 0

@@ -2,7 +2,7 @@
 ghost use Rattle.std.specs.Prelude.{◌≤◌, ℕ, length};
 ghost use Rattle.page_layout.specs.declared.cut_page.CutPage.{CutPage};
 ghost use Rattle.page_layout.specs.CutPage.{IsCutPageUpTo};
-ghost use Rattle.kdb_pages.specs.Regions.{CutIsCounted, CutIsProper, CutReplaces, FoundHolds, NoneIsEmpty, OthersHoldNot, PartsAreWithin, RegionsAreCounted, IsInThree};
+ghost use Rattle.kdb_pages.specs.Regions.{CutIsCounted, CutIsProper, CutReplaces, FoundHolds, NoneIsEmpty, OthersHoldNot, PartsAreWithin, PartsLieIn, RegionsAreCounted, IsInThree};
 
 use bw_types::Region;
 
@@ -12,6 +12,7 @@ pub fn region_laws()
     ensures found { FoundHolds }
     ensures others { OthersHoldNot }
     ensures within { PartsAreWithin }
+    ensures ends { PartsLieIn }
     ensures some { NoneIsEmpty }
 {}
 
