@@ -2,12 +2,14 @@
 ghost use Rattle.ba_records.specs.Borders.{OtherKeysStay, DifferingKeysStay};
 ghost use Rattle.ba_records.specs.Counts.{BeyondNeverCounts, BelowCountsByVersion, BorderCountsWithout};
 ghost use Rattle.ba_records.specs.Sums.{SumsByClass, SumsByOutside};
-ghost use Rattle.ba_records.specs.Table.{OneClass, InsideLiesIn};
+ghost use Rattle.ba_records.specs.Table.{OneClass, InsideLiesIn, LiesInHolds};
 
-/// Each point has exactly one class, and is Inside exactly where its keys lie in the region.
+/// Each point has exactly one class, and is Inside exactly where the test for the region passes, which is
+/// exactly where the region holds its keys.
 pub fn each_has_one_class()
     ensures one { OneClass }
     ensures inside { InsideLiesIn }
+    ensures holds { LiesInHolds }
 {}
 
 /// What a query inside a region takes from a point, by the point's class.

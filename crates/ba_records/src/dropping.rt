@@ -1,5 +1,5 @@
 ghost use Rattle.std.specs.Prelude.{◌≡◌, ◌<◌};
-ghost use Rattle.ba_records.specs.Borders.{keys_without, without_dimension};
+ghost use Rattle.bw_types.specs.Classes.{keys_without, without_dimension};
 
 use bw_types::Point;
 

@@ -13,7 +13,8 @@ use Rattle.page_layout.specs.CutNode.{IsCutNodeTyped}
 use Rattle.page_layout.specs.BaEntry.{IsBaEntryTyped, ba_entry_fits}
 use Rattle.page_layout.specs.CutPage.{IsCutPageUpTo, IsTyped}
 use Rattle.bw_types.specs.declared.region.Region.{Region}
-use Rattle.kdb_pages.specs.Regions.{AreProper, IsInThree, above_cut, below_cut, cut_at, region_at}
+use Rattle.bw_types.specs.Regions.{IsInThree}
+use Rattle.page_layout.specs.Regions.{AreProper, above_cut, below_cut, cut_at, region_at}
 use Rattle.kdb_pages.specs.Sides.{AreOfCuts, AreOfCut, with_cut}
 use Rattle.kdb_pages.proofs.Partition.{if_true, if_false, dimensions, cut_low, cut_high, cut_counted, low_ends, high_begins}
 use Rattle.kdb_pages.proofs.Splitting.{some_entries, spelled_cuts, spelled_count, of_cuts}

@@ -4,7 +4,7 @@ ghost use Rattle.page_layout.specs.declared.cut_node.CutNode.{CutNode};
 ghost use Rattle.page_layout.specs.Cuts.{SpellCuts, cut_node, cuts_in, entry_node};
 ghost use Rattle.page_layout.specs.CutPage.{IsCutPageUpTo, IsTyped};
 ghost use Rattle.page_layout.specs.BaEntry.{IsBaEntryTyped, ba_entry_fits};
-ghost use Rattle.kdb_pages.specs.Regions.{cut_at};
+ghost use Rattle.page_layout.specs.Regions.{cut_at};
 ghost use Rattle.kdb_pages.specs.Sides.{with_cut};
 
 use crate::sides::{CUT, ENTRY};

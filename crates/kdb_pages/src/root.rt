@@ -1,6 +1,6 @@
 //! The region of a root.
 ghost use Rattle.std.specs.Prelude.{◌≡◌, ◌<◌, ◌≤◌, ℕ, List, slice_index};
-ghost use Rattle.kdb_pages.specs.Regions.{Holds, IsInThree, IsNotEmpty, end_of, root_region};
+ghost use Rattle.bw_types.specs.Regions.{Holds, IsInThree, IsNotEmpty, end_of, root_region};
 
 use bw_types::Region;
 
@@ -29,7 +29,7 @@ fn end_of(dims: u8, dimension: u8) -> u64
 /// in range in the tree's dimensions and 0 past them; it does nothing when it runs.
 pub fn root_laws()
     ensures three { (dims : ℕ) → IsInThree (root_region dims) }
-    ensures some { (dims : ℕ) → IsNotEmpty (root_region dims) }
+    ensures some { (dims : ℕ) → IsNotEmpty 3 (root_region dims) }
     ensures holds { (dims : ℕ) (keys : List ℕ) → ((i : ℕ) → i < dims → slice_index keys i < 18446744069414584320) → ((i : ℕ) → dims ≤ i → slice_index keys i ≡ 0)
-        → Holds (root_region dims) keys }
+        → Holds 3 (root_region dims) keys }
 {}

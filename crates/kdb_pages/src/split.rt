@@ -3,7 +3,8 @@ ghost use Rattle.std.specs.Prelude.{◌≡◌, ◌<◌, ◌≤◌, ◌++◌, ℕ
 ghost use Rattle.bw_types.specs.declared.region.Region.{Region};
 ghost use Rattle.page_layout.specs.Cuts.{Cut, cuts_in};
 ghost use Rattle.page_layout.specs.CutPage.{IsCutPage, IsCutPageUpTo, IsTyped};
-ghost use Rattle.kdb_pages.specs.Regions.{AreProper, IsInThree, above_cut, below_cut, region_at};
+ghost use Rattle.bw_types.specs.Regions.{IsInThree};
+ghost use Rattle.page_layout.specs.Regions.{AreProper, above_cut, below_cut, region_at};
 
 use crate::places::entries_of;
 use crate::sides::first_cut;

@@ -17,6 +17,7 @@ pub mod TreeValue
 pub mod Meta
 pub mod CutNode
 pub mod Cuts
+pub mod Regions
 pub mod BaEntry
 pub mod CutPage
 pub mod Signed

@@ -1,9 +1,11 @@
--- Where a point stands beside a region.
-use Rattle.std.specs.Prelude.{ℕ, suc, Bool, true, not, ◌&&◌, if◌then◌else◌, nat_lt, nat_eq, false, List, [], ◌∷◌, take}
+-- Where points stand beside a region, and points without one dimension.
+use Rattle.std.specs.Prelude.{ℕ, suc, Bool, true, not, ◌&&◌, if◌then◌else◌, nat_lt, nat_eq, false, List, [], ◌∷◌, ◌++◌, take, map}
+use Rattle.std.specs.List.{filter, remove}
 use Rattle.bw_types.specs.Dominance.{keys_at_most}
+use Rattle.bw_types.specs.declared.point.Point.{Point}
 use Rattle.bw_types.specs.declared.region.Region.{Region}
-use Rattle.ba_records.specs.declared.classes.Class.{Class}
-use Rattle.ba_records.specs.declared.classes.Class.TheVariants.{Beyond, Inside, Below, Border}
+use Rattle.bw_types.specs.declared.class.Class.{Class}
+use Rattle.bw_types.specs.declared.class.Class.TheVariants.{Beyond, Inside, Below, Border}
 
 -- each key is below the bound beside it
 abbrev pub keys_before : List ℕ → List ℕ → Bool
@@ -17,7 +19,7 @@ first_below [] bounds = 0
 first_below (key ∷ keys) [] = 0
 first_below (key ∷ keys) (bound ∷ bounds) = if nat_lt key bound then 0 else suc (first_below keys bounds)
 
--- the keys lie in the region: in each dimension the key is from the low end to before the high end
+-- whether the region holds the keys: in each dimension the key is from the low end to before the high end
 abbrev pub lies_in : ℕ → List ℕ → Region → Bool
 lies_in dims keys region =
     keys_at_most (take dims region.low) (take dims keys) && keys_before (take dims keys) (take dims region.high)
@@ -48,3 +50,24 @@ abbrev pub is_outside : Class → Bool
 is_outside Below = true
 is_outside (Border dimension) = true
 is_outside class = false
+
+-- the keys without that of a dimension: those after it close up, and the last one is 0
+abbrev pub keys_without : ℕ → List ℕ → List ℕ
+keys_without dimension keys = remove keys dimension ++ (0 ∷ [])
+
+-- the point with these keys, of the same version and weight
+abbrev pub without_dimension : ℕ → Point → Point
+without_dimension dimension p = record p { keys = keys_without dimension p.keys }
+
+-- the points that have the class for the region
+abbrev pub points_of_class : ℕ → Region → Class → List Point → List Point
+points_of_class dims region class points = filter (λ p. is_same_class class (class_of dims p.keys region)) points
+
+-- the points outside the region that may count inside it, with all their keys
+abbrev pub points_outside : ℕ → Region → List Point → List Point
+points_outside dims region points = filter (λ p. is_outside (class_of dims p.keys region)) points
+
+-- the points at the region's border in a dimension, without that dimension
+abbrev pub border_points : ℕ → Region → ℕ → List Point → List Point
+border_points dims region dimension points =
+    map (without_dimension dimension) (points_of_class dims region (Border dimension) points)
