@@ -9,6 +9,7 @@ pub mod Later
 pub mod Leading
 pub mod LivingLows
 pub mod LowOrder
+pub mod LowsAround
 pub mod Order
 pub mod Paths
 pub mod Putting

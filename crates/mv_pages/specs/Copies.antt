@@ -43,9 +43,10 @@ second_half entries = first_raised (total (first_half entries) % 2 ^ 128) (drop 
 abbrev pub with_entries : MvNode → List MvEntry → MvNode
 with_entries node entries = record { level = node.level; place = node.place; before = node.before; entries = record { items = entries } }
 
--- Each entry starts at the version and is not closed, no two begin at one low, and they keep the rules.
+-- Each entry starts at the version and is not closed, so all are alive from it on, no two begin at one low, and they keep the rules.
 pub record AreFresh (level version : ℕ) (entries : List MvEntry) : Type 0 where
   pub starts : All (λ e. (e.start ≡ version) × (e.end ≡ 4294967295)) entries
+  pub alive : (v : ℕ) → version ≤ v → alive_at entries v ≡ entries
   pub rules : AreEntriesOf level entries
   pub changeable : IsChangeable version entries
 

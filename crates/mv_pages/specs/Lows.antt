@@ -51,3 +51,15 @@ low_of (Some e) = Some e.low
 -- the entry starts at or before the version, and if it is closed, it ends there or before
 abbrev pub is_past : ℕ → MvEntry → Bool
 is_past version e = nat_le e.start version && (e.end == 4294967295 || nat_le e.end version)
+
+-- the greater of two lows, or the one that there is
+abbrev pub greater_low : Option ℕ → Option ℕ → Option ℕ
+greater_low None other = other
+greater_low (Some low) None = Some low
+greater_low (Some low) (Some other) = cond (nat_lt low other) (Some other) (Some low)
+
+-- the lesser of two lows, or the one that there is
+abbrev pub lesser_low : Option ℕ → Option ℕ → Option ℕ
+lesser_low None other = other
+lesser_low (Some low) None = Some low
+lesser_low (Some low) (Some other) = cond (nat_lt low other) (Some low) (Some other)

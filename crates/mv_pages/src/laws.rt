@@ -1,9 +1,9 @@
 //! Laws on nodes, for the crates above.
-ghost use Rattle.std.specs.Prelude.{◌≡◌, ◌<◌, ◌≤◌, ◌∷◌, ℕ, Bool, IsTrue, List, length};
+ghost use Rattle.std.specs.Prelude.{◌≡◌, ◌<◌, ◌≤◌, ◌∷◌, [], ℕ, Bool, IsTrue, List, length};
 ghost use Rattle.std.specs.List.{All};
 ghost use Rattle.page_layout.specs.declared.mv_node.MvEntry.{MvEntry};
 ghost use Rattle.mv_pages.specs.Alive.{AreEntriesOf, IsChangeable, alive_count, next_entry, path_child, path_entry};
-ghost use Rattle.mv_pages.specs.Lows.{alive_lows, ascend, low_above, low_at, low_of, with_low};
+ghost use Rattle.mv_pages.specs.Lows.{alive_lows, ascend, greater_low, lesser_low, low_above, low_at, low_of, with_low};
 
 /// Proves that entries that may be changed at a version may be changed at a later one, and that the same
 /// are alive there; it does nothing when it runs.
@@ -23,6 +23,9 @@ pub fn low_laws()
     ensures each { (test : ℕ → Bool) (low : ℕ) (lows : List ℕ) → IsTrue (test low) → All (λ l. IsTrue (test l)) lows → All (λ l. IsTrue (test l)) (with_low low lows) }
     // The first one stays where it is at or below the low.
     ensures first { (low first : ℕ) (lows : List ℕ) → first ≤ low → (rest : List ℕ) × (with_low low (first ∷ lows) ≡ first ∷ rest) }
+    // The lows around a key are those of before and the one that is put in, whichever is nearer.
+    ensures at { (low key : ℕ) (lows : List ℕ) → IsTrue (ascend lows) → low_at (with_low low lows) key ≡ greater_low (low_at (low ∷ []) key) (low_at lows key) }
+    ensures above { (low key : ℕ) (lows : List ℕ) → low_above (with_low low lows) key ≡ lesser_low (low_above (low ∷ []) key) (low_above lows key) }
     ensures fewer { (low : ℕ) (lows : List ℕ) → length lows ≤ length (with_low low lows) }
 {}
 
