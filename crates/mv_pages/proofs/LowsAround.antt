@@ -1,6 +1,7 @@
 -- The lows around a key, once another low is put in.
-use Rattle.std.proofs.Common.{◌≡◌, ℕ, ◌<◌, inl, inr, Bool, true, false, cond, nat_lt, nat_le, List, [], ◌∷◌, Option, Some, None, refl, sym, ap, ◌∙◌, subst, arith}
-use Rattle.std.proofs.lemmas.Bool.{cases_lt, cases_order, cases_Bool, and_parts, lt-ltb, le-ltb, ltb-true}
+use Rattle.std.proofs.Common.{◌≡◌, ℕ, ◌<◌, ◌≤◌, inl, inr, Bool, true, false, cond, nat_lt, nat_le, List, [], ◌∷◌, Option, Some, None, refl, sym, ap, ◌∙◌, subst, arith}
+use Rattle.std.specs.Prelude.{IfSome}
+use Rattle.std.proofs.lemmas.Bool.{cases_lt, cases_order, cases_Bool, and_parts, lt-ltb, le-ltb, ltb-true, lt-leb, le-leb, leb-true}
 use Rattle.mv_pages.specs.Alive.{or_later}
 use Rattle.mv_pages.specs.Lows.{with_low, low_at, low_above, ascend_from, greater_low, lesser_low}
 use Rattle.mv_pages.proofs.LivingLows.{with_past, with_same}
@@ -108,3 +109,63 @@ low_above_put c (l ∷ ls) q = elim (cases_order c l) [
   | inr (inr more) ↦
       ap (λ (t : List ℕ). low_above t q) (with_past c l ls more) ∙ ap (cond (nat_lt q l) (Some l)) (low_above_put c ls q) ∙ lesser_past c l q (low_above ls q) more
 ]
+
+-- the interval of a key
+
+from_step : (l key low : ℕ) (o : Option ℕ) → or_later (cond (nat_le l key) (Some l) None) o ≡ Some low → ((n : ℕ) → o ≡ Some n → n ≤ key) → low ≤ key
+from_step l key low (Some n) at rest = let same : n ≡ low = cc in subst (λ (k : ℕ). k ≤ key) same (rest n refl)
+from_step l key low None at rest = elim (cases_Bool (nat_le l key)) [
+  | inl under ↦
+      let here : Some l ≡ Some low = rw under at at in
+      let same : l ≡ low = cc in
+      subst (λ (k : ℕ). k ≤ key) same (leb-true l key under)
+  | inr over ↦
+      let none : Option ℕ = None in
+      let here : none ≡ Some low = rw over at at in
+      absurd cc
+]
+
+pub low_at_from : (ls : List ℕ) (key low : ℕ) → low_at ls key ≡ Some low → low ≤ key
+low_at_from [] key low at = absurd cc
+low_at_from (l ∷ ls) key low at = from_step l key low (low_at ls key) at (λ n is. low_at_from ls key n is)
+
+pub low_above_before : (ls : List ℕ) (key next : ℕ) → low_above ls key ≡ Some next → key < next
+low_above_before [] key next at = absurd cc
+low_above_before (l ∷ ls) key next at = elim (cases_Bool (nat_lt key l)) [
+  | inl above ↦
+      let here : Some l ≡ Some next = rw above at at in
+      let same : l ≡ next = cc in
+      subst (λ (k : ℕ). key < k) same (ltb-true key l above)
+  | inr under ↦ let rest : low_above ls key ≡ Some next = rw under at at in low_above_before ls key next rest
+]
+
+none_below : (ls : List ℕ) (last q : ℕ) → ascend_from (Some last) ls ≡ true → q ≤ last → low_at ls q ≡ None
+none_below [] last q up le = refl
+none_below (l ∷ ls) last q up le =
+    let parts = and_parts (nat_lt last l) (ascend_from (Some l) ls) up in
+    let more : last < l = ltb-true last l parts.0 in
+    let a = lt-leb l q (omega (arith, more, le)) in
+    let rest = none_below ls l q parts.1 (omega (arith, more, le)) in
+    rw (a, rest) refl
+
+pub low_between : (ls : List ℕ) (last : Option ℕ) (key other : ℕ) → ascend_from last ls ≡ true → key ≤ other → IfSome (low_above ls key) (λ next. other < next) → low_at ls other ≡ low_at ls key
+low_between [] last key other up le ends = refl
+low_between (l ∷ ls) last key other up le ends =
+    let parts = and_parts _ (ascend_from (Some l) ls) up in
+    elim (cases_lt key l) [
+      | inl above ↦
+          let a = lt-ltb key l above in
+          let less : other < l = rw a at ends in
+          let b = lt-leb l key above in
+          let d = lt-leb l other less in
+          let none_key = none_below ls l key parts.1 (omega (arith, above)) in
+          let none_other = none_below ls l other parts.1 (omega (arith, less)) in
+          rw (b, d, none_key, none_other) refl
+      | inr at ↦
+          let a = le-ltb key l at in
+          let rest : IfSome (low_above ls key) (λ next. other < next) = rw a at ends in
+          let b = le-leb l key at in
+          let d = le-leb l other (omega (arith, at, le)) in
+          let same = low_between ls (Some l) key other parts.1 le rest in
+          rw (b, d, same) refl
+    ]

@@ -1,5 +1,5 @@
 //! Laws on nodes, for the crates above.
-ghost use Rattle.std.specs.Prelude.{◌≡◌, ◌<◌, ◌≤◌, ◌∷◌, [], ℕ, Bool, IsTrue, List, length};
+ghost use Rattle.std.specs.Prelude.{◌≡◌, ◌<◌, ◌≤◌, ◌∷◌, [], ℕ, Bool, IfSome, IsTrue, List, Some, length};
 ghost use Rattle.std.specs.List.{All};
 ghost use Rattle.page_layout.specs.declared.mv_node.MvEntry.{MvEntry};
 ghost use Rattle.mv_pages.specs.Alive.{AreEntriesOf, IsChangeable, alive_count, next_entry, path_child, path_entry};
@@ -29,7 +29,8 @@ pub fn low_laws()
     ensures fewer { (low : ℕ) (lows : List ℕ) → length lows ≤ length (with_low low lows) }
 {}
 
-/// Proves that the lows that are alive tell where a path goes; it does nothing when it runs.
+/// Proves that the lows that are alive tell where a path goes, and into which intervals they cut the keys;
+/// it does nothing when it runs.
 pub fn path_laws()
     // The path's entry begins at the last alive low at or below the key, and the next one at the first above it.
     ensures low { (entries : List MvEntry) (key version : ℕ) → low_of (path_entry entries key version) ≡ low_at (alive_lows entries version) key }
@@ -37,4 +38,8 @@ pub fn path_laws()
     // Keys of the same low lead to the same child.
     ensures same { (entries : List MvEntry) (key other version : ℕ) → low_at (alive_lows entries version) key ≡ low_at (alive_lows entries version) other
         → path_child entries key version ≡ path_child entries other version }
+    // A key is at or above its low and below the next one, and each key from it to there has its low.
+    ensures from { (lows : List ℕ) (key low : ℕ) → low_at lows key ≡ Some low → low ≤ key }
+    ensures before { (lows : List ℕ) (key next : ℕ) → low_above lows key ≡ Some next → key < next }
+    ensures between { (lows : List ℕ) (key other : ℕ) → IsTrue (ascend lows) → key ≤ other → IfSome (low_above lows key) (λ next. other < next) → low_at lows other ≡ low_at lows key }
 {}
