@@ -1,7 +1,7 @@
 -- One key more, in the tests that go over keys.
 use Rattle.std.proofs.Common.{◌≡◌, ℕ, suc, ◌+◌, ◌<◌, ◌&&◌, if◌then◌else◌, nat_lt, nat_le, List, drop, length, slice_index, refl, arith, add-one, drop-cons}
 use Rattle.bw_types.specs.Dominance.{keys_at_most}
-use Rattle.ba_records.specs.Classes.{keys_before, first_below}
+use Rattle.bw_types.specs.Classes.{keys_before, first_below}
 
 pub keys_before_step : (i : ℕ) (keys bounds : List ℕ) → i < length keys → length bounds ≡ length keys → keys_before (drop i keys) (drop i bounds) ≡ (nat_lt (slice_index keys i) (slice_index bounds i) && keys_before (drop (i + 1) keys) (drop (i + 1) bounds))
 keys_before_step i keys bounds h e =

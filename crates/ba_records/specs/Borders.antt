@@ -1,15 +1,7 @@
--- Keys and points without one dimension.
-use Rattle.std.specs.Prelude.{◌≡◌, ◌≢◌, ℕ, ◌-◌, if◌then◌else◌, nat_lt, slice_index, List, [], ◌∷◌, ◌++◌}
-use Rattle.std.specs.List.{remove}
+-- What keys and points without one dimension keep.
+use Rattle.std.specs.Prelude.{◌≡◌, ◌≢◌, ℕ, ◌-◌, if◌then◌else◌, nat_lt, slice_index, List}
+use Rattle.bw_types.specs.Classes.{keys_without, without_dimension}
 use Rattle.bw_types.specs.declared.point.Point.{Point}
-
--- the keys without that of a dimension: those after it close up, and the last one is 0
-abbrev pub keys_without : ℕ → List ℕ → List ℕ
-keys_without dimension keys = remove keys dimension ++ (0 ∷ [])
-
--- the point with these keys, of the same version and weight
-abbrev pub without_dimension : ℕ → Point → Point
-without_dimension dimension p = record p { keys = keys_without dimension p.keys }
 
 -- where the key of a dimension stands without another one
 abbrev pub closed_place : ℕ → ℕ → ℕ

@@ -1,14 +1,14 @@
 -- What a query inside a region takes from a point, by the point's class: the proofs.
-use Rattle.std.proofs.Common.{◌≡◌, ℕ, zero, suc, ◌-◌, ◌<◌, ◌≤◌, Bool, true, false, not, ◌&&◌, if◌then◌else◌, nat_lt, nat_le, List, [], ◌∷◌, ◌++◌, take, length, inl, inr, refl, sym, ap, arith}
+use Rattle.std.proofs.Common.{◌≡◌, ℕ, zero, suc, ◌-◌, ◌<◌, ◌≤◌, Bool, true, false, not, ◌&&◌, if◌then◌else◌, nat_lt, nat_le, List, [], ◌∷◌, ◌++◌, take, length, slice_index, inl, inr, refl, sym, ap, arith}
 use Rattle.std.proofs.Math.Seq.{take-nil}
 use Rattle.std.proofs.Math.Bool.{and-true}
 use Rattle.std.proofs.lemmas.Bool.{cases_lt, true≢false, both_ways, and_parts, and_from, and_left, and_right, and_cases, lt-ltb, le-ltb, lt-leb, le-leb, ltb-true, ltb-false, leb-true}
 use Rattle.bw_types.specs.Dominance.{keys_at_most}
 use Rattle.bw_types.specs.declared.region.Region.{Region}
-use Rattle.ba_records.specs.declared.classes.Class.{Class}
-use Rattle.ba_records.specs.declared.classes.Class.TheVariants.{Beyond, Inside, Below, Border}
-use Rattle.ba_records.specs.Classes.{keys_before, first_below, lies_in, class_of, is_same_class}
-use Rattle.ba_records.specs.Borders.{keys_without}
+use Rattle.bw_types.specs.declared.class.Class.{Class}
+use Rattle.bw_types.specs.declared.class.Class.TheVariants.{Beyond, Inside, Below, Border}
+use Rattle.bw_types.specs.Classes.{keys_before, first_below, lies_in, class_of, is_same_class, keys_without}
+use Rattle.bw_types.specs.Regions.{Holds}
 use Rattle.ba_records.specs.Counts.{BeyondNeverCounts, BelowCountsByVersion, BorderCountsWithout}
 
 -- ---- what a class says of the three tests that give it
@@ -104,13 +104,34 @@ without_below (suc d) (k ∷ ks) (q ∷ qs) (b ∷ ls) l h t =
           rw (le-ltb k b le) (ap (λ (rest : Bool). nat_le k q && rest) (without_below d ks qs ls (omega arith) from.1 rest))
     ]
 
+-- ---- keys that a region holds
+
+at_most_by : (d : ℕ) (ks bs : List ℕ) → ((i : ℕ) → i < d → slice_index ks i ≤ slice_index bs i) → keys_at_most (take d ks) (take d bs) ≡ true
+at_most_by zero ks bs h = refl
+at_most_by (suc d) [] bs h = refl
+at_most_by (suc d) (k ∷ ks) [] h = refl
+at_most_by (suc d) (k ∷ ks) (b ∷ bs) h =
+    let first : k ≤ b = h 0 (omega arith) in
+    and_from _ _ (le-leb k b first) (at_most_by d ks bs (λ i less. h (suc i) (omega arith)))
+
+before_by : (d : ℕ) (ks bs : List ℕ) → ((i : ℕ) → i < d → slice_index ks i < slice_index bs i) → keys_before (take d ks) (take d bs) ≡ true
+before_by zero ks bs h = refl
+before_by (suc d) [] bs h = refl
+before_by (suc d) (k ∷ ks) [] h = refl
+before_by (suc d) (k ∷ ks) (b ∷ bs) h =
+    let first : k < b = h 0 (omega arith) in
+    and_from _ _ (lt-ltb k b first) (before_by d ks bs (λ i less. h (suc i) (omega arith)))
+
+pub lies_by : (dims : ℕ) (keys : List ℕ) (region : Region) → Holds dims region keys → lies_in dims keys region ≡ true
+lies_by dims keys region h = and_from _ _ (at_most_by dims region.low keys h.from_low) (before_by dims keys region.high h.before_high)
+
 -- ---- the laws
 
-inside_low : (dims : ℕ) (keys : List ℕ) (region : Region) → lies_in dims keys region ≡ true → keys_at_most (take dims region.low) (take dims keys) ≡ true
-inside_low dims keys region h = (and_parts (keys_at_most (take dims region.low) (take dims keys)) _ h).0
+inside_low : (dims : ℕ) (keys : List ℕ) (region : Region) → Holds dims region keys → keys_at_most (take dims region.low) (take dims keys) ≡ true
+inside_low dims keys region h = at_most_by dims region.low keys h.from_low
 
-inside_high : (dims : ℕ) (keys : List ℕ) (region : Region) → lies_in dims keys region ≡ true → keys_before (take dims keys) (take dims region.high) ≡ true
-inside_high dims keys region h = (and_parts (keys_at_most (take dims region.low) (take dims keys)) _ h).1
+inside_high : (dims : ℕ) (keys : List ℕ) (region : Region) → Holds dims region keys → keys_before (take dims keys) (take dims region.high) ≡ true
+inside_high dims keys region h = before_by dims keys region.high h.before_high
 
 pub beyond_never_counts : BeyondNeverCounts
 beyond_never_counts dims region keys version p l h e =

@@ -1,4 +1,3 @@
-pub mod Classes
 pub mod Table
 pub mod Borders
 pub mod BorderLaws

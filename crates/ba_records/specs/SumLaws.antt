@@ -1,5 +1,5 @@
 -- Dominance sums by classes: the proof. Totals are taken without a bound first, and their modulus at the end.
-use Rattle.std.proofs.Common.{◌≡◌, ℕ, zero, suc, ◌+◌, ◌-◌, ◌%◌, ◌^◌, ◌<◌, ◌≤◌, Bool, true, false, if◌then◌else◌, nat_eq, List, [], ◌∷◌, map, take, length, inl, inr, refl, sym, ap, ◌∙◌, arith}
+use Rattle.std.proofs.Common.{◌≡◌, ℕ, zero, suc, ◌+◌, ◌-◌, ◌%◌, ◌^◌, ◌<◌, ◌≤◌, Bool, false, if◌then◌else◌, nat_eq, List, [], ◌∷◌, map, take, length, inl, inr, refl, sym, ap, ◌∙◌, arith}
 use Rattle.std.proofs.Math.Nat.{mod-add-mod, add-mod-mod, add-mod}
 use Rattle.std.proofs.Math.Bool.{and-true}
 use Rattle.std.proofs.lemmas.Bool.{cases_lt, cases_Bool, true≢false, ne_eqb, eq-eqb, lt-ltb, le-ltb, le-leb}
@@ -8,11 +8,11 @@ use Rattle.std.specs.List.{filter, sum_by}
 use Rattle.bw_types.specs.Dominance.{keys_at_most, is_dominated, dominated_weight}
 use Rattle.bw_types.specs.declared.point.Point.{Point}
 use Rattle.bw_types.specs.declared.region.Region.{Region}
-use Rattle.ba_records.specs.declared.classes.Class.{Class}
-use Rattle.ba_records.specs.declared.classes.Class.TheVariants.{Beyond, Inside, Below, Border}
-use Rattle.ba_records.specs.Classes.{first_below, lies_in, class_of, is_same_class}
-use Rattle.ba_records.specs.Borders.{keys_without, without_dimension}
-use Rattle.ba_records.specs.Sums.{points_of_class, border_points, sum_below, SumsByClass}
+use Rattle.bw_types.specs.declared.class.Class.{Class}
+use Rattle.bw_types.specs.declared.class.Class.TheVariants.{Beyond, Inside, Below, Border}
+use Rattle.bw_types.specs.Classes.{first_below, class_of, is_outside, is_same_class, keys_without, without_dimension, points_of_class, points_outside, border_points}
+use Rattle.bw_types.specs.Regions.{Holds}
+use Rattle.ba_records.specs.Sums.{sum_below, SumsByClass, SumsByOutside}
 use Rattle.ba_records.specs.CountLaws.{beyond_never_counts, below_counts_by_version, border_counts_without, border_is}
 
 -- ---- sums over the numbers below n
@@ -84,7 +84,7 @@ by_class n (Border j) w below g beyond under border =
     rw (sum_below-one n j g here.0) (omega (arith, e))
 
 -- the first dimension below is one of the dimensions
-first_is_one : (d : ℕ) (ks ls : List ℕ) → keys_at_most (take d ls) (take d ks) ≡ false → first_below (take d ks) (take d ls) < d
+pub first_is_one : (d : ℕ) (ks ls : List ℕ) → keys_at_most (take d ls) (take d ks) ≡ false → first_below (take d ks) (take d ls) < d
 first_is_one zero ks ls t = absurd (true≢false t)
 first_is_one (suc d) ks [] t = absurd (true≢false t)
 first_is_one (suc d) [] (b ∷ ls) t = absurd (true≢false t)
@@ -105,7 +105,7 @@ border_is_one dims keys region dimension e =
 abbrev weight_at : ℕ → List ℕ → ℕ → Point → ℕ
 weight_at dims keys version p = if is_dominated dims keys version p then p.weight else 0
 
-share : (dims : ℕ) (region : Region) (keys : List ℕ) (version : ℕ) (p : Point) → dims ≤ length keys → dims ≤ length region.low → lies_in dims keys region ≡ true → weight_at dims keys version p ≡ (if is_same_class Inside (class_of dims p.keys region) then weight_at dims keys version p else 0) + (if is_same_class Below (class_of dims p.keys region) then weight_at 0 [] version p else 0) + sum_below dims (λ i. if is_same_class (Border i) (class_of dims p.keys region) then weight_at (dims - 1) (keys_without i keys) version (without_dimension i p) else 0)
+share : (dims : ℕ) (region : Region) (keys : List ℕ) (version : ℕ) (p : Point) → dims ≤ length keys → dims ≤ length region.low → Holds dims region keys → weight_at dims keys version p ≡ (if is_same_class Inside (class_of dims p.keys region) then weight_at dims keys version p else 0) + (if is_same_class Below (class_of dims p.keys region) then weight_at 0 [] version p else 0) + sum_below dims (λ i. if is_same_class (Border i) (class_of dims p.keys region) then weight_at (dims - 1) (keys_without i keys) version (without_dimension i p) else 0)
 share dims region keys version p l m h =
     by_class dims (class_of dims p.keys region) (weight_at dims keys version p) (weight_at 0 [] version p) (λ i. weight_at (dims - 1) (keys_without i keys) version (without_dimension i p))
     (λ e. rw (beyond_never_counts dims region keys version p l h e) refl)
@@ -117,7 +117,7 @@ share dims region keys version p l m h =
 together : (whole first rest inside in_first in_rest below below_first below_rest borders border_first border_rest : ℕ) → whole ≡ first + rest → inside ≡ in_first + in_rest → below ≡ below_first + below_rest → borders ≡ border_first + border_rest → first ≡ in_first + below_first + border_first → rest ≡ in_rest + below_rest + border_rest → whole ≡ inside + below + borders
 together whole first rest inside in_first in_rest below below_first below_rest borders border_first border_rest w i b s f r = omega arith
 
-totals : (dims : ℕ) (region : Region) (points : List Point) (keys : List ℕ) (version : ℕ) → dims ≤ length keys → dims ≤ length region.low → lies_in dims keys region ≡ true → dominated_weight dims points keys version ≡ dominated_weight dims (points_of_class dims region Inside points) keys version + dominated_weight 0 (points_of_class dims region Below points) [] version + sum_below dims (λ i. dominated_weight (dims - 1) (border_points dims region i points) (keys_without i keys) version)
+totals : (dims : ℕ) (region : Region) (points : List Point) (keys : List ℕ) (version : ℕ) → dims ≤ length keys → dims ≤ length region.low → Holds dims region keys → dominated_weight dims points keys version ≡ dominated_weight dims (points_of_class dims region Inside points) keys version + dominated_weight 0 (points_of_class dims region Below points) [] version + sum_below dims (λ i. dominated_weight (dims - 1) (border_points dims region i points) (keys_without i keys) version)
 totals dims region [] keys version l m h =
     let none = sum_below-zero dims (λ i. 0) (λ i. refl) in
     omega (arith, none)
@@ -137,3 +137,27 @@ modulus a b n m g =
 pub sums_by_class : SumsByClass
 sums_by_class dims region points keys version l m h =
     ap (λ s. s % 2 ^ 128) (totals dims region points keys version l m h) ∙ modulus (dominated_weight dims (points_of_class dims region Inside points) keys version) (dominated_weight 0 (points_of_class dims region Below points) [] version) dims (2 ^ 128) (λ i. dominated_weight (dims - 1) (border_points dims region i points) (keys_without i keys) version)
+
+-- ---- the law of a pocket
+
+-- a weight goes to the points Inside or to those outside
+by_side : (class : Class) (w : ℕ) → (class ≡ Beyond → w ≡ 0) → w ≡ (if is_same_class Inside class then w else 0) + (if is_outside class then w else 0)
+by_side Beyond w beyond = let e = beyond refl in omega (arith, e)
+by_side Inside w beyond = omega arith
+by_side Below w beyond = omega arith
+by_side (Border i) w beyond = omega arith
+
+side_totals : (dims : ℕ) (region : Region) (points : List Point) (keys : List ℕ) (version : ℕ) → dims ≤ length keys → Holds dims region keys → dominated_weight dims points keys version ≡ dominated_weight dims (points_of_class dims region Inside points) keys version + dominated_weight dims (points_outside dims region points) keys version
+side_totals dims region [] keys version l h = refl
+side_totals dims region (p ∷ points) keys version l h =
+    let whole = sum_by-cons (weight_at dims keys version) p points in
+    let inside = sum-kept (weight_at dims keys version) (λ x. is_same_class Inside (class_of dims x.keys region)) p points in
+    let outside = sum-kept (weight_at dims keys version) (λ x. is_outside (class_of dims x.keys region)) p points in
+    let mine = by_side (class_of dims p.keys region) (weight_at dims keys version p) (λ e. rw (beyond_never_counts dims region keys version p l h e) refl) in
+    let rest = side_totals dims region points keys version l h in
+    omega (arith, whole, inside, outside, mine, rest)
+
+pub sums_by_outside : SumsByOutside
+sums_by_outside dims region points keys version l h =
+    ap (λ s. s % 2 ^ 128) (side_totals dims region points keys version l h)
+    ∙ add-mod (dominated_weight dims (points_of_class dims region Inside points) keys version) (dominated_weight dims (points_outside dims region points) keys version) (2 ^ 128)

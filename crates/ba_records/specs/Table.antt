@@ -1,18 +1,18 @@
 -- The classes as a table, dimension by dimension, and that each point has exactly one.
-use Rattle.std.specs.Prelude.{◌≡◌, ℕ, ◌<◌, ◌≤◌, ◌↔◌, Bool, true, List, length, take, slice_index}
+use Rattle.std.specs.Prelude.{◌≡◌, ℕ, ◌<◌, ◌≤◌, ◌↔◌, true, List, length, slice_index}
 use Rattle.bw_types.specs.declared.region.Region.{Region}
-use Rattle.ba_records.specs.declared.classes.Class.{Class}
-use Rattle.ba_records.specs.declared.classes.Class.TheVariants.{Beyond, Inside, Below, Border}
-use Rattle.ba_records.specs.Classes.{keys_before, lies_in, class_of, is_same_class}
+use Rattle.bw_types.specs.declared.class.Class.{Class}
+use Rattle.bw_types.specs.declared.class.Class.TheVariants.{Beyond, Inside, Below, Border}
+use Rattle.bw_types.specs.Classes.{lies_in, class_of, is_same_class}
+use Rattle.bw_types.specs.Regions.{Holds, IsNotEmpty}
 
 -- some key is at or past the high end
 abbrev pub IsBeyond : ℕ → List ℕ → Region → Type 0
 IsBeyond dims keys region = (i : ℕ) × (i < dims) × (slice_index region.high i ≤ slice_index keys i)
 
--- each key is from the low end to before the high end
+-- the region holds the keys: each is from the low end to before the high end
 abbrev pub IsInside : ℕ → List ℕ → Region → Type 0
-IsInside dims keys region =
-    (i : ℕ) → i < dims → (slice_index region.low i ≤ slice_index keys i) × (slice_index keys i < slice_index region.high i)
+IsInside dims keys region = Holds dims region keys
 
 -- each key is below the low end
 abbrev pub IsBelow : ℕ → List ℕ → Region → Type 0
@@ -31,16 +31,17 @@ IsClass dims keys region Below = IsBelow dims keys region
 IsClass dims keys region (Border dimension) =
     (IsBeyond dims keys region → ⊥) × (IsInside dims keys region → ⊥) × (IsBelow dims keys region → ⊥) × IsFirstBelow dims keys region dimension
 
--- there are keys in the region: in each dimension its low end is below its high end
-abbrev pub has_keys : ℕ → Region → Bool
-has_keys dims region = keys_before (take dims region.low) (take dims region.high)
-
--- for a region that has keys each point has exactly one class
+-- for a region that is not empty each point has exactly one class
 abbrev pub OneClass : Type 0
 OneClass =
-    (dims : ℕ) (keys : List ℕ) (region : Region) → 1 ≤ dims → dims ≤ length keys → dims ≤ length region.low → dims ≤ length region.high → has_keys dims region ≡ true → (class : Class) → IsClass dims keys region class ↔ (class ≡ class_of dims keys region)
+    (dims : ℕ) (keys : List ℕ) (region : Region) → 1 ≤ dims → dims ≤ length keys → dims ≤ length region.low → dims ≤ length region.high → IsNotEmpty dims region → (class : Class) → IsClass dims keys region class ↔ (class ≡ class_of dims keys region)
 
--- the points Inside are those whose keys lie in the region
+-- the points Inside are those that the test for the region passes
 abbrev pub InsideLiesIn : Type 0
 InsideLiesIn =
     (dims : ℕ) (keys : List ℕ) (region : Region) → is_same_class Inside (class_of dims keys region) ≡ lies_in dims keys region
+
+-- the test for a region passes exactly the keys that it holds
+abbrev pub LiesInHolds : Type 0
+LiesInHolds =
+    (dims : ℕ) (keys : List ℕ) (region : Region) → dims ≤ length keys → dims ≤ length region.low → dims ≤ length region.high → (lies_in dims keys region ≡ true) ↔ Holds dims region keys

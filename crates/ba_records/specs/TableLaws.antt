@@ -3,11 +3,11 @@ use Rattle.std.proofs.Common.{◌≡◌, ℕ, zero, suc, ◌<◌, ◌≤◌, Boo
 use Rattle.std.proofs.lemmas.Bool.{cases_lt, cases_order, true≢false, and_parts, lt-ltb, le-ltb, le-leb, ltb-true, leb-true}
 use Rattle.bw_types.specs.Dominance.{keys_at_most}
 use Rattle.bw_types.specs.declared.region.Region.{Region}
-use Rattle.ba_records.specs.declared.classes.Class.{Class}
-use Rattle.ba_records.specs.declared.classes.Class.TheVariants.{Beyond, Inside, Below, Border}
-use Rattle.ba_records.specs.Classes.{keys_before, first_below, class_of, is_same_class}
-use Rattle.ba_records.specs.Table.{IsBeyond, IsInside, IsBelow, IsFirstBelow, IsClass, OneClass, InsideLiesIn}
-use Rattle.ba_records.specs.CountLaws.{class_by}
+use Rattle.bw_types.specs.declared.class.Class.{Class}
+use Rattle.bw_types.specs.declared.class.Class.TheVariants.{Beyond, Inside, Below, Border}
+use Rattle.bw_types.specs.Classes.{keys_before, first_below, class_of, is_same_class}
+use Rattle.ba_records.specs.Table.{IsBeyond, IsInside, IsBelow, IsFirstBelow, IsClass, OneClass, InsideLiesIn, LiesInHolds}
+use Rattle.ba_records.specs.CountLaws.{class_by, lies_by}
 
 -- ---- the tests dimension by dimension
 
@@ -73,27 +73,27 @@ one_first dims keys region i j f g =
 -- the two classes that the table gives keys are one
 pub one_row : (dims : ℕ) (keys : List ℕ) (region : Region) → 1 ≤ dims → ((i : ℕ) → i < dims → slice_index region.low i < slice_index region.high i) → (class other : Class) → IsClass dims keys region class → IsClass dims keys region other → class ≡ other
 one_row dims keys region d r Beyond Beyond c o = refl
-one_row dims keys region d r Beyond Inside c o = let h = o c.0 c.1 in absurd (omega (arith, h.1, c.2))
+one_row dims keys region d r Beyond Inside c o = let h = o.before_high c.0 c.1 in absurd (omega (arith, h, c.2))
 one_row dims keys region d r Beyond Below c o =
     let h = o c.0 c.1 in
     let k = r c.0 c.1 in
     absurd (omega (arith, h, k, c.2))
 one_row dims keys region d r Beyond (Border j) c o = absurd (o.0 c)
-one_row dims keys region d r Inside Beyond c o = let h = c o.0 o.1 in absurd (omega (arith, h.1, o.2))
+one_row dims keys region d r Inside Beyond c o = let h = c.before_high o.0 o.1 in absurd (omega (arith, h, o.2))
 one_row dims keys region d r Inside Inside c o = refl
 one_row dims keys region d r Inside Below c o =
-    let h = c 0 d in
+    let h = c.from_low 0 d in
     let k = o 0 d in
-    absurd (omega (arith, h.0, k))
+    absurd (omega (arith, h, k))
 one_row dims keys region d r Inside (Border j) c o = absurd (o.1 c)
 one_row dims keys region d r Below Beyond c o =
     let h = c o.0 o.1 in
     let k = r o.0 o.1 in
     absurd (omega (arith, h, k, o.2))
 one_row dims keys region d r Below Inside c o =
-    let h = o 0 d in
+    let h = o.from_low 0 d in
     let k = c 0 d in
-    absurd (omega (arith, h.0, k))
+    absurd (omega (arith, h, k))
 one_row dims keys region d r Below Below c o = refl
 one_row dims keys region d r Below (Border j) c o = absurd (o.2 c)
 one_row dims keys region d r (Border i) Beyond c o = absurd (c.0 o)
@@ -115,9 +115,9 @@ class_is_in_table dims keys region k l g =
     by_tests dims keys region (keys_before (take dims keys) (take dims region.high)) (keys_at_most (take dims region.low) (take dims keys)) (keys_before (take dims keys) (take dims region.low)) (first_below (take dims keys) (take dims region.low))
     (past_at dims keys region.high)
     (λ t c. let h = before_at dims keys region.high k g t c.0 c.1 in omega (arith, h, c.2))
-    (λ t u i h. (at_most_at dims region.low keys l k u i h, before_at dims keys region.high k g t i h))
+    (λ t u. record { from_low = λ i h. at_most_at dims region.low keys l k u i h; before_high = λ i h. before_at dims keys region.high k g t i h })
     (λ t. let f = first_below_is dims keys region.low t in
-    (λ c. let h = c (first_below (take dims keys) (take dims region.low)) f.0 in omega (arith, h.0, f.1), f))
+    (λ c. let h = c.from_low (first_below (take dims keys) (take dims region.low)) f.0 in omega (arith, h, f.1), f))
     (before_at dims keys region.low k l)
     (λ t c. let p = past_at dims keys region.low t in let h = c p.0 p.1 in omega (arith, h, p.2))
 
@@ -125,9 +125,8 @@ class_is_in_table dims keys region k l g =
 
 pub one_class : OneClass
 one_class dims keys region d k l g r class =
-    let room = before_at dims region.low region.high l g r in
     let given = class_is_in_table dims keys region k l g in
-    ((λ c. one_row dims keys region d room class (class_of dims keys region) c given), (λ e. subst (IsClass dims keys region) (sym e) given))
+    ((λ c. one_row dims keys region d r class (class_of dims keys region) c given), (λ e. subst (IsClass dims keys region) (sym e) given))
 
 by_bools : (before past below : Bool) (i : ℕ) → is_same_class Inside (class_by before past below i) ≡ (past && before)
 by_bools false false below i = refl
@@ -139,3 +138,11 @@ by_bools true false false i = refl
 pub inside_lies_in : InsideLiesIn
 inside_lies_in dims keys region =
     by_bools (keys_before (take dims keys) (take dims region.high)) (keys_at_most (take dims region.low) (take dims keys)) (keys_before (take dims keys) (take dims region.low)) (first_below (take dims keys) (take dims region.low))
+
+pub lies_in_holds : LiesInHolds
+lies_in_holds dims keys region k l g = (
+  λ t.
+      let both = and_parts (keys_at_most (take dims region.low) (take dims keys)) (keys_before (take dims keys) (take dims region.high)) t in
+      record { from_low = λ i h. at_most_at dims region.low keys l k both.0 i h; before_high = λ i h. before_at dims keys region.high k g both.1 i h },
+  lies_by dims keys region,
+)

@@ -1,29 +1,17 @@
-ghost use Rattle.std.specs.Prelude.{◌≡◌, ◌≤◌, length};
-ghost use Rattle.ba_records.specs.Classes.{class_of, keys_before, first_below as first_key_below};
+ghost use Rattle.std.specs.Prelude.{◌≡◌, ◌<◌, ◌≤◌, ℕ, length};
+ghost use Rattle.bw_types.specs.declared.class.Class.{Class};
+ghost use Rattle.bw_types.specs.Classes.{class_of, keys_before, first_below as first_key_below};
 ghost use Rattle.bw_types.specs.Dominance.{keys_at_most};
 
-use bw_types::{Point, Region};
-
-/// Where a point stands beside the region of an entry.
-#[derive(Clone, Copy, Debug, PartialEq, Eq)]
-pub enum Class {
-    /// Some key is at or past the region's high end: no query inside the region takes the point.
-    Beyond,
-    /// Each key is from the region's low end to before its high end.
-    Inside,
-    /// Each key is below the region's low end: a query inside takes the point by its version alone.
-    Below,
-    /// None of these, and this is the first dimension, counted from 0, whose key is below the
-    /// region's low end: a query inside takes the point whatever its key there is.
-    Border(u8),
-}
+use bw_types::{Class, Point, Region};
 
 /// The class of a point for a region of 1 to 3 dimensions. Keys and ends past the dimensions do not
 /// count.
 pub fn classify(point: &Point, region: &Region, dims: u8) -> Class
     requires at_least { 1 ≤ dims }
     requires at_most { dims ≤ 3 }
-    ensures { result ≡ class_of dims point.now.keys region.now }
+    ensures class { result ≡ class_of dims point.now.keys region.now }
+    ensures border { (dimension : ℕ) → result ≡ Class.Border dimension → dimension < dims }
 {
     let dims = usize::from(dims);
     let keys = &point.keys[..dims];

@@ -13,6 +13,6 @@ mod dropping;
 #[cfg(test)]
 mod tests;
 
-pub use bw_types::{BaEntry, Outside};
-pub use classes::{Class, classify};
-pub use dropping::drop_dimension;
+pub use bw_types::{BaEntry, Class, Outside};
+pub use classes::classify;
+pub use dropping::{drop_dimension, drop_key};

@@ -1,5 +1,5 @@
 -- How much weight the points have that count at some keys and a version.
-use Rattle.std.specs.Prelude.{ℕ, ◌+◌, ◌^◌, ◌%◌, Bool, true, ◌&&◌, nat_le, if◌then◌else◌, List, [], ◌∷◌, take}
+use Rattle.std.specs.Prelude.{ℕ, ◌^◌, ◌%◌, Bool, true, ◌&&◌, nat_le, if◌then◌else◌, List, [], ◌∷◌, take}
 use Rattle.std.specs.List.{sum_by}
 use Rattle.bw_types.specs.declared.point.Point.{Point}
 

@@ -16,3 +16,5 @@ pub mod Keys
 pub mod KeyLaws
 pub mod Heights
 pub mod HeightLaws
+pub mod Regions
+pub mod Classes

@@ -1,6 +1,6 @@
 -- An entry cut in two, and a page split.
 use Rattle.std.proofs.Common.{◌≡◌, inl, inr, ℕ, zero, suc, ◌+◌, ◌-◌, ◌<◌, ◌≤◌, ◌^◌, List, [], ◌∷◌, ◌++◌, length, take, drop, Bool, true, false, IsTrue, ◌&&◌, ◌==◌, refl, sym, ap, ◌∙◌, subst, length-append, append_assoc, append-nil, length-drop, arith}
-use Rattle.std.specs.Prelude.{nat_le, if◌then◌else◌}
+use Rattle.std.specs.Prelude.{nat_le, if◌then◌else◌, slice_index}
 use Rattle.std.specs.List.{All}
 use Rattle.std.proofs.lemmas.Bool.{cases_lt, and_from, le-leb}
 use Rattle.std.proofs.lemmas.List.{take_at, drop_at, length-take-le}
@@ -8,13 +8,15 @@ use Rattle.std.proofs.lemmas.List.Elements.{All-append, All-cons, All-tail, All-
 use Rattle.bw_types.specs.declared.ba_entry.BaEntry.{BaEntry}
 use Rattle.page_layout.specs.declared.cut_node.CutNode.{CutNode}
 use Rattle.page_layout.specs.declared.cut_page.CutPage.{CutPage}
-use Rattle.page_layout.specs.Cuts.{Cuts, Entry, Cut, entry_count, in_dimensions, entry_node, cut_node, pre_order, cuts_in}
+use Rattle.page_layout.specs.Cuts.{Cuts, Entry, Cut, entry_count, in_dimensions, entry_node, cut_node, pre_order, cuts_in, SpellCuts}
 use Rattle.page_layout.specs.CutNode.{IsCutNodeTyped}
 use Rattle.page_layout.specs.BaEntry.{IsBaEntryTyped, ba_entry_fits}
 use Rattle.page_layout.specs.CutPage.{IsCutPageUpTo, IsTyped}
-use Rattle.kdb_pages.specs.Regions.{cut_at}
+use Rattle.bw_types.specs.declared.region.Region.{Region}
+use Rattle.bw_types.specs.Regions.{IsInThree}
+use Rattle.page_layout.specs.Regions.{AreProper, above_cut, below_cut, cut_at, region_at}
 use Rattle.kdb_pages.specs.Sides.{AreOfCuts, AreOfCut, with_cut}
-use Rattle.kdb_pages.proofs.Partition.{if_true, if_false, dimensions, cut_low, cut_high, cut_counted}
+use Rattle.kdb_pages.proofs.Partition.{if_true, if_false, dimensions, cut_low, cut_high, cut_counted, low_ends, high_begins}
 use Rattle.kdb_pages.proofs.Splitting.{some_entries, spelled_cuts, spelled_count, of_cuts}
 
 -- the node of a cut is passed by
@@ -117,10 +119,11 @@ all_cut P (node ∷ nodes) (suc index) cut c e all =
     All-cons P node (with_cut nodes (if node.tag == 0 then index else suc index) cut) (all 0 node (omega arith)) (all_cut P nodes (if node.tag == 0 then index else suc index) cut c e (All-tail P node nodes all))
 
 -- the rules of a page of which an entry was cut
-pub cut_rules : (page new : CutPage) (index d k : ℕ) (low high : BaEntry) → IsCutPageUpTo 16 page → index < length page.entries.items → d < 3 → IsTrue (ba_entry_fits low) → IsTrue (ba_entry_fits high)
+pub cut_rules : (page new : CutPage) (index d k : ℕ) (low high : BaEntry) → IsCutPageUpTo 16 page → index < length page.entries.items → d < 3
     → new.level ≡ page.level → new.cuts.items ≡ with_cut page.cuts.items index (cut_node d k) → new.entries.items ≡ take index page.entries.items ++ (low ∷ high ∷ drop (index + 1) page.entries.items)
-    → (cuts_in new.cuts.items ≡ cut_at (cuts_in page.cuts.items) index d k) × IsCutPageUpTo 17 new
-cut_rules page new index d k low high rules lt few l h level cuts entries =
+    → (cuts_in new.cuts.items ≡ cut_at (cuts_in page.cuts.items) index d k) × SpellCuts new.cuts.items (length new.entries.items)
+    × (IsTrue (ba_entry_fits low) → IsTrue (ba_entry_fits high) → IsCutPageUpTo 17 new)
+cut_rules page new index d k low high rules lt few level cuts entries =
     let are = spelled_cuts page.cuts.items (length page.entries.items) rules.cuts in
     let count : entry_count (cuts_in page.cuts.items) ≡ length page.entries.items = spelled_count page.cuts.items (length page.entries.items) rules.cuts in
     let s = cut_spelled page.cuts.items new.cuts.items index d k are (omega arith) few cuts in
@@ -128,14 +131,16 @@ cut_rules page new index d k low high rules lt few l h level cuts entries =
     let counted : entry_count (cuts_in new.cuts.items) ≡ entry_count (cuts_in page.cuts.items) + 1 = ap entry_count s.0 ∙ cut_counted (cuts_in page.cuts.items) index d k in
     let fewer : length page.entries.items ≤ 16 = rules.few in
     let low_level : 2 ≤ page.level = rules.low_level in
-    let high_level : page.level ≤ 16 = rules.high_level in (
+    let high_level : page.level ≤ 16 = rules.high_level in
+    let spelled : SpellCuts new.cuts.items (length new.entries.items) = record { cuts = cuts_in new.cuts.items; in_order = s.1.spelled; into = omega arith; dimensions = s.1.dimensions } in (
       s.0,
-      record {
+      spelled,
+      λ l h. record {
         low_level = omega arith;
         high_level = omega arith;
         some = omega arith;
         few = omega arith;
-        cuts = record { cuts = cuts_in new.cuts.items; in_order = s.1.spelled; into = omega arith; dimensions = s.1.dimensions };
+        cuts = spelled;
         entries = all_two (λ e. IsTrue (ba_entry_fits e)) page.entries.items new.entries.items index low high entries l h rules.entries;
       },
     )
@@ -214,3 +219,34 @@ high_side page side nodes low high d k count rules e cut is level cuts entries =
         entries = All-same IsBaEntryTyped side.entries.items (drop count page.entries.items) entries (All-drop IsBaEntryTyped count page.entries.items typed.entries);
       };
     }
+
+-- the cut that the page begins with, and what is known of it
+record Begins (page : CutPage) (low high : List CutNode) (d k : ℕ) : Type 0 where
+  pub cut : cuts_in page.cuts.items ≡ Cut d k (cuts_in low) (cuts_in high)
+  pub dimensions : IsTrue (in_dimensions (Cut d k (cuts_in low) (cuts_in high)))
+
+begins_with : (page : CutPage) (nodes low high : List CutNode) (d k : ℕ) → IsCutPageUpTo 17 page → nodes ≡ page.cuts.items → AreOfCut nodes d k low high → Begins page low high d k
+begins_with page nodes low high d k rules e cut =
+    let same : cuts_in page.cuts.items ≡ Cut d k (cuts_in low) (cuts_in high) = ap cuts_in (sym e) ∙ cut.cut in
+    let are = spelled_cuts page.cuts.items (length page.entries.items) rules.cuts in
+    record { cut = same; dimensions = subst (λ (c : Cuts). IsTrue (in_dimensions c)) same are.dimensions }
+
+pub split_ends : (page side : CutPage) (nodes low high : List CutNode) (d k count : ℕ) → IsCutPageUpTo 17 page → nodes ≡ page.cuts.items → AreOfCut nodes d k low high → count ≡ entry_count (cuts_in low)
+    → side.cuts.items ≡ low → side.entries.items ≡ take count page.entries.items → (region : Region) (index : ℕ) → IsInThree region → AreProper (cuts_in page.cuts.items) region → index < length side.entries.items
+    → slice_index (region_at (cuts_in side.cuts.items) (below_cut region d k) index).high d ≤ k
+split_ends page side nodes low high d k count rules e cut is cuts entries region index three proper lt =
+    let b = begins_with page nodes low high d k rules e cut in
+    let both = sides_counted page nodes low high d k rules e cut in
+    let len : length side.entries.items ≡ count = ap (λ (xs : List BaEntry). length xs) entries ∙ length-take-le count page.entries.items (omega arith) in
+    let core = low_ends d k (cuts_in low) (cuts_in high) region index b.dimensions three (subst (λ (c : Cuts). AreProper c region) b.cut proper) (omega arith) in
+    subst (λ (ns : List CutNode). slice_index (region_at (cuts_in ns) (below_cut region d k) index).high d ≤ k) (sym cuts) core
+
+pub split_begins : (page side : CutPage) (nodes low high : List CutNode) (d k count : ℕ) → IsCutPageUpTo 17 page → nodes ≡ page.cuts.items → AreOfCut nodes d k low high → count ≡ entry_count (cuts_in low)
+    → side.cuts.items ≡ high → side.entries.items ≡ drop count page.entries.items → (region : Region) (index : ℕ) → IsInThree region → AreProper (cuts_in page.cuts.items) region → index < length side.entries.items
+    → k ≤ slice_index (region_at (cuts_in side.cuts.items) (above_cut region d k) index).low d
+split_begins page side nodes low high d k count rules e cut is cuts entries region index three proper lt =
+    let b = begins_with page nodes low high d k rules e cut in
+    let both = sides_counted page nodes low high d k rules e cut in
+    let len : length side.entries.items ≡ length page.entries.items - count = ap (λ (xs : List BaEntry). length xs) entries ∙ length-drop count page.entries.items in
+    let core = high_begins d k (cuts_in low) (cuts_in high) region index b.dimensions three (subst (λ (c : Cuts). AreProper c region) b.cut proper) (omega arith) in
+    subst (λ (ns : List CutNode). k ≤ slice_index (region_at (cuts_in ns) (above_cut region d k) index).low d) (sym cuts) core

@@ -5,7 +5,9 @@ use Rattle.std.proofs.lemmas.Bool.{cases_lt, cases_eq, lt-ltb, le-ltb, leb-true,
 use Rattle.std.proofs.lemmas.List.{get_or_append_left, get_or-append_right, get_or_past, set_past, take-append-le, drop-append-le}
 use Rattle.bw_types.specs.declared.region.Region.{Region}
 use Rattle.page_layout.specs.Cuts.{Cuts, Entry, Cut, entry_count, in_dimensions}
-use Rattle.kdb_pages.specs.Regions.{IsInThree, Holds, IsNotEmpty, IsInside, AreProper, below_cut, above_cut, regions_of, place_of, cut_at, RegionsAreCounted, FoundHolds, OthersHoldNot, PartsAreWithin, NoneIsEmpty, CutIsCounted, CutReplaces, CutIsProper}
+use Rattle.bw_types.specs.Regions.{IsInThree, Holds, IsNotEmpty, LiesIn}
+use Rattle.page_layout.specs.Regions.{IsInside, AreProper, below_cut, above_cut, regions_of, region_at, place_of, cut_at}
+use Rattle.kdb_pages.specs.Regions.{RegionsAreCounted, FoundHolds, OthersHoldNot, PartsAreWithin, PartsLieIn, NoneIsEmpty, CutIsCounted, CutReplaces, CutIsProper}
 
 -- the choice where the test holds, and where it does not
 pub if_true : {X : Type 0} (b : Bool) (x y : X) → b ≡ true → (if b then x else y) ≡ x
@@ -59,14 +61,14 @@ has_high xs d n lt = elim (cases_lt d (length xs)) [
   | inr past ↦ let none : get_or xs d 0 ≡ 0 = get_or_past xs d 0 past in absurd (omega arith)
 ]
 
-pub below_holds : (region : Region) (keys : List ℕ) (d k : ℕ) → d < 3 → Holds region keys → get_or keys d 0 < k → Holds (below_cut region d k) keys
+pub below_holds : (region : Region) (keys : List ℕ) (d k : ℕ) → d < 3 → Holds 3 region keys → get_or keys d 0 < k → Holds 3 (below_cut region d k) keys
 below_holds region keys d k few h lt = record {
   from_low = h.from_low;
   before_high = λ i less. at_set (λ n. get_or keys i 0 < n) region.high d k i (has_high region.high d (get_or keys d 0) (h.before_high d few))
       (λ e. subst (λ (n : ℕ). get_or keys n 0 < k) (sym e) lt) (λ ne. h.before_high i less);
 }
 
-pub above_holds : (region : Region) (keys : List ℕ) (d k : ℕ) → d < 3 → Holds region keys → k ≤ get_or keys d 0 → Holds (above_cut region d k) keys
+pub above_holds : (region : Region) (keys : List ℕ) (d k : ℕ) → d < 3 → Holds 3 region keys → k ≤ get_or keys d 0 → Holds 3 (above_cut region d k) keys
 above_holds region keys d k few h le = record {
   from_low = λ i less. elim (cases_lt d (length region.low)) [
     | inl has ↦ at_set (λ n. n ≤ get_or keys i 0) region.low d k i has
@@ -77,7 +79,7 @@ above_holds region keys d k few h le = record {
 }
 
 -- keys that the part below holds
-below_back : (region : Region) (keys : List ℕ) (d k : ℕ) → IsInThree region → d < 3 → IsInside region d k → Holds (below_cut region d k) keys → Holds region keys × (get_or keys d 0 < k)
+below_back : (region : Region) (keys : List ℕ) (d k : ℕ) → IsInThree region → d < 3 → IsInside region d k → Holds 3 (below_cut region d k) keys → Holds 3 region keys × (get_or keys d 0 < k)
 below_back region keys d k is few inside h =
     let has : d < length region.high = (let e = is.highs in omega arith) in
     let below : get_or keys d 0 < k = (from_set (λ n. get_or keys d 0 < n) region.high d k d has (h.before_high d few)).0 refl in
@@ -93,7 +95,7 @@ below_back region keys d k is few inside h =
     )
 
 -- keys that the part from the key on holds
-above_back : (region : Region) (keys : List ℕ) (d k : ℕ) → IsInThree region → d < 3 → IsInside region d k → Holds (above_cut region d k) keys → Holds region keys × (k ≤ get_or keys d 0)
+above_back : (region : Region) (keys : List ℕ) (d k : ℕ) → IsInThree region → d < 3 → IsInside region d k → Holds 3 (above_cut region d k) keys → Holds 3 region keys × (k ≤ get_or keys d 0)
 above_back region keys d k is few inside h =
     let has : d < length region.low = (let e = is.lows in omega arith) in
     let above : k ≤ get_or keys d 0 = (from_set (λ n. n ≤ get_or keys d 0) region.low d k d has (h.from_low d few)).0 refl in
@@ -134,7 +136,7 @@ place_below (Cut d k low high) keys = elim (cases_lt (get_or keys d 0) k) [
   | inr le ↦ let e = place_high d k low high keys le in let b = place_below high keys in omega arith
 ]
 
-holds_found : (cuts : Cuts) (region : Region) (keys : List ℕ) (none : Region) → IsTrue (in_dimensions cuts) → Holds region keys → Holds (get_or (regions_of cuts region) (place_of cuts keys) none) keys
+holds_found : (cuts : Cuts) (region : Region) (keys : List ℕ) (none : Region) → IsTrue (in_dimensions cuts) → Holds 3 region keys → Holds 3 (get_or (regions_of cuts region) (place_of cuts keys) none) keys
 holds_found Entry region keys none dims h = h
 holds_found (Cut d k low high) region keys none dims h =
     let ds = dimensions d k low high dims in
@@ -142,14 +144,14 @@ holds_found (Cut d k low high) region keys none dims h =
       | inl lt ↦
           let at : get_or (regions_of (Cut d k low high) region) (place_of (Cut d k low high) keys) none ≡ get_or (regions_of low (below_cut region d k)) (place_of low keys) none =
           ap (λ (n : ℕ). get_or (regions_of (Cut d k low high) region) n none) (place_low d k low high keys lt) ∙ region_low d k low high region none (place_of low keys) (place_below low keys) in
-          subst (λ (r : Region). Holds r keys) (sym at) (holds_found low (below_cut region d k) keys none ds.lows (below_holds region keys d k ds.few h lt))
+          subst (λ (r : Region). Holds 3 r keys) (sym at) (holds_found low (below_cut region d k) keys none ds.lows (below_holds region keys d k ds.few h lt))
       | inr le ↦
           let back : (entry_count low + place_of high keys) - entry_count low ≡ place_of high keys = omega arith in
           let at : get_or (regions_of (Cut d k low high) region) (place_of (Cut d k low high) keys) none ≡ get_or (regions_of high (above_cut region d k)) (place_of high keys) none =
           ap (λ (n : ℕ). get_or (regions_of (Cut d k low high) region) n none) (place_high d k low high keys le)
           ∙ region_high d k low high region none (entry_count low + place_of high keys) (omega arith)
           ∙ ap (λ (n : ℕ). get_or (regions_of high (above_cut region d k)) n none) back in
-          subst (λ (r : Region). Holds r keys) (sym at) (holds_found high (above_cut region d k) keys none ds.highs (above_holds region keys d k ds.few h le))
+          subst (λ (r : Region). Holds 3 r keys) (sym at) (holds_found high (above_cut region d k) keys none ds.highs (above_holds region keys d k ds.few h le))
     ]
 
 pub found_holds : FoundHolds
@@ -157,19 +159,19 @@ found_holds cuts region keys dims h = (place_below cuts keys, holds_found cuts r
 
 -- an entry whose region holds keys is the one that they lead to, and the region that is cut holds them
 only_found : (cuts : Cuts) (region : Region) (keys : List ℕ) (index : ℕ) (none : Region) → IsTrue (in_dimensions cuts) → IsInThree region → AreProper cuts region
-    → index < entry_count cuts → Holds (get_or (regions_of cuts region) index none) keys → (index ≡ place_of cuts keys) × Holds region keys
+    → index < entry_count cuts → Holds 3 (get_or (regions_of cuts region) index none) keys → (index ≡ place_of cuts keys) × Holds 3 region keys
 only_found Entry region keys zero none dims is proper lt h = (refl, h)
 only_found Entry region keys (suc index) none dims is proper lt h = absurd (omega arith)
 only_found (Cut d k low high) region keys index none dims is proper lt h =
     let ds = dimensions d k low high dims in
     elim (cases_lt index (entry_count low)) [
       | inl less ↦
-          let sub = only_found low (below_cut region d k) keys index none ds.lows (below_three region d k is) proper.1 less (subst (λ (r : Region). Holds r keys) (region_low d k low high region none index less) h) in
+          let sub = only_found low (below_cut region d k) keys index none ds.lows (below_three region d k is) proper.1 less (subst (λ (r : Region). Holds 3 r keys) (region_low d k low high region none index less) h) in
           let back = below_back region keys d k is ds.few proper.0 sub.1 in
           (sub.0 ∙ sym (place_low d k low high keys back.1), back.0)
       | inr le ↦
           let rest : index - entry_count low < entry_count high = (let whole : index < entry_count low + entry_count high = lt in omega arith) in
-          let sub = only_found high (above_cut region d k) keys (index - entry_count low) none ds.highs (above_three region d k is) proper.2 rest (subst (λ (r : Region). Holds r keys) (region_high d k low high region none index le) h) in
+          let sub = only_found high (above_cut region d k) keys (index - entry_count low) none ds.highs (above_three region d k is) proper.2 rest (subst (λ (r : Region). Holds 3 r keys) (region_high d k low high region none index le) h) in
           let back = above_back region keys d k is ds.few proper.0 sub.1 in
           let at = place_high d k low high keys back.1 in
           let place : index - entry_count low ≡ place_of high keys = sub.0 in
@@ -182,29 +184,92 @@ others_not cuts region keys index dims is proper lt h = (only_found cuts region 
 pub parts_within : PartsAreWithin
 parts_within cuts region keys index dims is proper lt h = (only_found cuts region keys index region dims is proper lt h).1
 
-below_some : (region : Region) (d k : ℕ) → IsInThree region → d < 3 → IsInside region d k → IsNotEmpty region → IsNotEmpty (below_cut region d k)
+below_some : (region : Region) (d k : ℕ) → IsInThree region → d < 3 → IsInside region d k → IsNotEmpty 3 region → IsNotEmpty 3 (below_cut region d k)
 below_some region d k is few inside some = λ i less. at_set (λ n. get_or region.low i 0 < n) region.high d k i (let e = is.highs in omega arith)
     (λ e. subst (λ (n : ℕ). get_or region.low n 0 < k) (sym e) inside.after_low) (λ ne. some i less)
 
-above_some : (region : Region) (d k : ℕ) → IsInThree region → d < 3 → IsInside region d k → IsNotEmpty region → IsNotEmpty (above_cut region d k)
+above_some : (region : Region) (d k : ℕ) → IsInThree region → d < 3 → IsInside region d k → IsNotEmpty 3 region → IsNotEmpty 3 (above_cut region d k)
 above_some region d k is few inside some = λ i less. at_set (λ n. n < get_or region.high i 0) region.low d k i (let e = is.lows in omega arith)
     (λ e. subst (λ (n : ℕ). k < get_or region.high n 0) (sym e) inside.before_high) (λ ne. some i less)
 
-some_at : (cuts : Cuts) (region : Region) (index : ℕ) (none : Region) → IsTrue (in_dimensions cuts) → IsInThree region → AreProper cuts region → IsNotEmpty region
-    → index < entry_count cuts → IsNotEmpty (get_or (regions_of cuts region) index none)
+some_at : (cuts : Cuts) (region : Region) (index : ℕ) (none : Region) → IsTrue (in_dimensions cuts) → IsInThree region → AreProper cuts region → IsNotEmpty 3 region
+    → index < entry_count cuts → IsNotEmpty 3 (get_or (regions_of cuts region) index none)
 some_at Entry region zero none dims is proper some lt = some
 some_at Entry region (suc index) none dims is proper some lt = absurd (omega arith)
 some_at (Cut d k low high) region index none dims is proper some lt =
     let ds = dimensions d k low high dims in
     elim (cases_lt index (entry_count low)) [
-      | inl less ↦ subst IsNotEmpty (sym (region_low d k low high region none index less)) (some_at low (below_cut region d k) index none ds.lows (below_three region d k is) proper.1 (below_some region d k is ds.few proper.0 some) less)
+      | inl less ↦ subst (IsNotEmpty 3) (sym (region_low d k low high region none index less)) (some_at low (below_cut region d k) index none ds.lows (below_three region d k is) proper.1 (below_some region d k is ds.few proper.0 some) less)
       | inr le ↦
           let rest : index - entry_count low < entry_count high = (let whole : index < entry_count low + entry_count high = lt in omega arith) in
-          subst IsNotEmpty (sym (region_high d k low high region none index le)) (some_at high (above_cut region d k) (index - entry_count low) none ds.highs (above_three region d k is) proper.2 (above_some region d k is ds.few proper.0 some) rest)
+          subst (IsNotEmpty 3) (sym (region_high d k low high region none index le)) (some_at high (above_cut region d k) (index - entry_count low) none ds.highs (above_three region d k is) proper.2 (above_some region d k is ds.few proper.0 some) rest)
     ]
 
 pub none_empty : NoneIsEmpty
 none_empty cuts region index dims is proper some lt = some_at cuts region index region dims is proper some lt
+
+-- the parts of a cut lie in the region
+below_lies : (region : Region) (d k : ℕ) → IsInThree region → d < 3 → IsInside region d k → LiesIn 3 (below_cut region d k) region
+below_lies region d k is few inside = record {
+  lows = λ i less. omega arith;
+  highs = λ i less. at_set (λ n. n ≤ get_or region.high i 0) region.high d k i (let e = is.highs in omega arith)
+      (λ e. subst (λ (n : ℕ). k ≤ get_or region.high n 0) (sym e) (let b = inside.before_high in omega arith)) (λ ne. omega arith);
+}
+
+above_lies : (region : Region) (d k : ℕ) → IsInThree region → d < 3 → IsInside region d k → LiesIn 3 (above_cut region d k) region
+above_lies region d k is few inside = record {
+  lows = λ i less. at_set (λ n. get_or region.low i 0 ≤ n) region.low d k i (let e = is.lows in omega arith)
+      (λ e. subst (λ (n : ℕ). get_or region.low n 0 ≤ k) (sym e) (let b = inside.after_low in omega arith)) (λ ne. omega arith);
+  highs = λ i less. omega arith;
+}
+
+lies_further : (part middle region : Region) → LiesIn 3 part middle → LiesIn 3 middle region → LiesIn 3 part region
+lies_further part middle region inner outer = record {
+  lows = λ i less. let a = inner.lows i less in let b = outer.lows i less in omega arith;
+  highs = λ i less. let a = inner.highs i less in let b = outer.highs i less in omega arith;
+}
+
+lies_at : (cuts : Cuts) (region : Region) (index : ℕ) (none : Region) → IsTrue (in_dimensions cuts) → IsInThree region → AreProper cuts region
+    → index < entry_count cuts → LiesIn 3 (get_or (regions_of cuts region) index none) region
+lies_at Entry region zero none dims is proper lt = record { lows = λ i less. omega arith; highs = λ i less. omega arith }
+lies_at Entry region (suc index) none dims is proper lt = absurd (omega arith)
+lies_at (Cut d k low high) region index none dims is proper lt =
+    let ds = dimensions d k low high dims in
+    let P : Region → Type 0 = λ r. LiesIn 3 r region in
+    elim (cases_lt index (entry_count low)) [
+      | inl less ↦
+          let inner = lies_at low (below_cut region d k) index none ds.lows (below_three region d k is) proper.1 less in
+          subst P (sym (region_low d k low high region none index less)) (lies_further (get_or (regions_of low (below_cut region d k)) index none) (below_cut region d k) region inner (below_lies region d k is ds.few proper.0))
+      | inr le ↦
+          let rest : index - entry_count low < entry_count high = (let whole : index < entry_count low + entry_count high = lt in omega arith) in
+          let inner = lies_at high (above_cut region d k) (index - entry_count low) none ds.highs (above_three region d k is) proper.2 rest in
+          subst P (sym (region_high d k low high region none index le))
+          (lies_further (get_or (regions_of high (above_cut region d k)) (index - entry_count low) none) (above_cut region d k) region inner (above_lies region d k is ds.few proper.0))
+    ]
+
+pub parts_lie_in : PartsLieIn
+parts_lie_in cuts region index dims is proper lt = lies_at cuts region index region dims is proper lt
+
+-- the entries of the low side end at the cut's key or before, and those of the high side begin there or after
+pub low_ends : (d k : ℕ) (low high : Cuts) (region : Region) (index : ℕ) → IsTrue (in_dimensions (Cut d k low high)) → IsInThree region → AreProper (Cut d k low high) region
+    → index < entry_count low → get_or (region_at low (below_cut region d k) index).high d 0 ≤ k
+low_ends d k low high region index dims is proper lt =
+    let ds = dimensions d k low high dims in
+    let lies = parts_lie_in low (below_cut region d k) index ds.lows (below_three region d k is) proper.1 lt in
+    let has : d < length region.high = (let e = is.highs in let few = ds.few in omega arith) in
+    let edge : get_or (set region.high d k) d 0 ≡ k = get_or-set_same region.high d k 0 has in
+    let end : get_or (region_at low (below_cut region d k) index).high d 0 ≤ get_or (set region.high d k) d 0 = lies.highs d ds.few in
+    omega arith
+
+pub high_begins : (d k : ℕ) (low high : Cuts) (region : Region) (index : ℕ) → IsTrue (in_dimensions (Cut d k low high)) → IsInThree region → AreProper (Cut d k low high) region
+    → index < entry_count high → k ≤ get_or (region_at high (above_cut region d k) index).low d 0
+high_begins d k low high region index dims is proper lt =
+    let ds = dimensions d k low high dims in
+    let lies = parts_lie_in high (above_cut region d k) index ds.highs (above_three region d k is) proper.2 lt in
+    let has : d < length region.low = (let e = is.lows in let few = ds.few in omega arith) in
+    let edge : get_or (set region.low d k) d 0 ≡ k = get_or-set_same region.low d k 0 has in
+    let begin : get_or (set region.low d k) d 0 ≤ get_or (region_at high (above_cut region d k) index).low d 0 = lies.lows d ds.few in
+    omega arith
 
 -- a cut in the low side, and in the high side
 pub cut_low : (e j : ℕ) (low high : Cuts) (index d k : ℕ) → index < entry_count low → cut_at (Cut e j low high) index d k ≡ Cut e j (cut_at low index d k) high

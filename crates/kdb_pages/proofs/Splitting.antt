@@ -9,7 +9,7 @@ use Rattle.page_layout.specs.CutPage.{IsCutPageUpTo}
 use Rattle.page_layout.specs.CutsLaws.{cuts_are_read, nodes_are_counted}
 use Rattle.kdb_pages.specs.Sides.{AreOfCuts, AreOfCut, filling}
 use Rattle.bw_types.specs.declared.region.Region.{Region}
-use Rattle.kdb_pages.specs.Regions.{place_of, regions_of, below_cut, above_cut}
+use Rattle.page_layout.specs.Regions.{place_of, regions_of, below_cut, above_cut}
 use Rattle.kdb_pages.proofs.Partition.{dimensions, region_low, region_high}
 
 pub of_cuts : (cuts : Cuts) (nodes : List CutNode) → pre_order cuts ≡ nodes → IsTrue (in_dimensions cuts) → (cuts_in nodes ≡ cuts) × AreOfCuts nodes

@@ -2,7 +2,8 @@
 ghost use Rattle.std.specs.Prelude.{◌≤◌, ℕ, length};
 ghost use Rattle.page_layout.specs.declared.cut_page.CutPage.{CutPage};
 ghost use Rattle.page_layout.specs.CutPage.{IsCutPageUpTo};
-ghost use Rattle.kdb_pages.specs.Regions.{CutIsCounted, CutIsProper, CutReplaces, FoundHolds, NoneIsEmpty, OthersHoldNot, PartsAreWithin, RegionsAreCounted, IsInThree};
+ghost use Rattle.bw_types.specs.Regions.{IsInThree};
+ghost use Rattle.kdb_pages.specs.Regions.{CutIsCounted, CutIsProper, CutReplaces, FewerHold, FoundHolds, NoneIsEmpty, OthersHoldNot, PartsAreWithin, PartsLieIn, RegionsAreCounted};
 
 use bw_types::Region;
 
@@ -10,8 +11,10 @@ use bw_types::Region;
 pub fn region_laws()
     ensures counted { RegionsAreCounted }
     ensures found { FoundHolds }
+    ensures fewer { FewerHold }
     ensures others { OthersHoldNot }
     ensures within { PartsAreWithin }
+    ensures ends { PartsLieIn }
     ensures some { NoneIsEmpty }
 {}
 

@@ -3,7 +3,8 @@ ghost use Rattle.std.specs.Prelude.{◌≡◌, ◌+◌, ◌*◌, ◌<◌, ◌≤
 ghost use Rattle.page_layout.specs.Cuts.{cuts_in, entry_count};
 ghost use Rattle.page_layout.specs.CutPage.{IsCutPageUpTo};
 ghost use Rattle.kdb_pages.specs.Sides.{AreOfCuts};
-ghost use Rattle.kdb_pages.specs.Regions.{AreProper, Holds, above_cut, below_cut, place_of, region_at};
+ghost use Rattle.bw_types.specs.Regions.{Holds};
+ghost use Rattle.page_layout.specs.Regions.{AreProper, above_cut, below_cut, place_of, region_at};
 
 use crate::laws::in_three;
 use crate::sides::first_cut;
@@ -87,14 +88,14 @@ fn region_at(nodes: &[CutNode], region: &Region, index: usize) -> Region
 /// the keys.
 pub fn find(page: &CutPage, region: &Region, keys: &[u64; 3]) -> (usize, Region)
     requires rules { IsCutPageUpTo 17 page.now }
-    requires holds { Holds region.now keys.now }
+    requires holds { Holds 3 region.now keys.now }
     ensures place { result.0 ≡ place_of (cuts_in page.now.cuts.items) keys.now }
     ensures few { result.0 < length page.now.entries.items }
     ensures region { result.1 ≡ region_at (cuts_in page.now.cuts.items) region.now result.0 }
-    ensures holds { Holds result.1 keys.now }
+    ensures holds { Holds 3 result.1 keys.now }
     // Where each cut lies inside its region, no other entry's region holds the keys.
     ensures others { AreProper (cuts_in page.now.cuts.items) region.now → (index : ℕ) → index < length page.now.entries.items
-        → Holds (region_at (cuts_in page.now.cuts.items) region.now index) keys.now → index ≡ result.0 }
+        → Holds 3 (region_at (cuts_in page.now.cuts.items) region.now index) keys.now → index ≡ result.0 }
 {
     in_three(region);
     let nodes = page.cuts.as_slice();

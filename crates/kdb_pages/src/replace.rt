@@ -1,10 +1,10 @@
 //! An entry cut in two.
 ghost use Rattle.std.specs.Prelude.{◌≡◌, ◌+◌, ◌<◌, ◌≤◌, ◌∷◌, ◌++◌, List, length, take, drop, insert, IsTrue};
 ghost use Rattle.page_layout.specs.declared.cut_node.CutNode.{CutNode};
-ghost use Rattle.page_layout.specs.Cuts.{cut_node, cuts_in, entry_node};
+ghost use Rattle.page_layout.specs.Cuts.{SpellCuts, cut_node, cuts_in, entry_node};
 ghost use Rattle.page_layout.specs.CutPage.{IsCutPageUpTo, IsTyped};
 ghost use Rattle.page_layout.specs.BaEntry.{IsBaEntryTyped, ba_entry_fits};
-ghost use Rattle.kdb_pages.specs.Regions.{cut_at};
+ghost use Rattle.page_layout.specs.Regions.{cut_at};
 ghost use Rattle.kdb_pages.specs.Sides.{with_cut};
 
 use crate::sides::{CUT, ENTRY};
@@ -12,7 +12,8 @@ use arrayvec::ArrayVec;
 use bw_types::BaEntry;
 use page_layout::{CutNode, CutPage};
 
-const ENTRY_NODE: CutNode = CutNode {
+/// The node of an entry.
+pub(crate) const ENTRY_NODE: CutNode = CutNode {
     tag: ENTRY,
     dimension: 0,
     key: 0,
@@ -74,12 +75,12 @@ pub fn replace_by_cut(
     requires rules { IsCutPageUpTo 16 page.old }
     requires index { index < length page.old.entries.items }
     requires dimension { dimension < 3 }
-    requires low { IsTrue (ba_entry_fits low.now) }
-    requires high { IsTrue (ba_entry_fits high.now) }
     ensures cuts { cuts_in page.new.cuts.items ≡ cut_at (cuts_in page.old.cuts.items) index dimension key }
     ensures entries { page.new.entries.items ≡ take index page.old.entries.items ++ (low.now ∷ high.now ∷ drop (index + 1) page.old.entries.items) }
     ensures level { page.new.level ≡ page.old.level }
-    ensures rules { IsCutPageUpTo 17 page.new }
+    ensures spelled { SpellCuts page.new.cuts.items (length page.new.entries.items) }
+    // The page keeps its rules where both entries keep theirs.
+    ensures rules { IsTrue (ba_entry_fits low.now) → IsTrue (ba_entry_fits high.now) → IsCutPageUpTo 17 page.new }
     // The numbers stay those of their types.
     ensures typed { IsTyped page.old → IsBaEntryTyped low.now → IsBaEntryTyped high.now → IsTyped page.new }
 {

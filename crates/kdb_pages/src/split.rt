@@ -1,7 +1,10 @@
 //! A page split by its first cut.
-ghost use Rattle.std.specs.Prelude.{◌≡◌, ◌<◌, ◌≤◌, ◌++◌, length};
+ghost use Rattle.std.specs.Prelude.{◌≡◌, ◌<◌, ◌≤◌, ◌++◌, ℕ, length, slice_index};
+ghost use Rattle.bw_types.specs.declared.region.Region.{Region};
 ghost use Rattle.page_layout.specs.Cuts.{Cut, cuts_in};
 ghost use Rattle.page_layout.specs.CutPage.{IsCutPage, IsCutPageUpTo, IsTyped};
+ghost use Rattle.bw_types.specs.Regions.{IsInThree};
+ghost use Rattle.page_layout.specs.Regions.{AreProper, above_cut, below_cut, region_at};
 
 use crate::places::entries_of;
 use crate::sides::first_cut;
@@ -57,6 +60,12 @@ pub fn split_first_cut(page: &CutPage) -> (u8, u64, CutPage, CutPage)
     ensures dimension { result.0 < 3 }
     ensures entries { page.now.entries.items ≡ result.2.entries.items ++ result.3.entries.items }
     ensures levels { (result.2.level ≡ page.now.level) × (result.3.level ≡ page.now.level) }
+    // Where each cut lies inside its region, each entry of the low side ends at the cut's key or before, and
+    // each of the high side begins there or after.
+    ensures ends { (region : Region) (index : ℕ) → IsInThree region → AreProper (cuts_in page.now.cuts.items) region → index < length result.2.entries.items
+        → slice_index (region_at (cuts_in result.2.cuts.items) (below_cut region result.0 result.1) index).high result.0 ≤ result.1 }
+    ensures begins { (region : Region) (index : ℕ) → IsInThree region → AreProper (cuts_in page.now.cuts.items) region → index < length result.3.entries.items
+        → result.1 ≤ slice_index (region_at (cuts_in result.3.cuts.items) (above_cut region result.0 result.1) index).low result.0 }
     ensures low { IsCutPage result.2 }
     ensures high { IsCutPage result.3 }
     // The numbers stay those of their types.

@@ -5,9 +5,8 @@ ghost use Rattle.page_layout.specs.BaEntry.{ba_entry_fits};
 ghost use Rattle.kdb_pages.specs.Medians.{KeysDiffer};
 
 use super::*;
-use arrayvec::ArrayVec;
 use bw_types::{BaEntry, Outside, Point, Region};
-use page_layout::{CutNode, CutPage};
+use page_layout::CutPage;
 use std::process::Abort;
 use std::test::Fail;
 
@@ -25,15 +24,7 @@ fn one_entry() -> CutPage
     ensures rules { IsCutPageUpTo 16 result }
     ensures one { length result.entries.items ≡ 1 }
 {
-    let mut cuts = ArrayVec::new();
-    cuts.push(CutNode::default());
-    let mut entries = ArrayVec::new();
-    entries.push(entry_of(3));
-    CutPage {
-        level: 2,
-        cuts,
-        entries,
-    }
+    page_of_one(2, &entry_of(3))
 }
 
 // A page of the entries 4, 5 and 6: below 10 in dimension 0, and from there on below 5 and from 5 on in
@@ -83,5 +74,59 @@ fn cut_at_the_median(rt: HostRuntime) -> Result<(), Fail> {
     let mut points = two_points();
     assert!(rt; median_cut(&mut points, 1) == 9);
     assert!(rt; points[0].keys[1] == 4);
+    Ok(())
+}
+
+// A page of 17 entries side by side in dimension 0, of which the first cut leaves one on its low side.
+fn seventeen_entries() -> CutPage
+    ensures rules { IsCutPageUpTo 17 result }
+    ensures many { length result.entries.items ≡ 17 }
+{
+    let mut page = one_entry();
+    for i in 0..16_u8 {
+        page_laws();
+        let key = 10 * (u64::from(i) + 1);
+        let (low, high) = (entry_of(key), entry_of(key + 1));
+        replace_by_cut(&mut page, usize::from(i), 0, key, &low, &high);
+    }
+    page
+}
+
+#[test]
+fn seventeen_are_split(rt: HostRuntime) -> Result<(), Fail> {
+    let (dimension, key, low, high) = split_first_cut(&seventeen_entries());
+    assert!(rt; dimension == 0 && key == 10);
+    assert!(rt; low.entries.len() == 1 && low.cuts.len() == 1);
+    assert!(rt; high.entries.len() == 16 && high.cuts.len() == 31);
+    assert!(rt; low.entries.as_slice()[0].child == 10);
+    assert!(rt; high.entries.as_slice()[0].child == 20 && high.entries.as_slice()[15].child == 161);
+    Ok(())
+}
+
+#[test]
+fn an_entry_is_set(rt: HostRuntime) -> Result<(), Fail> {
+    let mut page = three_entries();
+    set_entry(&mut page, 1, &entry_of(9));
+    let entries = page.entries.as_slice();
+    assert!(rt; entries[0].child == 4 && entries[1].child == 9 && entries[2].child == 6);
+    Ok(())
+}
+
+#[test]
+fn roots_by_dimensions(rt: HostRuntime) -> Result<(), Fail> {
+    let two = root_region(2);
+    assert!(rt; two.low == [0, 0, 0] && two.high == [KEY_END, KEY_END, 1]);
+    let three = root_region(3);
+    assert!(rt; three.low == [0, 0, 0] && three.high == [KEY_END, KEY_END, KEY_END]);
+    Ok(())
+}
+
+#[test]
+fn laws_do_nothing(_: HostRuntime) -> Result<(), Fail> {
+    region_laws();
+    cut_laws();
+    page_laws();
+    root_laws();
+    in_three(&root_region(2));
     Ok(())
 }

@@ -1,5 +1,5 @@
 -- What an addition makes of a node's entries, where it was taken in or beside a path.
-use Rattle.std.proofs.Common.{◌≡◌, ℕ, ◌+◌, ◌%◌, ◌^◌, inl, inr, Bool, true, IsTrue, ◌==◌, cond, List, ◌∷◌, ◌++◌, Option, Some, refl, sym, ap, ◌∙◌, subst, arith}
+use Rattle.std.proofs.Common.{◌≡◌, ℕ, ◌+◌, ◌%◌, ◌^◌, ◌<◌, ◌≤◌, inl, inr, Bool, true, IsTrue, ◌==◌, cond, List, ◌∷◌, ◌++◌, Option, Some, refl, sym, ap, ◌∙◌, subst, arith}
 use Rattle.std.specs.List.{All}
 use Rattle.std.proofs.Math.Nat.{mod-mod}
 use Rattle.std.proofs.lemmas.Bool.{and_parts, eqb-true}
@@ -9,11 +9,14 @@ use Rattle.page_layout.specs.MvNode.{mv_keeps}
 use Rattle.page_layout.specs.declared.mv_node.MvEntry.{MvEntry}
 use Rattle.mv_pages.specs.Alive.{is_alive, is_alive_from, alive_one, alive_count, is_beyond, next_entry, value_of, path_child, AreEntriesOf, IsChangeable, added, value_above}
 use Rattle.mv_pages.specs.Edits.{new_entry, raised, TakesIn, TakesAbove}
-use Rattle.mv_pages.proofs.Order.{All-at}
+use Rattle.mv_pages.specs.Lows.{alive_lows, with_low}
+use Rattle.mv_pages.proofs.Order.{All-at, ordered}
 use Rattle.mv_pages.proofs.Putting.{put_all}
-use Rattle.mv_pages.proofs.Reaching.{from-alive}
-use Rattle.mv_pages.proofs.Changes.{CanChange, changed_all, changed_path}
+use Rattle.mv_pages.proofs.Reaching.{alive-open, alive-early, from-alive}
+use Rattle.mv_pages.proofs.Changes.{CanChange, started, changed_all, changed_path}
 use Rattle.mv_pages.proofs.Adding.{part_of_sum, raised_value, changed_count, changed_changeable, changed_entries, may_change, count_none, put_value, put_count, put_changeable, put_entries, next-found, next-none}
+use Rattle.mv_pages.proofs.LivingLows.{none_alive, put_lows-dead, put_lows, lows_stay, changed_lows}
+use Rattle.mv_pages.proofs.Later.{later_count}
 
 -- an entry that is alive may be raised
 may_raise : (level : ℕ) (es before : List MvEntry) (e : MvEntry) (after : List MvEntry) (v more : ℕ) → es ≡ before ++ (e ∷ after) → AreEntriesOf level es → IsChangeable v es → is_alive v e ≡ true
@@ -82,6 +85,27 @@ taken_lows es new low v more test (inl t) all here =
     changed_all (λ e. IsTrue (test e.low)) t.0 t.1 t.2 v (raised t.1 v more) new t.5 (subst (All (λ e. IsTrue (test e.low))) t.3 all) own (λ _. own)
 taken_lows es new low v more test (inr t) all here = subst (All (λ e. IsTrue (test e.low))) (sym t.1) (put_all (λ e. IsTrue (test e.low)) (new_entry low v more 0) es all here)
 
+-- The lows that are alive before the version, and those from the version on.
+pub lows_taken-early : (level : ℕ) (es new : List MvEntry) (low v more : ℕ) → AreEntriesOf level es → IsChangeable v es → TakesIn es new low v more → (w : ℕ) → w < v → alive_lows new w ≡ alive_lows es w
+lows_taken-early level es new low v more entries can (inl t) w early =
+    let a = alive_there v low t.1 t.4 in
+    changed_lows t.0 t.1 t.2 v (raised t.1 v more) new (may_raise level es t.0 t.1 t.2 v more t.3 entries can a.1) t.5 w ∙ ap (λ (l : List MvEntry). alive_lows l w) (sym t.3)
+lows_taken-early level es new low v more entries can (inr t) w early =
+    ap (λ (l : List MvEntry). alive_lows l w) t.1 ∙ put_lows-dead w (new_entry low v more 0) es (alive-early w (new_entry low v more 0) early)
+
+pub lows_taken-late : (level : ℕ) (es new : List MvEntry) (low v more : ℕ) → AreEntriesOf level es → IsChangeable v es → TakesIn es new low v more
+    → (w : ℕ) → v ≤ w → alive_lows new w ≡ with_low low (alive_lows es w)
+lows_taken-late level es new low v more entries can (inl t) w late =
+    let a = alive_there v low t.1 t.4 in
+    let may = may_raise level es t.0 t.1 t.2 v more t.3 entries can a.1 in
+    let begun = started t.0 t.1 t.2 v (raised t.1 v more) may in
+    let stay = lows_stay w t.0 t.1 t.2 may.order (alive-open w t.1 (omega (arith, begun, late)) may.stays) in
+    changed_lows t.0 t.1 t.2 v (raised t.1 v more) new may t.5 w ∙ sym stay
+    ∙ ap (λ (n : ℕ). with_low n (alive_lows (t.0 ++ (t.1 ∷ t.2)) w)) a.0 ∙ ap (λ (l : List MvEntry). with_low low (alive_lows l w)) (sym t.3)
+lows_taken-late level es new low v more entries can (inr t) w late =
+    let none = none_alive w low es (later_count v w low es can.last late can.past ∙ count_none v low es t.0) in
+    ap (λ (l : List MvEntry). alive_lows l w) t.1 ∙ put_lows w (new_entry low v more 0) es (ordered es entries.order) (alive-open w (new_entry low v more 0) late refl) none
+
 -- beside a path
 
 pub above_value : (level : ℕ) (es new : List MvEntry) (key v more : ℕ) → AreEntriesOf level es → IsChangeable v es → TakesAbove es new key v more
@@ -128,3 +152,9 @@ above_lows es new key v more test (inl t) all =
     let own : IsTrue (test t.1.low) = All-at (λ e. IsTrue (test e.low)) t.0 t.1 t.2 mine in
     changed_all (λ e. IsTrue (test e.low)) t.0 t.1 t.2 v (raised t.1 v more) new t.6 mine own (λ _. own)
 above_lows es new key v more test (inr t) all = subst (All (λ e. IsTrue (test e.low))) (sym t.1) all
+
+pub lows_beside : (level : ℕ) (es new : List MvEntry) (key v more : ℕ) → AreEntriesOf level es → IsChangeable v es → TakesAbove es new key v more → (w : ℕ) → alive_lows new w ≡ alive_lows es w
+lows_beside level es new key v more entries can (inl t) w =
+    changed_lows t.0 t.1 t.2 v (raised t.1 v more) new (may_raise level es t.0 t.1 t.2 v more t.3 entries can (alive_beyond key v t.1 t.4)) t.6 w
+    ∙ ap (λ (l : List MvEntry). alive_lows l w) (sym t.3)
+lows_beside level es new key v more entries can (inr t) w = ap (λ (l : List MvEntry). alive_lows l w) t.1

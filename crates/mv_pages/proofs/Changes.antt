@@ -136,7 +136,7 @@ path_swap q w before e x after same =
 pub child-dead : (q w : ℕ) (x : MvEntry) → is_alive w x ≡ false → child_reached q w x ≡ None
 child-dead q w x dead = let r = reaches-dead q w x dead in rw r refl
 
-closed_alive : (w v : ℕ) (e : MvEntry) → w < v → e.end ≡ 4294967295 → is_alive w (closed e v) ≡ is_alive w e
+pub closed_alive : (w v : ℕ) (e : MvEntry) → w < v → e.end ≡ 4294967295 → is_alive w (closed e v) ≡ is_alive w e
 closed_alive w v e early stays = elim (cases_lt w e.start) [
   | inl not_yet ↦ alive-early w (closed e v) not_yet ∙ sym (alive-early w e not_yet)
   | inr begun ↦ alive-within w (closed e v) begun early ∙ sym (alive-open w e begun stays)

@@ -9,6 +9,9 @@ use Rattle.page_layout.specs.MvNode.{mv_keeps}
 use Rattle.page_layout.specs.declared.mv_node.MvEntry.{MvEntry}
 use Rattle.mv_pages.specs.Alive.{is_alive, reaches, value_of, or_later, child_reached, path_child, path_entry, is_beyond, next_entry, is_alive_from, alive_count, AreEntriesOf, IsPastOf, IsChangeable, added}
 use Rattle.mv_pages.specs.Edits.{closed, new_entry, IsChanged, LeadsAnew, Cut, with_second, BeginsBy, BeginsBelow, EndsAfter, CutsWithin, page_for, count_with, OfCut}
+use Rattle.mv_pages.specs.Lows.{alive_lows, with_cut}
+use Rattle.mv_pages.proofs.LivingLows.{none_alive, put_lows-dead, put_lows, changed_lows}
+use Rattle.mv_pages.proofs.Later.{later_count}
 use Rattle.mv_pages.proofs.Order.{Ordered, All-map, All-at, All-right, lows_before}
 use Rattle.mv_pages.proofs.Paths.{path-append}
 use Rattle.mv_pages.proofs.Putting.{put_all, put_path-dead}
@@ -322,3 +325,33 @@ anew_others level es mid new key v child second entries can t is within q w late
           let begins : BeginsBy (path_entry es key v) q = subst (λ (o : Option MvEntry). BeginsBy o q) (sym p.path) at in
           others_from level es mid new key v child second entries can t is within q w late (next_entry es key v) refl (stop begins)
     ]
+
+-- Which lows are alive once a path leads anew.
+
+lead_lows : (level : ℕ) (es new : List MvEntry) (key v child : ℕ) (before : List MvEntry) (e : MvEntry) (after : List MvEntry) → Parts level es new key v child before e after
+    → (w : ℕ) → alive_lows new w ≡ alive_lows es w
+lead_lows level es new key v child before e after p w =
+    changed_lows before e after v (new_entry e.low v e.value child) new p.can p.made w ∙ ap (λ (l : List MvEntry). alive_lows l w) (sym p.whole)
+
+pub lows_anew-early : (level : ℕ) (es mid new : List MvEntry) (key v child : ℕ) (second : Option Cut) → AreEntriesOf level es → IsChangeable v es → LeadsAnew es mid key v child → new ≡ with_second v second mid
+    → (w : ℕ) → w < v → alive_lows new w ≡ alive_lows es w
+lows_anew-early level es mid new key v child None entries can t is w early =
+    ap (λ (l : List MvEntry). alive_lows l w) is ∙ lead_lows level es mid key v child t.0 t.1 t.2 (parts_of level es mid key v child entries can t) w
+lows_anew-early level es mid new key v child (Some s) entries can t is w early =
+    let x : MvEntry = new_entry s.0 v 0 s.1 in
+    ap (λ (l : List MvEntry). alive_lows l w) is ∙ put_lows-dead w x mid (alive-early w x early)
+    ∙ lead_lows level es mid key v child t.0 t.1 t.2 (parts_of level es mid key v child entries can t) w
+
+pub lows_anew-late : (level : ℕ) (es mid new : List MvEntry) (key v child : ℕ) (second : Option Cut) → AreEntriesOf level es → IsChangeable v es → LeadsAnew es mid key v child → new ≡ with_second v second mid
+    → CutsWithin (path_entry es key v) (next_entry es key v) second → (w : ℕ) → v ≤ w → alive_lows new w ≡ with_cut second (alive_lows es w)
+lows_anew-late level es mid new key v child None entries can t is within w late =
+    ap (λ (l : List MvEntry). alive_lows l w) is ∙ lead_lows level es mid key v child t.0 t.1 t.2 (parts_of level es mid key v child entries can t) w
+lows_anew-late level es mid new key v child (Some s) entries can t is within w late =
+    let p = parts_of level es mid key v child entries can t in
+    let x : MvEntry = new_entry s.0 v 0 s.1 in
+    let free = cut_free level es mid key v child t.0 t.1 t.2 p s.0 (below_cut (path_entry es key v) t.1 s.0 p.path within.1) within.2 in
+    let may = lead_changeable level es mid key v child t.0 t.1 t.2 p in
+    let none = none_alive w s.0 mid (later_count v w s.0 mid can.last late may.past ∙ free) in
+    let order = changed_order t.0 t.1 t.2 v (new_entry t.1.low v t.1.value child) mid p.can p.made in
+    ap (λ (l : List MvEntry). alive_lows l w) is ∙ put_lows w x mid order (alive-open w x late refl) none
+    ∙ ap (with_cut (Some s)) (lead_lows level es mid key v child t.0 t.1 t.2 p w)

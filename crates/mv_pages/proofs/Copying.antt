@@ -127,10 +127,20 @@ renewed_keeps level v e last h =
     let p = and_parts (nat_lt e.start e.end) (child_fits level e.child) h in
     and_from (nat_lt v 4294967295) (child_fits level e.child) (lt-ltb v 4294967295 last) p.1
 
+all_alive : (v : ℕ) (es : List MvEntry) → All (λ e. (e.start ≡ v) × (e.end ≡ 4294967295)) es → (w : ℕ) → v ≤ w → alive_at es w ≡ es
+all_alive v [] starts w late = refl
+all_alive v (e ∷ es) starts w late =
+    let P : MvEntry → Type 0 = λ e. (e.start ≡ v) × (e.end ≡ 4294967295) in
+    let mine : P e = All-head P e es starts in
+    let lives : is_alive w e ≡ true = alive-open w e (omega (arith, mine.0, late)) mine.1 in
+    let more : alive_at (e ∷ es) w ≡ e ∷ alive_at es w = rw lives refl in
+    more ∙ ap (λ (l : List MvEntry). e ∷ l) (all_alive v es (All-tail P e es starts) w late)
+
 pub copies_fresh : (level v : ℕ) (es : List MvEntry) → AreEntriesOf level es → IsChangeable v es → AreFresh level v (copies es v)
 copies_fresh level v es entries can =
     record {
       starts = copies_all (IsPastOf v) (λ e. (e.start ≡ v) × (e.end ≡ 4294967295)) v es (λ e past. (refl, refl)) can.past;
+      alive = all_alive v (copies es v) (copies_all (IsPastOf v) (λ e. (e.start ≡ v) × (e.end ≡ 4294967295)) v es (λ e past. (refl, refl)) can.past);
       rules = record {
         each = copies_all (λ e. IsTrue (mv_keeps level e)) (λ e. IsTrue (mv_keeps level e)) v es (λ e h. renewed_keeps level v e can.last h) entries.each;
         order = adjacent (copies es v) (copies_ordered v es (ordered es entries.order) can.once);
@@ -170,6 +180,7 @@ count_raised v low more (e ∷ es) = count_cons v low (with_more more e) es ∙ 
 pub fresh_left : (level v : ℕ) (xs ys : List MvEntry) → AreFresh level v (xs ++ ys) → AreFresh level v xs
 fresh_left level v xs ys f = record {
   starts = All-left (λ e. (e.start ≡ v) × (e.end ≡ 4294967295)) xs ys f.starts;
+  alive = all_alive v xs (All-left (λ e. (e.start ≡ v) × (e.end ≡ 4294967295)) xs ys f.starts);
   rules = record {
     each = All-left (λ e. IsTrue (mv_keeps level e)) xs ys f.rules.each;
     order = adjacent xs (order_left xs ys (ordered (xs ++ ys) f.rules.order));
@@ -184,6 +195,7 @@ fresh_left level v xs ys f = record {
 pub fresh_right : (level v more : ℕ) (xs ys : List MvEntry) → AreFresh level v (xs ++ ys) → AreFresh level v (first_raised more ys)
 fresh_right level v more xs ys f = record {
   starts = all_raised (λ e. (e.start ≡ v) × (e.end ≡ 4294967295)) more ys (λ e h. h) (All-right (λ e. (e.start ≡ v) × (e.end ≡ 4294967295)) xs ys f.starts);
+  alive = all_alive v (first_raised more ys) (all_raised (λ e. (e.start ≡ v) × (e.end ≡ 4294967295)) more ys (λ e h. h) (All-right (λ e. (e.start ≡ v) × (e.end ≡ 4294967295)) xs ys f.starts));
   rules = record {
     each = all_raised (λ e. IsTrue (mv_keeps level e)) more ys (λ e h. h) (All-right (λ e. IsTrue (mv_keeps level e)) xs ys f.rules.each);
     order = adjacent (first_raised more ys) (order_raised more ys (order_right xs ys (ordered (xs ++ ys) f.rules.order)));

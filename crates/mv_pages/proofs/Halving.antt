@@ -5,6 +5,8 @@ use Rattle.page_layout.specs.declared.mv_node.MvNode.{MvNode}
 use Rattle.page_layout.specs.declared.mv_node.MvEntry.{MvEntry}
 use Rattle.mv_pages.specs.Alive.{value_of, path_child, AreEntriesOf, IsChangeable}
 use Rattle.mv_pages.specs.Copies.{copies, total, with_more, first_raised, first_half, second_half, with_entries, AreFresh, Follows, IsOneCopy, AreTwoCopies}
+use Rattle.mv_pages.specs.Lows.{alive_lows}
+use Rattle.mv_pages.proofs.LivingLows.{copies_lows, lows-append, lows-raised}
 use Rattle.mv_pages.proofs.Order.{ordered}
 use Rattle.mv_pages.proofs.Copying.{copies_value, copies_path, copies_fresh, copies_length, fresh_left, fresh_right, lows_below, below_value, below_path, above_value, above_path}
 
@@ -28,6 +30,7 @@ one_copy node one shown items v entries can same made few is =
       count = long;
       fresh = copies_fresh node.level v es entries can;
       follows = λ q. follows_by node (copies es v) v q (λ w late. ap (λ (n : ℕ). n % 2 ^ 128) (copies_value q v w es can.last late can.past)) (λ w late. copies_path q v w es can.last late can.past);
+      lows = λ w late. copies_lows v w es can.last late can.past;
     } in
     subst (IsOneCopy node v) (sym made_one) core
 
@@ -73,6 +76,9 @@ two_core node v d ds entries can many most rest =
       above = λ q over. follows_by node (second_half l) v q
           (λ w late. ap (λ (t : List MvEntry). value_of t q w % 2 ^ 128) second ∙ above_value q w v xs d ds order mine.starts late over ∙ ap (λ (n : ℕ). n % 2 ^ 128) (value_all q w late))
           (λ w late. ap (λ (t : List MvEntry). path_child t q w) second ∙ above_path q w v more xs d ds mine.starts late over ∙ path_all q w late);
+      lows = λ w late.
+          ap (λ (ls : List ℕ). alive_lows xs w ++ ls) (ap (λ (t : List MvEntry). alive_lows t w) second ∙ lows-raised w more (d ∷ ds))
+          ∙ sym (lows-append w xs (d ∷ ds)) ∙ ap (λ (t : List MvEntry). alive_lows t w) (sym whole) ∙ copies_lows v w es can.last late can.past;
     }
 
 some_first : (xs : List MvEntry) → 0 < length xs → (d : MvEntry) × (ds : List MvEntry) × (xs ≡ d ∷ ds)

@@ -7,6 +7,9 @@ pub mod Found
 pub mod Halving
 pub mod Later
 pub mod Leading
+pub mod LivingLows
+pub mod LowOrder
+pub mod LowsAround
 pub mod Order
 pub mod Paths
 pub mod Putting

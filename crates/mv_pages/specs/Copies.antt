@@ -1,5 +1,5 @@
 -- What the copies of a node say, which take its part from a version on.
-use Rattle.std.specs.Prelude.{◌≡◌, ℕ, ◌+◌, ◌/◌, ◌%◌, ◌^◌, ◌<◌, ◌≤◌, List, [], ◌∷◌, length, map, take, drop, sum_by}
+use Rattle.std.specs.Prelude.{◌≡◌, ℕ, ◌+◌, ◌/◌, ◌%◌, ◌^◌, ◌<◌, ◌≤◌, List, [], ◌∷◌, ◌++◌, length, map, take, drop, sum_by}
 use Rattle.std.specs.List.{All}
 use Rattle.page_layout.specs.MvNode.{IsMvEntryTyped}
 use Rattle.page_layout.specs.declared.mv_node.MvNode.{MvNode}
@@ -8,6 +8,7 @@ use Rattle.mv_pages.specs.declared.copy.Copied.{Copied}
 use Rattle.mv_pages.specs.declared.copy.Copied.TheVariants.{One, Two}
 use Rattle.mv_pages.specs.Alive.{alive_at, node_value, child_of, AreEntriesOf, IsChangeable}
 use Rattle.mv_pages.specs.Edits.{new_entry}
+use Rattle.mv_pages.specs.Lows.{alive_lows}
 
 -- the entry anew, from the version on
 abbrev pub renewed : ℕ → MvEntry → MvEntry
@@ -42,9 +43,10 @@ second_half entries = first_raised (total (first_half entries) % 2 ^ 128) (drop 
 abbrev pub with_entries : MvNode → List MvEntry → MvNode
 with_entries node entries = record { level = node.level; place = node.place; before = node.before; entries = record { items = entries } }
 
--- Each entry starts at the version and is not closed, no two begin at one low, and they keep the rules.
+-- Each entry starts at the version and is not closed, so all are alive from it on, no two begin at one low, and they keep the rules.
 pub record AreFresh (level version : ℕ) (entries : List MvEntry) : Type 0 where
   pub starts : All (λ e. (e.start ≡ version) × (e.end ≡ 4294967295)) entries
+  pub alive : (v : ℕ) → version ≤ v → alive_at entries v ≡ entries
   pub rules : AreEntriesOf level entries
   pub changeable : IsChangeable version entries
 
@@ -60,6 +62,7 @@ pub record IsOneCopy (node : MvNode) (version : ℕ) (one : MvNode) : Type 0 whe
   pub count : length one.entries.items ≡ length (alive_at node.entries.items version)
   pub fresh : AreFresh node.level version one.entries.items
   pub follows : (key : ℕ) → Follows node one version key
+  pub lows : (v : ℕ) → version ≤ v → alive_lows one.entries.items v ≡ alive_lows node.entries.items v
 
 -- Two nodes take the part of another, in which more are alive: the first below the cut, with the first half
 -- of the entries, rounded down, and the second from there on, with the rest, of which the first takes on the
@@ -77,6 +80,7 @@ pub record AreTwoCopies (node : MvNode) (version : ℕ) (first : MvNode) (cut : 
   pub second_fresh : AreFresh node.level version second.entries.items
   pub below : (key : ℕ) → key < cut → Follows node first version key
   pub above : (key : ℕ) → cut ≤ key → Follows node second version key
+  pub lows : (v : ℕ) → version ≤ v → alive_lows first.entries.items v ++ alive_lows second.entries.items v ≡ alive_lows node.entries.items v
 
 -- The copies take the node's part from the version on.
 abbrev pub IsCopied : MvNode → ℕ → Copied → Type 0

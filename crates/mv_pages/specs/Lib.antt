@@ -1,3 +1,4 @@
 pub mod Alive
 pub mod Copies
 pub mod Edits
+pub mod Lows

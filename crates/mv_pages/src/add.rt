@@ -4,6 +4,7 @@ ghost use Rattle.std.specs.List.{All};
 ghost use Rattle.page_layout.specs.MvNode.{IsMvEntryTyped};
 ghost use Rattle.mv_pages.specs.Alive.{AreEntriesOf, IsChangeable, added, alive_count, child_of, next_entry, node_value, value_above};
 ghost use Rattle.mv_pages.specs.Edits.{TakesIn, TakesAbove};
+ghost use Rattle.mv_pages.specs.Lows.{alive_lows, with_low};
 
 use crate::edit::{Entries, new_entry, put_in, raise};
 use crate::find::{alive_index, next_index};
@@ -34,6 +35,9 @@ pub fn add_at(node: &mut MvNode, key: u64, version: u32, value: u128)
     ensures changeable { IsChangeable version node.new.entries.items }
     // At the version one entry is alive at the key, and at the other lows those that were.
     ensures alive { (low : ℕ) → alive_count node.new.entries.items version low ≡ (if low == key then 1 else alive_count node.old.entries.items version low) }
+    // Before the version the same lows are alive, and from the version on those and the key.
+    ensures lows_before { (v : ℕ) → v < version → alive_lows node.new.entries.items v ≡ alive_lows node.old.entries.items v }
+    ensures lows_from { (v : ℕ) → version ≤ v → alive_lows node.new.entries.items v ≡ with_low key (alive_lows node.old.entries.items v) }
     // What is true of the key and each low from before is true of each low.
     ensures lows { (test : ℕ → Bool) → All (λ e. IsTrue (test e.low)) node.old.entries.items → IsTrue (test key) → All (λ e. IsTrue (test e.low)) node.new.entries.items }
     // The numbers stay those of their types.
@@ -71,6 +75,8 @@ pub fn add_beside(node: &mut MvNode, key: u64, version: u32, value: u128)
     ensures entries { AreEntriesOf node.new.level node.new.entries.items }
     ensures changeable { IsChangeable version node.new.entries.items }
     ensures alive { (low : ℕ) → alive_count node.new.entries.items version low ≡ alive_count node.old.entries.items version low }
+    // At every version the same lows are alive.
+    ensures lows_stay { (v : ℕ) → alive_lows node.new.entries.items v ≡ alive_lows node.old.entries.items v }
     ensures lows { (test : ℕ → Bool) → All (λ e. IsTrue (test e.low)) node.old.entries.items → All (λ e. IsTrue (test e.low)) node.new.entries.items }
     // The numbers stay those of their types.
     ensures typed { All IsMvEntryTyped node.old.entries.items → All IsMvEntryTyped node.new.entries.items }

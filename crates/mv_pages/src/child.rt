@@ -4,6 +4,7 @@ ghost use Rattle.std.specs.List.{All};
 ghost use Rattle.page_layout.specs.MvNode.{IsMvEntryTyped};
 ghost use Rattle.mv_pages.specs.Alive.{AreEntriesOf, IsChangeable, alive_count, child_of, next_entry, node_value, path_child, path_entry};
 ghost use Rattle.mv_pages.specs.Edits.{BeginsBy, CutsWithin, EndsAfter, LeadsAnew, OfCut, count_with, new_entry, page_for, put_in, with_second};
+ghost use Rattle.mv_pages.specs.Lows.{alive_lows, with_cut};
 
 use crate::edit::{Entries, change, new_entry, put_in};
 use crate::find::path_index;
@@ -70,6 +71,9 @@ pub fn new_child(node: &mut MvNode, key: u64, version: u32, child: u64, second: 
     ensures changeable { IsChangeable version node.new.entries.items }
     // At the version one entry is alive at the cut, and at the other lows those that were.
     ensures alive { (low : ℕ) → alive_count node.new.entries.items version low ≡ count_with second low (alive_count node.old.entries.items version low) }
+    // Before the version the same lows are alive, and from the version on those and the cut.
+    ensures lows_before { (v : ℕ) → v < version → alive_lows node.new.entries.items v ≡ alive_lows node.old.entries.items v }
+    ensures lows_from { (v : ℕ) → version ≤ v → alive_lows node.new.entries.items v ≡ with_cut second (alive_lows node.old.entries.items v) }
     ensures lows { (test : ℕ → Bool) → All (λ e. IsTrue (test e.low)) node.old.entries.items → OfCut second (λ cut. IsTrue (test cut)) → All (λ e. IsTrue (test e.low)) node.new.entries.items }
     // The numbers stay those of their types.
     ensures typed { All IsMvEntryTyped node.old.entries.items → All IsMvEntryTyped node.new.entries.items }

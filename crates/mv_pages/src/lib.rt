@@ -8,19 +8,23 @@
 #![tactic(auto)]
 
 mod add;
+mod changeable;
 mod child;
 mod copy;
 mod edit;
 mod find;
 mod laws;
+mod path;
 #[cfg(test)]
 mod tests;
 mod value;
 mod view;
 
 pub use add::{add_at, add_beside};
+pub use changeable::is_changeable;
 pub use child::new_child;
 pub use copy::{Copied, close_and_copy};
-pub use laws::later_laws;
+pub use laws::{later_laws, low_laws, path_laws};
+pub use path::{Reached, reached_at};
 pub use value::{child_at, value_at};
 pub use view::{child_on, value_on};

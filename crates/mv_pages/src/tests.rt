@@ -1,5 +1,5 @@
 //! A leaf through the three additions of a small tree.
-ghost use Rattle.std.specs.Prelude.{◌≡◌, ◌≤◌, length};
+ghost use Rattle.std.specs.Prelude.{◌≡◌, ◌≤◌, ◌∷◌, [], length};
 ghost use Rattle.mv_pages.specs.Alive.{AreEntriesOf, IsChangeable};
 ghost use Rattle.mv_pages.specs.Edits.{new_entry};
 
@@ -50,5 +50,110 @@ fn three_additions(rt: HostRuntime) -> Result<(), Fail> {
     assert!(rt; value_at(&leaf, 4, 2) == 0 && value_at(&leaf, 5, 2) == 1);
     assert!(rt; value_at(&leaf, 25, 2) == 13);
     assert!(rt; child_at(&leaf, 25, 2) == None);
+    Ok(())
+}
+
+fn index_entry(low: u64, value: u128, child: u64) -> MvEntry
+    ensures { result ≡ new_entry low 1 value child }
+{
+    MvEntry {
+        low,
+        start: 1,
+        end: 4294967295,
+        value,
+        child,
+    }
+}
+
+// An index node: keys below 10 lead to the page 3, and those from there on to the page 4.
+fn index_node() -> MvNode
+    ensures level { result.level ≡ 2 }
+    ensures entries { AreEntriesOf result.level result.entries.items }
+    ensures items { result.entries.items ≡ new_entry 0 1 5 3 ∷ new_entry 10 1 7 4 ∷ [] }
+{
+    let mut entries = ArrayVec::new();
+    entries.push(index_entry(0, 5, 3));
+    entries.push(index_entry(10, 7, 4));
+    MvNode {
+        level: 2,
+        place: 1,
+        before: 0,
+        entries,
+    }
+}
+
+#[test]
+fn an_addition_beside(rt: HostRuntime) -> Result<(), Fail> {
+    let mut node = index_node();
+    if is_changeable(&node, 2) {
+        add_beside(&mut node, 5, 2, 1);
+    }
+    assert!(rt; node.entries.len() == 3 && !is_changeable(&node, 1));
+    assert!(rt; value_at(&node, 5, 2) == 5 && value_at(&node, 10, 1) == 12);
+    assert!(rt; value_at(&node, 10, 2) == 13 && value_at(&node, 10, 3) == 13);
+    let reached = Reached {
+        child: 3,
+        low: 0,
+        next: Some(10),
+    };
+    assert!(rt; reached_at(&node, 5, 1) == Some(reached));
+    assert!(rt; reached_at(&node, 5, 2) == Some(reached));
+    Ok(())
+}
+
+#[test]
+fn a_child_in_two(rt: HostRuntime) -> Result<(), Fail> {
+    let mut node = index_node();
+    if is_changeable(&node, 2) {
+        new_child(&mut node, 5, 2, 8, Some((7, 9)));
+    }
+    assert!(rt; node.entries.len() == 4);
+    assert!(rt; child_at(&node, 5, 1) == Some(3) && child_at(&node, 7, 1) == Some(3));
+    assert!(rt; child_at(&node, 6, 2) == Some(8) && child_at(&node, 7, 2) == Some(9));
+    assert!(rt; child_at(&node, 10, 2) == Some(4) && child_at(&node, 5, 0) == None);
+    let reached = Reached {
+        child: 9,
+        low: 7,
+        next: Some(10),
+    };
+    assert!(rt; reached_at(&node, 8, 2) == Some(reached));
+    assert!(rt; value_at(&node, 8, 2) == 5 && value_at(&node, 8, 1) == 5);
+    Ok(())
+}
+
+// A leaf of 49 entries that are alive at version 2, of which 48 start at 1.
+fn leaf_of_49() -> MvNode
+    ensures entries { AreEntriesOf result.level result.entries.items }
+    ensures changeable { IsChangeable 1 result.entries.items }
+{
+    let mut leaf = first_leaf();
+    for i in 0..47_u64 {
+        add_at(&mut leaf, 100 + i, 1, 1);
+    }
+    leaf
+}
+
+#[test]
+fn a_leaf_is_copied(rt: HostRuntime) -> Result<(), Fail> {
+    let leaf = leaf_of_49();
+    assert!(rt; leaf.entries.len() == 49);
+    later_laws();
+    match close_and_copy(&leaf, 2) {
+        Copied::One(_) => assert!(rt; false),
+        Copied::Two(first, cut, second) => {
+            assert!(rt; first.entries.len() == 24 && second.entries.len() == 25);
+            assert!(rt; cut == 122 && second.entries.as_slice()[0].start == 2);
+            assert!(rt; value_at(&first, 121, 2) == 27 && value_at(&second, 122, 2) == 28);
+            assert!(rt; value_at(&second, 146, 2) == 52 && value_at(&leaf, 146, 1) == 52);
+        }
+    }
+    Ok(())
+}
+
+#[test]
+fn laws_do_nothing(_: HostRuntime) -> Result<(), Fail> {
+    later_laws();
+    low_laws();
+    path_laws();
     Ok(())
 }

@@ -23,6 +23,7 @@ pub mod TreeValue
 pub mod Meta
 pub mod CutNode
 pub mod Cuts
+pub mod Regions
 pub mod BaEntry
 pub mod CutPage
 pub mod CutView

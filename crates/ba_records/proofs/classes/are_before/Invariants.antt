@@ -1,5 +1,5 @@
 use Rattle.std.proofs.Common.{◌≡◌, drop}
-use Rattle.ba_records.specs.Classes.{keys_before}
+use Rattle.bw_types.specs.Classes.{keys_before}
 use Rattle.ba_records.proofs.classes.are_before.Given as goal
 
 abbrev pub invariant-loop-i : goal.invariant-loop-i

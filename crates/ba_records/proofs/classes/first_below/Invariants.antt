@@ -1,5 +1,5 @@
 use Rattle.std.proofs.Common.{◌≡◌, ◌+◌, drop}
-use Rattle.ba_records.specs.Classes.{first_below as first_key_below}
+use Rattle.bw_types.specs.Classes.{first_below as first_key_below}
 use Rattle.ba_records.proofs.classes.first_below.Given as goal
 
 abbrev pub invariant-loop-i : goal.invariant-loop-i

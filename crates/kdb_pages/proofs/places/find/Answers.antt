@@ -3,7 +3,8 @@ use Rattle.bw_types.specs.declared.region.Region.{Region}
 use Rattle.page_layout.specs.declared.cut_node.CutNode.{CutNode}
 use Rattle.page_layout.specs.declared.cut_page.CutPage.{CutPage}
 use Rattle.page_layout.specs.Cuts.{Cuts, cuts_in, entry_count}
-use Rattle.kdb_pages.specs.Regions.{Holds, place_of, region_at}
+use Rattle.bw_types.specs.Regions.{Holds}
+use Rattle.page_layout.specs.Regions.{place_of, region_at}
 use Rattle.kdb_pages.proofs.Partition.{others_not, found_holds, place_below}
 use Rattle.kdb_pages.proofs.Splitting.{page_cuts, spelled_count}
 use Rattle.kdb_pages.proofs.places.find.Goals as goal
@@ -33,7 +34,7 @@ returns-clause-holds c =
     let are = page_cuts 17 c.args.page.now nodes c.requires.rules c.as_slice-nodes.ensures.value in
     let same : region_at (cuts_in nodes) c.args.region.now (place_of (cuts_in nodes) c.args.keys.now) ≡ c.region_at.result =
     ap (λ (n : ℕ). region_at (cuts_in nodes) c.args.region.now n) (sym c.place_of-index.ensures) ∙ sym c.region_at.ensures in
-    subst (λ (r : Region). Holds r c.args.keys.now) same (found_holds (cuts_in nodes) c.args.region.now c.args.keys.now are.dimensions c.requires.holds).1
+    subst (λ (r : Region). Holds 3 r c.args.keys.now) same (found_holds (cuts_in nodes) c.args.region.now c.args.keys.now are.dimensions c.requires.holds).1
 
 pub returns-clause-others : goal.returns-clause-others
 returns-clause-others c = λ proper index lt h.

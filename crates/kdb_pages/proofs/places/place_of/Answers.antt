@@ -1,5 +1,5 @@
 use Rattle.page_layout.specs.Cuts.{cuts_in}
-use Rattle.kdb_pages.specs.Regions.{place_of}
+use Rattle.page_layout.specs.Regions.{place_of}
 use Rattle.kdb_pages.proofs.Splitting.{place_arrived}
 use Rattle.kdb_pages.proofs.places.place_of.Goals as goal
 

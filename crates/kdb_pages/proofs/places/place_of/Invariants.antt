@@ -1,6 +1,6 @@
 use Rattle.std.proofs.Common.{◌≡◌, ◌+◌, ◌*◌, ◌≤◌, length}
 use Rattle.page_layout.specs.Cuts.{cuts_in}
-use Rattle.kdb_pages.specs.Regions.{place_of}
+use Rattle.page_layout.specs.Regions.{place_of}
 use Rattle.kdb_pages.specs.Sides.{AreOfCuts}
 use Rattle.kdb_pages.proofs.places.place_of.Given as goal
 

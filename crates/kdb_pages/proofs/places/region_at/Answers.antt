@@ -1,7 +1,7 @@
 use Rattle.std.proofs.Common.{◌≡◌, ℕ, ◌-◌, ◌<◌, ◌≤◌, get_or, ap, ◌∙◌, arith}
 use Rattle.bw_types.specs.declared.region.Region.{Region}
 use Rattle.page_layout.specs.Cuts.{cuts_in, entry_count}
-use Rattle.kdb_pages.specs.Regions.{regions_of}
+use Rattle.page_layout.specs.Regions.{regions_of}
 use Rattle.kdb_pages.proofs.Splitting.{step_low, step_high, count_sides, arrived}
 use Rattle.kdb_pages.proofs.places.region_at.Goals as goal
 

@@ -1,7 +1,7 @@
 use Rattle.std.proofs.Common.{◌≡◌, ◌<◌, length, get_or}
 use Rattle.bw_types.specs.declared.region.Region.{Region}
 use Rattle.page_layout.specs.Cuts.{cuts_in, entry_count}
-use Rattle.kdb_pages.specs.Regions.{regions_of}
+use Rattle.page_layout.specs.Regions.{regions_of}
 use Rattle.kdb_pages.specs.Sides.{AreOfCuts}
 use Rattle.kdb_pages.proofs.places.region_at.Given as goal
 

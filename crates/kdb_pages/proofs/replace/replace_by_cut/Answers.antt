@@ -11,13 +11,19 @@ pub returns-clause-cuts : goal.returns-clause-cuts
 returns-clause-cuts c =
     let page : CutPage = c.args.page.now in
     let new : CutPage = record { level = page.level; cuts = c.cut_nodes.new.nodes; entries = c.replace_entry.new.entries } in
-    (cut_rules page new c.args.index c.args.dimension c.args.key c.args.low.now c.args.high.now c.requires.rules c.requires.index c.requires.dimension c.requires.low c.requires.high refl c.cut_nodes.ensures c.replace_entry.ensures).0
+    (cut_rules page new c.args.index c.args.dimension c.args.key c.args.low.now c.args.high.now c.requires.rules c.requires.index c.requires.dimension refl c.cut_nodes.ensures c.replace_entry.ensures).0
+
+pub returns-clause-spelled : goal.returns-clause-spelled
+returns-clause-spelled c =
+    let page : CutPage = c.args.page.now in
+    let new : CutPage = record { level = page.level; cuts = c.cut_nodes.new.nodes; entries = c.replace_entry.new.entries } in
+    (cut_rules page new c.args.index c.args.dimension c.args.key c.args.low.now c.args.high.now c.requires.rules c.requires.index c.requires.dimension refl c.cut_nodes.ensures c.replace_entry.ensures).1
 
 pub returns-clause-rules : goal.returns-clause-rules
 returns-clause-rules c =
     let page : CutPage = c.args.page.now in
     let new : CutPage = record { level = page.level; cuts = c.cut_nodes.new.nodes; entries = c.replace_entry.new.entries } in
-    (cut_rules page new c.args.index c.args.dimension c.args.key c.args.low.now c.args.high.now c.requires.rules c.requires.index c.requires.dimension c.requires.low c.requires.high refl c.cut_nodes.ensures c.replace_entry.ensures).1
+    (cut_rules page new c.args.index c.args.dimension c.args.key c.args.low.now c.args.high.now c.requires.rules c.requires.index c.requires.dimension refl c.cut_nodes.ensures c.replace_entry.ensures).2
 
 pub returns-clause-typed : goal.returns-clause-typed
 returns-clause-typed c =

@@ -1,6 +1,6 @@
 use Rattle.std.proofs.Common.{ℕ, Option, cond, ◌==◌, ap, None}
 use Rattle.mv_pages.proofs.Typing.{above_typed}
-use Rattle.mv_pages.proofs.Additions.{above_value, above_path, above_entries, above_changeable, above_alive, above_lows}
+use Rattle.mv_pages.proofs.Additions.{above_value, above_path, above_entries, above_changeable, above_alive, above_lows, lows_beside}
 use Rattle.mv_pages.proofs.add.add_beside.Goals as goal
 
 pub returns-clause-value : goal.returns-clause-value
@@ -24,3 +24,6 @@ returns-clause-lows c = λ test all. above_lows c.args.node.now.entries.items c.
 
 pub returns-clause-typed : goal.returns-clause-typed
 returns-clause-typed c = λ all. above_typed c.args.node.now.entries.items c.take_above.new.entries.items c.args.key c.args.version c.args.value c.take_above.ensures.taken c.ranges.version.fits all
+
+pub returns-clause-lows_stay : goal.returns-clause-lows_stay
+returns-clause-lows_stay c = λ w. lows_beside c.args.node.now.level c.args.node.now.entries.items c.take_above.new.entries.items c.args.key c.args.version c.args.value c.requires.entries c.requires.changeable c.take_above.ensures.taken w

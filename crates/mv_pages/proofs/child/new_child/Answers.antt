@@ -1,7 +1,7 @@
 use Rattle.std.proofs.Common.{◌≡◌, ◌≤◌, ℕ, Option, None, cond, ◌==◌, ap, false, arith}
 use Rattle.std.proofs.lemmas.Bool.{ne_eqb}
 use Rattle.mv_pages.proofs.Typing.{led_typed}
-use Rattle.mv_pages.proofs.Children.{anew_value, anew_entries, anew_changeable, anew_alive, anew_lows, anew_past, anew_led, anew_others}
+use Rattle.mv_pages.proofs.Children.{anew_value, anew_entries, anew_changeable, anew_alive, anew_lows, anew_past, anew_led, anew_others, lows_anew-early, lows_anew-late}
 use Rattle.mv_pages.proofs.child.new_child.Goals as goal
 
 pub returns-clause-value : goal.returns-clause-value
@@ -45,3 +45,11 @@ returns-clause-lows c = λ test all here. anew_lows c.args.node.now.entries.item
 pub returns-clause-typed : goal.returns-clause-typed
 returns-clause-typed c = λ all. c.put_second.ensures.typed
     (led_typed c.args.node.now.entries.items c.lead.new.entries.items c.args.key c.args.version c.args.child c.lead.ensures.led c.ranges.version.fits c.ranges.child.fits all)
+
+pub returns-clause-lows_before : goal.returns-clause-lows_before
+returns-clause-lows_before c = λ w early. lows_anew-early c.args.node.now.level c.args.node.now.entries.items c.lead.new.entries.items c.put_second.new.entries.items c.args.key c.args.version c.args.child c.args.second
+    c.requires.entries c.requires.changeable c.lead.ensures.led c.put_second.ensures.items w early
+
+pub returns-clause-lows_from : goal.returns-clause-lows_from
+returns-clause-lows_from c = λ w late. lows_anew-late c.args.node.now.level c.args.node.now.entries.items c.lead.new.entries.items c.put_second.new.entries.items c.args.key c.args.version c.args.child c.args.second
+    c.requires.entries c.requires.changeable c.lead.ensures.led c.put_second.ensures.items c.requires.second w late
