@@ -1,0 +1,4 @@
+pub mod DeskState
+pub mod Housed
+pub mod Runs
+pub mod Serving
