@@ -1,4 +1,4 @@
-pub mod Corollaries
+pub mod EndsLaws
 pub mod Going
 pub mod Housing
 pub mod Lined

@@ -3,6 +3,7 @@ use Rattle.std.proofs.Common.{◌≡◌, ℕ, suc, ◌+◌, Bool, true, IsTrue, 
 use Rattle.std.proofs.lemmas.List.{append-nil}
 use Rattle.bw_types.specs.declared.params.Params.{Params}
 use Rattle.csv_rows.specs.Lines.{lines, is_whole, whole_part, HasNoLineFeed, TakesLine, PassesNoLineFeed}
+use Rattle.row_machine.specs.Serving.{TakesWhole}
 use Rattle.csv_rows.specs.declared.lines.Line.{Line}
 use Rattle.csv_rows.specs.declared.lines.Line.TheVariants.{End}
 use Rattle.csv_rows.specs.Machine.{State, step, replied, replies, state_after}
@@ -68,24 +69,27 @@ lines_more : (laws : LineLaws) (given piece line : List ℕ) → is_whole given 
 lines_more laws given piece line w one = laws.join given piece w ∙ ap (λ (ls : List (List ℕ)). lines given ++ ls) one
 
 -- one line more is served, after bytes that end with a line feed
-served_whole_line : (laws : LineLaws) (tells : Bool) (params : Params) (first now now' : State) (n : ℕ) (input come come' : List ℕ) (stopped stopped' : Option Line) (before written written' : List ℕ) → (served : Served tells params first now n input come stopped before written) → is_whole served.given ≡ true → (stopped' ≡ Some End → come' ≡ []) → (line : OneLine tells params n come come' stopped' now now' written written') → Served tells params first now' (n + 1) input come' stopped' before written'
-served_whole_line laws tells params first now now' n input come come' stopped stopped' before written written' served w nothing l = record {
-  given = served.given ++ l.takes.piece;
-  cut = served.cut ∙ (ap (λ (t : List ℕ). served.given ++ t) l.takes.cut ∙ sym (append_assoc served.given l.takes.piece come'));
-  ends = elim l.takes.ends [ inl whole ↦ inl (laws.whole served.given l.takes.piece w whole) | inr stop ↦ inr stop ];
-  nothing = nothing;
-  number = omega (arith, served.number, ap length more, length-append (lines served.given) (l.line ∷ []));
-  state = l.state ∙ (after_line params first now n (lines served.given) l.line served.number served.state ∙ ap (state_after params 1 first) (sym more));
-  wrote = λ told. l.wrote told ∙ (ap (λ (t : List ℕ). t ++ replied (step params n now l.line).reply) (served.wrote told)
-      ∙ (append_assoc before (replies params 1 first (lines served.given)) (replied (step params n now l.line).reply)
-      ∙ ap (λ (t : List ℕ). before ++ t) (line_reply params first now n (lines served.given) l.line served.number served.state ∙ ap (replies params 1 first) (sym more))));
-}
-  where
-    more : lines (served.given ++ l.takes.piece) ≡ lines served.given ++ l.line ∷ []
-    more = lines_more laws served.given l.takes.piece l.line w l.takes.one_line
+served_whole_line : (laws : LineLaws) (tells : Bool) (params : Params) (first now now' : State) (n : ℕ) (input come come' : List ℕ) (stopped stopped' : Option Line) (before written written' : List ℕ) → (served : Served tells params first now n input come stopped before written) → is_whole served.given ≡ true → (stopped' ≡ Some End → come' ≡ []) → (line : OneLine tells params n come come' stopped' now now' written written')
+    → (later : Served tells params first now' (n + 1) input come' stopped' before written') × (lines later.given ≡ lines served.given ++ line.line ∷ [])
+served_whole_line laws tells params first now now' n input come come' stopped stopped' before written written' served w nothing l =
+    let more : lines (served.given ++ l.takes.piece) ≡ lines served.given ++ l.line ∷ [] = lines_more laws served.given l.takes.piece l.line w l.takes.one_line in (
+      record {
+        given = served.given ++ l.takes.piece;
+        cut = served.cut ∙ (ap (λ (t : List ℕ). served.given ++ t) l.takes.cut ∙ sym (append_assoc served.given l.takes.piece come'));
+        ends = elim l.takes.ends [ inl whole ↦ inl (laws.whole served.given l.takes.piece w whole) | inr stop ↦ inr stop ];
+        nothing = nothing;
+        number = omega (arith, served.number, ap length more, length-append (lines served.given) (l.line ∷ []));
+        state = l.state ∙ (after_line params first now n (lines served.given) l.line served.number served.state ∙ ap (state_after params 1 first) (sym more));
+        wrote = λ told. l.wrote told ∙ (ap (λ (t : List ℕ). t ++ replied (step params n now l.line).reply) (served.wrote told)
+            ∙ (append_assoc before (replies params 1 first (lines served.given)) (replied (step params n now l.line).reply)
+            ∙ ap (λ (t : List ℕ). before ++ t) (line_reply params first now n (lines served.given) l.line served.number served.state ∙ ap (replies params 1 first) (sym more))));
+      },
+      more,
+    )
 
 -- one line more is served
-pub served_line : (laws : LineLaws) (tells : Bool) (params : Params) (first now now' : State) (n : ℕ) (input come come' : List ℕ) (stopped stopped' : Option Line) (before written written' : List ℕ) → Served tells params first now n input come stopped before written → (stopped' ≡ Some End → come' ≡ []) → OneLine tells params n come come' stopped' now now' written written' → Served tells params first now' (n + 1) input come' stopped' before written'
+pub served_line : (laws : LineLaws) (tells : Bool) (params : Params) (first now now' : State) (n : ℕ) (input come come' : List ℕ) (stopped stopped' : Option Line) (before written written' : List ℕ) → (served : Served tells params first now n input come stopped before written) → (stopped' ≡ Some End → come' ≡ []) → (line : OneLine tells params n come come' stopped' now now' written written')
+    → (later : Served tells params first now' (n + 1) input come' stopped' before written') × (lines later.given ≡ lines served.given ++ line.line ∷ [])
 served_line laws tells params first now now' n input come come' stopped stopped' before written written' served nothing l =
     elim served.ends [
       | inl w ↦ served_whole_line laws tells params first now now' n input come come' stopped stopped' before written written' served w nothing l
@@ -100,10 +104,16 @@ lines_split laws tells params first now n input come stopped before written serv
       ∙ (sym (append-nil (lines served.given)) ∙ ap (λ (t : List ℕ). lines served.given ++ lines t) (sym (served.nothing stop)))
 ]
 
--- the whole text is what was replied and the replies to what is to come
-pub text_split : (laws : LineLaws) (tells : Bool) (params : Params) (first now : State) (n : ℕ) (input come : List ℕ) (stopped : Option Line) (before written : List ℕ) → (served : Served tells params first now n input come stopped before written) → replies params 1 first (lines input) ≡ replies params 1 first (lines served.given) ++ replies params n now (lines come)
-text_split laws tells params first now n input come stopped before written served =
-    ap (replies params 1 first) (lines_split laws tells params first now n input come stopped before written served)
-    ∙ (replies-append params 1 first (lines served.given) (lines come)
-    ∙ (ap (λ (k : ℕ). replies params 1 first (lines served.given) ++ replies params k (state_after params 1 first (lines served.given)) (lines come)) (sym served.number)
-    ∙ ap (λ (s : State). replies params 1 first (lines served.given) ++ replies params n s (lines come)) (sym served.state)))
+not_both : (s : Option Line) → s ≡ None → s ≡ Some End → ⊥
+not_both s e f = cc
+
+-- where the input ends the run within a line, the lines given are those up to the last line feed that was taken
+pub served_whole : (laws : LineLaws) (tells : Bool) (params : Params) (first now : State) (n : ℕ) (input come left : List ℕ) (stopped : Option Line) (before written : List ℕ) → (served : Served tells params first now n input come stopped before written) → stopped ≡ None → PassesNoLineFeed come left → TakesWhole input left (lines served.given)
+served_whole laws tells params first now n input come left stopped before written served going passes = elim served.ends [
+  | inl w ↦ record {
+    taken = served.given ++ passes.passed;
+    cut = served.cut ∙ (ap (λ (t : List ℕ). served.given ++ t) passes.cut ∙ sym (append_assoc served.given passes.passed left));
+    whole = ap lines (sym (laws.passed served.given passes.passed w passes.in_line));
+  }
+  | inr stop ↦ absurd (not_both stopped going stop)
+]

@@ -1,7 +1,9 @@
--- What one line does to the input, the machine and the output.
-use Rattle.std.specs.Prelude.{◌≡◌, ◌⊎◌, ℕ, ◌+◌, ◌<◌, ◌≤◌, ⊤, Bool, true, IsTrue, List, [], ◌++◌, length, Option, Some, IfSome, Result, Ok, Err}
+-- What serving lines does to the input, the machine, its device and the output.
+use Rattle.std.specs.Prelude.{◌≡◌, ◌⊎◌, ℕ, ◌+◌, ◌<◌, ◌≤◌, ⊤, Bool, true, IsTrue, List, [], ◌∷◌, ◌++◌, length, Option, Some, IfSome, Result, Ok, Err}
 use Rattle.bw_types.specs.History.{History}
 use Rattle.bw_types.specs.declared.params.Params.{Params}
+use Rattle.bw_types.specs.declared.query.Query.{Query}
+use Rattle.csv_rows.specs.Input.{input}
 use Rattle.csv_rows.specs.Lines.{lines, whole_part, TakesLine}
 use Rattle.csv_rows.specs.Reader.{ReaderState}
 use Rattle.csv_rows.specs.Machine.{State, Step, step, replied, replies, state_after}
@@ -12,7 +14,7 @@ use Rattle.row_machine.specs.declared.desk.Desk.{Desk}
 use Rattle.row_machine.specs.declared.ending.Ran.{Ran}
 use Rattle.row_machine.specs.declared.ending.Ending.{Ending}
 use Rattle.row_machine.specs.declared.ending.Ending.TheVariants.{Fine, ReadFault, WriteFault, NoMemory, InputLimit, DiskFault, Damaged, PageLimit}
-use Rattle.row_machine.specs.Housed.{GoesOnFrom, IsAt, Settled, SettledBetween, OnlyBetween}
+use Rattle.row_machine.specs.Housed.{GoesOnFrom, IsAt, IsVersion, MayTake, Settled, SettledBetween, OnlyBetween, input_cost}
 use Rattle.row_machine.specs.Runs.{WritesPart}
 
 -- a reader that has not stopped, or has stopped at the end of the input
@@ -29,13 +31,43 @@ pub record GoesOn (old new : ReaderState) : Type 0 where
   pub used : old.taken + length new.pending < new.taken + length old.pending
   pub taken : new.taken ≤ new.limit
 
--- of the input before, all was taken but what is left, and what was written are the replies to its lines up to the last line feed that was taken
-pub record ServesWhole (params : Params) (begin : State) (before left : List ℕ) (written written' : List ℕ) : Type 0 where
-  pub taken : List ℕ
-  pub cut : before ≡ taken ++ left
-  pub wrote : written' ≡ written ++ replies params 1 begin (lines (whole_part taken))
+-- On a device that is not whole for commits, none of the lines is a commit.
+abbrev pub MayServe : Bool → Params → List (List ℕ) → Type 0
+MayServe whole params [] = ⊤
+MayServe whole params (line ∷ rest) = MayTake whole (input params line) × MayServe whole params rest
 
--- the endings at which no line was begun
+-- the most reads that a line asks for, where a query has this cost
+abbrev pub line_cost : (Params → History → Query → ℕ) → Params → History → List ℕ → ℕ
+line_cost cost params h line = input_cost cost params h (input params line)
+
+-- the most reads that the lines ask for, the first of which has the number n
+abbrev pub lines_cost : (Params → History → Query → ℕ) → Params → ℕ → State → List (List ℕ) → ℕ
+lines_cost cost params n s [] = 0
+lines_cost cost params n s (line ∷ rest) =
+    line_cost cost params s.history line + lines_cost cost params (n + 1) (step params n s line).state rest
+
+-- the most reads that the next line asks for, where there is one
+abbrev pub next_cost : (Params → History → Query → ℕ) → Params → State → List (List ℕ) → ℕ
+next_cost cost params s [] = 0
+next_cost cost params s (line ∷ rest) = line_cost cost params s.history line
+
+-- The next line, which has the number n, is a commit that is accepted.
+abbrev pub NextIsVersion : Params → ℕ → State → List (List ℕ) → Type 0
+NextIsVersion params n s [] = ⊥
+NextIsVersion params n s (line ∷ rest) = IsVersion (step params n s line).reply
+
+-- The input ends the run within a line: the source failed, or the input is too long.
+abbrev pub IsInputEnding : Ending → Type 0
+IsInputEnding ReadFault = ⊤
+IsInputEnding (InputLimit taken) = ⊤
+IsInputEnding Fine = ⊥
+IsInputEnding WriteFault = ⊥
+IsInputEnding NoMemory = ⊥
+IsInputEnding DiskFault = ⊥
+IsInputEnding (Damaged page) = ⊥
+IsInputEnding (PageLimit allotted) = ⊥
+
+-- The run ends between two lines: no line was begun.
 abbrev pub IsBetweenLines : Ending → Type 0
 IsBetweenLines Fine = ⊤
 IsBetweenLines ReadFault = ⊤
@@ -46,72 +78,92 @@ IsBetweenLines DiskFault = ⊥
 IsBetweenLines (Damaged page) = ⊥
 IsBetweenLines (PageLimit allotted) = ⊥
 
--- the endings with which a line ends the run
-abbrev pub IsWithinLine : Ending → Type 0
-IsWithinLine Fine = ⊥
-IsWithinLine ReadFault = ⊥
-IsWithinLine (InputLimit taken) = ⊥
-IsWithinLine WriteFault = ⊤
-IsWithinLine NoMemory = ⊤
-IsWithinLine DiskFault = ⊤
-IsWithinLine (Damaged page) = ⊤
-IsWithinLine (PageLimit allotted) = ⊤
+-- All replies are written when the run ends so.
+abbrev pub IsFlushed : Ending → Type 0
+IsFlushed Fine = ⊤
+IsFlushed ReadFault = ⊤
+IsFlushed (InputLimit taken) = ⊤
+IsFlushed WriteFault = ⊥
+IsFlushed NoMemory = ⊤
+IsFlushed DiskFault = ⊥
+IsFlushed (Damaged page) = ⊤
+IsFlushed (PageLimit allotted) = ⊤
+
+-- Of the input all was taken but what is left, and the lines are those up to the last line feed that was taken.
+pub record TakesWhole (input left : List ℕ) (served : List (List ℕ)) : Type 0 where
+  pub taken : List ℕ
+  pub cut : input ≡ taken ++ left
+  pub whole : served ≡ lines (whole_part taken)
 
 module _ {H D : Type 0} (g : Ghosts H D) where
   abbrev pub state_at : History → Desk H D g → State
   state_at h desk = record { history = h; staged = desk.sessions }
 
-  -- From the history h the machine made this step, and its reply is written.
-  pub record Serves (tells : Bool) (params : Params) (h : History) (t : Step) (before : D) (new : Desk H D g) (written written' : List ℕ) : Type 0 where
-    pub at : IsAt g true params t.state new
-    pub wrote : IsTrue tells → written' ≡ written ++ replied t.reply
-    pub any_moment : OnlyBetween g params h t.state.history before (g.device new.house)
-    pub settled : Settled g params h before → Settled g params t.state.history (g.device new.house)
+  -- the device after a line
+  abbrev pub device_after : Result (Desk H D g) (Ran D) → D
+  device_after (Ok desk) = g.device desk.house
+  device_after (Err ran) = ran.device
 
-  -- From the history h the machine was to make this step, and the run ended in it: a part of its reply is written. What
-  -- a crash may leave lies between the history that is sure and that of the step; the sure one is that of before,
-  -- unless the reply was begun.
-  pub record Breaks (tells tells' : Bool) (params : Params) (h : History) (t : Step) (before : D) (ran : Ran D) (written written' : List ℕ) : Type 0 where
+  -- From the history h the machine made this step, and its reply was gathered.
+  pub record Serves (whole : Bool) (params : Params) (h : History) (t : Step) (cost : ℕ) (before : D) (new : Desk H D g) (gathered gathered' : List ℕ) : Type 0 where
+    pub at : IsAt g whole params t.state new
+    pub replies : gathered' ≡ gathered ++ replied t.reply
+    pub reads : g.reads (g.device new.house) ≤ g.reads before + cost
+    pub any_moment : whole ≡ true → OnlyBetween g params h t.state.history before (g.device new.house)
+    pub settled : whole ≡ true → Settled g params h before → Settled g params t.state.history (g.device new.house)
+
+  -- From the history h the machine was to make this step, and the run ended in it. The history that is sure is that
+  -- before the step or that after it, and what a crash may leave lies between the sure one and that after it.
+  pub record Breaks (whole : Bool) (params : Params) (h : History) (t : Step) (cost : ℕ) (before : D) (ran : Ran D) : Type 0 where
     pub sure : History
     pub begins : GoesOnFrom h sure
     pub within : GoesOnFrom sure t.state.history
-    pub stands : (ran.ending ≡ DiskFault → ⊥) → g.stands true ran.device params sure
-    pub begun : ran.ending ≡ WriteFault → sure ≡ t.state.history
-    pub part : IsTrue tells → IsTrue tells' → WritesPart written written' (replied t.reply)
-    pub nothing : (ran.ending ≡ WriteFault → ⊥) → IsTrue tells → written' ≡ written
-    pub any_moment : OnlyBetween g params h t.state.history before ran.device
-    pub settled : Settled g params h before → SettledBetween g params sure t.state.history ran.device
+    pub stands : (ran.ending ≡ DiskFault → ⊥) → g.stands whole ran.device params sure
+    pub undamaged : (page : ℕ) → ran.ending ≡ Damaged page → ⊥
+    pub page_limit : (allotted : ℕ) → ran.ending ≡ PageLimit allotted → IsVersion t.reply × (sure ≡ h)
+    pub reads : g.reads ran.device ≤ g.reads before + cost
+    pub any_moment : whole ≡ true → OnlyBetween g params h t.state.history before ran.device
+    pub settled : whole ≡ true → Settled g params h before → SettledBetween g params sure t.state.history ran.device
 
-  -- the line is served, or the run ends in it
-  abbrev pub ServesText : Bool → Bool → Params → History → Step → D → List ℕ → List ℕ → Result (Desk H D g) (Ran D) → Type 0
-  ServesText tells tells' params h t before written written' (Ok desk) = Serves tells params h t before desk written written'
-  ServesText tells tells' params h t before written written' (Err ran) = Breaks tells tells' params h t before ran written written'
+  -- The line is served, or the run ends in it.
+  abbrev pub ServesText : Bool → Params → History → Step → ℕ → D → List ℕ → List ℕ → Result (Desk H D g) (Ran D) → Type 0
+  ServesText whole params h t cost before gathered gathered' (Ok desk) = Serves whole params h t cost before desk gathered gathered'
+  ServesText whole params h t cost before gathered gathered' (Err ran) = Breaks whole params h t cost before ran
 
-  -- the next line, which has the number n, is taken off the input and served
-  pub record ServesLine (tells : Bool) (params : Params) (n : ℕ) (before after : List ℕ) (stopped : Option Line) (h : History) (old new : Desk H D g) (written written' : List ℕ) : Type 0 where
+  -- The next line, which has the number n, is taken off the input and served.
+  pub record ServesLine (whole : Bool) (params : Params) (n : ℕ) (before after : List ℕ) (stopped : Option Line) (h : History) (old new : Desk H D g) (gathered gathered' : List ℕ) : Type 0 where
     pub line : List ℕ
     pub takes : TakesLine before line after stopped
-    pub serves : Serves tells params h (step params n (state_at h old) line) (g.device old.house) new written written'
+    pub serves : Serves whole params h (step params n (state_at h old) line) (line_cost g.cost params h line) (g.device old.house) new gathered gathered'
 
-  -- the next line, which has the number n, is taken off the input, and the run ends in it
-  pub record BreaksOff (tells tells' : Bool) (params : Params) (n : ℕ) (before : List ℕ) (h : History) (old : Desk H D g) (ran : Ran D) (written written' : List ℕ) : Type 0 where
+  -- The next line, which has the number n, is taken off the input, and the run ends in it.
+  pub record BreaksOff (whole : Bool) (params : Params) (n : ℕ) (before : List ℕ) (h : History) (old : Desk H D g) (ran : Ran D) : Type 0 where
     pub line : List ℕ
     pub after : List ℕ
     pub stopped : Option Line
     pub takes : TakesLine before line after stopped
-    pub breaks : Breaks tells tells' params h (step params n (state_at h old) line) (g.device old.house) ran written written'
+    pub breaks : Breaks whole params h (step params n (state_at h old) line) (line_cost g.cost params h line) (g.device old.house) ran
 
-  -- What is left when a run over the lines ends: some of them were served whole, and a part of the next reply may be
-  -- written. What a crash may leave now holds all that the lines served whole have committed.
-  pub record Ends (tells tells' : Bool) (params : Params) (begin : State) (all : List (List ℕ)) (before : D) (ran : Ran D) (written written' : List ℕ) : Type 0 where
+  -- What is left when a run over an input ends. Some of its lines were served whole, and what was written are replies
+  -- to them, from the first on. The history that is sure has all that these lines have committed; the device stands for it, unless
+  -- it failed, and what a crash may leave now goes on from it.
+  pub record Ends (whole tells tells' still : Bool) (params : Params) (begin : State) (input left : List ℕ) (before : D) (ran : Ran D) (written written' : List ℕ) : Type 0 where
     pub served : List (List ℕ)
     pub rest : List (List ℕ)
-    pub cut : all ≡ served ++ rest
+    pub cut : lines input ≡ served ++ rest
     pub fine : ran.ending ≡ Fine → rest ≡ []
-    pub wrote : IsTrue tells → IsTrue tells' → WritesPart (written ++ replies params 1 begin served) written' (replies params (1 + length served) (state_after params 1 begin served) rest)
+    pub taken : IsInputEnding ran.ending → IsTrue still → TakesWhole input left served
+    pub wrote : IsTrue tells → IsTrue tells' → WritesPart written written' (replies params 1 begin served)
+    pub flushed : IsFlushed ran.ending → IsTrue tells → IsTrue tells' → written' ≡ written ++ replies params 1 begin served
     pub sure : History
     pub begins : GoesOnFrom (state_after params 1 begin served).history sure
-    pub within : GoesOnFrom sure (state_after params 1 begin all).history
-    pub stands : (ran.ending ≡ DiskFault → ⊥) → g.stands true ran.device params sure
-    pub any_moment : OnlyBetween g params begin.history (state_after params 1 begin all).history before ran.device
-    pub settled : Settled g params begin.history before → SettledBetween g params sure (state_after params 1 begin all).history ran.device
+    pub within : GoesOnFrom sure (state_after params 1 begin (lines input)).history
+    pub between : IsBetweenLines ran.ending → sure ≡ (state_after params 1 begin served).history
+    pub stands : (ran.ending ≡ DiskFault → ⊥) → g.stands whole ran.device params sure
+    pub undamaged : (page : ℕ) → ran.ending ≡ Damaged page → ⊥
+    pub page_limit : (allotted : ℕ) → ran.ending ≡ PageLimit allotted
+        → NextIsVersion params (1 + length served) (state_after params 1 begin served) rest × (sure ≡ (state_after params 1 begin served).history)
+    pub reads : g.reads ran.device ≤ g.reads before + (lines_cost g.cost params 1 begin served + next_cost g.cost params (state_after params 1 begin served) rest)
+    pub reads_between : IsBetweenLines ran.ending → g.reads ran.device ≤ g.reads before + lines_cost g.cost params 1 begin served
+    pub any_moment : whole ≡ true → OnlyBetween g params begin.history (state_after params 1 begin (lines input)).history before ran.device
+    pub settled : whole ≡ true → Settled g params begin.history before → SettledBetween g params sure (state_after params 1 begin (lines input)).history ran.device

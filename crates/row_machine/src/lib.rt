@@ -7,7 +7,7 @@
 
 mod desk;
 mod ending;
-mod replying;
+mod outbox;
 mod serving;
 
 pub use desk::{Desk, Taken};
