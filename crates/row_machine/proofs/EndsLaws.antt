@@ -2,6 +2,8 @@
 use Rattle.std.proofs.Common.{◌≡◌, ℕ, ◌+◌, ◌≤◌, Bool, true, IsTrue, List, [], ◌∷◌, ◌++◌, length, Option, None, Some, refl, sym, ◌∙◌, ap, subst, append_assoc, arith}
 use Rattle.bw_types.specs.History.{History}
 use Rattle.bw_types.specs.declared.params.Params.{Params}
+use Rattle.bw_types.specs.declared.row.Row.{Row}
+use Rattle.csv_rows.specs.Input.{input as input_of}
 use Rattle.csv_rows.specs.Lines.{lines}
 use Rattle.csv_rows.specs.declared.lines.Line.{Line}
 use Rattle.csv_rows.specs.Machine.{State, step, replies, state_after}
@@ -10,9 +12,9 @@ use Rattle.row_machine.specs.declared.desk.Desk.{Desk}
 use Rattle.row_machine.specs.declared.ending.Ran.{Ran}
 use Rattle.row_machine.specs.declared.ending.Ending.{Ending}
 use Rattle.row_machine.specs.declared.ending.Ending.TheVariants.{Fine, ReadFault, WriteFault, NoMemory, InputLimit, DiskFault, Damaged, PageLimit}
-use Rattle.row_machine.specs.Housed.{GoesOnFrom, IsHouseEnding, IsVersion, Settled, SettledBetween, OnlyBetween}
+use Rattle.row_machine.specs.Housed.{GoesOnFrom, IsHouseEnding, IsVersion, rows_committed, Settled, SettledBetween, OnlyBetween}
 use Rattle.row_machine.specs.Runs.{WritesMore, WritesPart}
-use Rattle.row_machine.specs.Serving.{state_at, Breaks, BreaksOff, Ends, IsBetweenLines, IsFlushed, IsInputEnding, NextIsVersion, TakesWhole, line_cost, lines_cost, next_cost}
+use Rattle.row_machine.specs.Serving.{state_at, Breaks, BreaksOff, Ends, IsBetweenLines, IsFlushed, IsInputEnding, NextIsVersion, TakesWhole, line_cost, lines_cost, next_cost, next_rows}
 use Rattle.row_machine.proofs.Housing.{goes_on_same, goes_on_twice, after_goes_on, only_twice, only_wider, settled_between, settled_wider}
 use Rattle.row_machine.proofs.Lined.{not_both}
 use Rattle.row_machine.proofs.Parts.{part_of_all}
@@ -82,8 +84,8 @@ module _ {H D : Type 0} (g : Ghosts H D) (laws : LineLaws) (whole tells tells' s
       let given = lines r.served.given in
       let line = b.line in
       let same : state_at g r.state.history now ≡ r.state = state_is g r.state now r.at.staged in
-      let breaks : Breaks g whole params r.state.history (step params n r.state line) (line_cost g.cost params r.state.history line) (g.device now.house) ended =
-      subst (λ (s : State). Breaks g whole params r.state.history (step params n s line) (line_cost g.cost params r.state.history line) (g.device now.house) ended) same b.breaks in
+      let breaks : Breaks g whole params r.state.history (step params n r.state line) (rows_committed r.state (input_of params line)) (line_cost g.cost params r.state.history line) (g.device now.house) ended =
+      subst (λ (s : State). Breaks g whole params r.state.history (step params n s line) (rows_committed s (input_of params line)) (line_cost g.cost params r.state.history line) (g.device now.house) ended) same b.breaks in
       let number : n ≡ 1 + length given = r.served.number in
       let coming : lines come ≡ line ∷ lines b.after = b.takes.all_lines in
       let all : state_after params 1 (state_at g h first) (lines input) ≡ state_after params (n + 1) (step params n r.state line).state (lines b.after) =
@@ -94,6 +96,9 @@ module _ {H D : Type 0} (g : Ghosts H D) (laws : LineLaws) (whole tells tells' s
       let next : next_cost g.cost params (state_after params 1 (state_at g h first) given) (lines come) ≡ line_cost g.cost params r.state.history line =
       ap (next_cost g.cost params (state_after params 1 (state_at g h first) given)) coming
       ∙ ap (λ (s : State). line_cost g.cost params s.history line) (sym r.served.state) in
+      let next_committed : next_rows params (state_after params 1 (state_at g h first) given) (lines come) ≡ rows_committed r.state (input_of params line) =
+      ap (next_rows params (state_after params 1 (state_at g h first) given)) coming
+      ∙ ap (λ (s : State). rows_committed s (input_of params line)) (sym r.served.state) in
       let reads : g.reads ended.device ≤ g.reads (g.device now.house) + line_cost g.cost params r.state.history line = breaks.reads in
       let reads' : g.reads ran.device ≤ g.reads (g.device now.house) + line_cost g.cost params r.state.history line =
       subst (λ (d : D). g.reads d ≤ g.reads (g.device now.house) + line_cost g.cost params r.state.history line) (sym disk) reads in
@@ -115,7 +120,10 @@ module _ {H D : Type 0} (g : Ghosts H D) (laws : LineLaws) (whole tells tells' s
         page_limit = λ allotted e.
             let p = breaks.page_limit allotted (limit allotted e) in
             (next_version params (state_after params 1 (state_at g h first) given) r.state n (1 + length given) line (lines come) (lines b.after) (sym r.served.state) number coming p.0,
-            p.1 ∙ ap (λ (s : State). s.history) r.served.state);
+            p.1 ∙ ap (λ (s : State). s.history) r.served.state, p.2,
+            subst (λ (k : History). g.lacks_pages ran.device params k (next_rows params (state_after params 1 (state_at g h first) given) (lines come))) (sym p.1)
+            (subst (λ (s : List Row). g.lacks_pages ran.device params r.state.history s) (sym next_committed)
+            (subst (λ (d : D). g.lacks_pages d params r.state.history (rows_committed r.state (input_of params line))) (sym disk) p.3)));
         reads = omega (arith, next, reads', so_far);
         reads_between = λ b. absurd (outside b);
         any_moment = λ e. subst (λ (d : D). OnlyBetween g params h (state_after params 1 (state_at g h first) (lines input)).history (g.device first.house) d) (sym disk)

@@ -12,7 +12,7 @@ use Rattle.row_machine.specs.declared.desk.Desk.{Desk}
 use Rattle.row_machine.specs.declared.ending.Ran.{Ran}
 use Rattle.row_machine.specs.declared.ending.Ending.{Ending}
 use Rattle.row_machine.specs.declared.ending.Ending.TheVariants.{Fine, ReadFault, WriteFault, NoMemory, InputLimit, DiskFault, Damaged, PageLimit}
-use Rattle.row_machine.specs.Housed.{IsHouseEnding, MayTake}
+use Rattle.row_machine.specs.Housed.{IsHouseEnding, MayTake, rows_committed}
 use Rattle.row_machine.specs.Serving.{state_at, ServesText, ServesLine, BreaksOff, IsBetweenLines, MayServe, line_cost}
 
 pub not_both : (ending : Ending) → IsHouseEnding ending → IsBetweenLines ending → ⊥
@@ -61,7 +61,7 @@ first_may whole params all line rest e may = (subst (λ (ls : List (List ℕ)). 
 module _ {H D : Type 0} (g : Ghosts H D) (source : Bool) (params : Params) (n : ℕ) (before after : List ℕ) (stopped : Option Line) (old : Desk H D g) (gathered gathered' : List ℕ) where
   pub text_line : (text line : List ℕ) (result : Result (Desk H D g) (Ran D)) → text ≡ line → (IsTrue source → TakesLine before line after stopped)
       → ((whole : Bool) (h : History) → MayTake whole (input params text) → g.stands whole (g.device old.house) params h
-      → ServesText g whole params h (step params n (state_at g h old) text) (line_cost g.cost params h text) (g.device old.house) gathered gathered' result)
+      → ServesText g whole params h (step params n (state_at g h old) text) (rows_committed (state_at g h old) (input params text)) (line_cost g.cost params h text) (g.device old.house) gathered gathered' result)
       → IfOk result (λ new. IsTrue source → (whole : Bool) (h : History) → MayServe whole params (lines before) → g.stands whole (g.device old.house) params h
       → ServesLine g whole params n before after stopped h old new gathered gathered')
   text_line text line (Ok new) e takes serves = λ told whole h may stands.
@@ -71,7 +71,7 @@ module _ {H D : Type 0} (g : Ghosts H D) (source : Bool) (params : Params) (n : 
 
   pub text_breaks : (text line : List ℕ) (result : Result (Desk H D g) (Ran D)) → text ≡ line → (IsTrue source → TakesLine before line after stopped)
       → ((whole : Bool) (h : History) → MayTake whole (input params text) → g.stands whole (g.device old.house) params h
-      → ServesText g whole params h (step params n (state_at g h old) text) (line_cost g.cost params h text) (g.device old.house) gathered gathered' result)
+      → ServesText g whole params h (step params n (state_at g h old) text) (rows_committed (state_at g h old) (input params text)) (line_cost g.cost params h text) (g.device old.house) gathered gathered' result)
       → IfErr result (λ ran. IsHouseEnding ran.ending → IsTrue source → (whole : Bool) (h : History) → MayServe whole params (lines before) → g.stands whole (g.device old.house) params h
       → BreaksOff g whole params n before h old ran)
   text_breaks text line (Ok new) e takes serves = tt
@@ -81,7 +81,7 @@ module _ {H D : Type 0} (g : Ghosts H D) (source : Bool) (params : Params) (n : 
 
   pub long_line : (most : ℕ) (result : Result (Desk H D g) (Ran D)) → (IsTrue source → TakesLongLine most before after stopped)
       → ((whole : Bool) (h : History) (line : List ℕ) → most < length line → g.stands whole (g.device old.house) params h
-      → ServesText g whole params h (step params n (state_at g h old) line) (line_cost g.cost params h line) (g.device old.house) gathered gathered' result)
+      → ServesText g whole params h (step params n (state_at g h old) line) (rows_committed (state_at g h old) (input params line)) (line_cost g.cost params h line) (g.device old.house) gathered gathered' result)
       → IfOk result (λ new. IsTrue source → (whole : Bool) (h : History) → MayServe whole params (lines before) → g.stands whole (g.device old.house) params h
       → ServesLine g whole params n before after stopped h old new gathered gathered')
   long_line most (Ok new) takes serves = λ told whole h may stands.
@@ -90,7 +90,7 @@ module _ {H D : Type 0} (g : Ghosts H D) (source : Bool) (params : Params) (n : 
 
   pub long_breaks : (most : ℕ) (result : Result (Desk H D g) (Ran D)) → (IsTrue source → TakesLongLine most before after stopped)
       → ((whole : Bool) (h : History) (line : List ℕ) → most < length line → g.stands whole (g.device old.house) params h
-      → ServesText g whole params h (step params n (state_at g h old) line) (line_cost g.cost params h line) (g.device old.house) gathered gathered' result)
+      → ServesText g whole params h (step params n (state_at g h old) line) (rows_committed (state_at g h old) (input params line)) (line_cost g.cost params h line) (g.device old.house) gathered gathered' result)
       → IfErr result (λ ran. IsHouseEnding ran.ending → IsTrue source → (whole : Bool) (h : History) → MayServe whole params (lines before) → g.stands whole (g.device old.house) params h
       → BreaksOff g whole params n before h old ran)
   long_breaks most (Ok new) takes serves = tt

@@ -2,6 +2,7 @@
 use Rattle.std.proofs.Common.{◌≡◌, ℕ, ◌+◌, ◌≤◌, Bool, true, List, ◌++◌, ◌⊎◌, Result, Ok, Err, OnOk, IfOk, IfErr, refl, sym, ◌∙◌, ap, subst}
 use Rattle.bw_types.specs.History.{History}
 use Rattle.bw_types.specs.declared.params.Params.{Params}
+use Rattle.bw_types.specs.declared.row.Row.{Row}
 use Rattle.csv_rows.specs.Machine.{Step, replied}
 use Rattle.warehouse.specs.declared.house.House.{Ghosts}
 use Rattle.row_machine.specs.declared.desk.Desk.{Desk}
@@ -13,7 +14,7 @@ use Rattle.row_machine.specs.Housed.{GoesOnFrom, IsAt, Went, Stops, StopsFor, Se
 use Rattle.row_machine.specs.Serving.{Serves, Breaks, ServesText}
 use Rattle.row_machine.proofs.Housing.{goes_on_same, settled_between}
 
-module _ {H D : Type 0} (g : Ghosts H D) (whole : Bool) (params : Params) (h : History) (t : Step) (cost : ℕ) (before : D) where
+module _ {H D : Type 0} (g : Ghosts H D) (whole : Bool) (params : Params) (h : History) (t : Step) (rows : List Row) (cost : ℕ) (before : D) where
   -- the step was made, and its reply is gathered, or there was no memory for it
   pub text_served : (taken : Taken H D g) (gathered gathered' : List ℕ) (result : Result (Desk H D g) (Ran D))
       → Went g whole params t (Ok taken) → (whole ≡ true → Leaves g params h t.state.history before (Ok taken)) → GoesOnFrom h t.state.history
@@ -21,7 +22,7 @@ module _ {H D : Type 0} (g : Ghosts H D) (whole : Bool) (params : Params) (h : H
       → IfOk result (λ new. new ≡ taken.desk)
       → OnOk result (gathered' ≡ gathered ++ replied taken.reply)
       → IfErr result (λ ran. (ran.device ≡ g.device taken.desk.house) × (ran.ending ≡ NoMemory))
-      → ServesText g whole params h t cost before gathered gathered' result
+      → ServesText g whole params h t rows cost before gathered gathered' result
   text_served taken gathered gathered' (Ok desk) went leaves goes reads same gathers ended = record {
     at = subst (λ (d : Desk H D g). IsAt g whole params t.state d) (sym same) went.0;
     replies = gathers ∙ ap (λ r. gathered ++ replied r) went.1;
@@ -43,7 +44,7 @@ module _ {H D : Type 0} (g : Ghosts H D) (whole : Bool) (params : Params) (h : H
   }
 
   -- where the run ends in the step itself, the history of before is there, unless the device failed
-  still_stands : (ending : Ending) (d : D) → StopsFor g whole params h t ending d → (ending ≡ DiskFault → ⊥) → g.stands whole d params h
+  still_stands : (ending : Ending) (d : D) → StopsFor g whole params h t rows ending d → (ending ≡ DiskFault → ⊥) → g.stands whole d params h
   still_stands Fine d stops other = absurd stops
   still_stands ReadFault d stops other = absurd stops
   still_stands WriteFault d stops other = absurd stops
@@ -54,15 +55,17 @@ module _ {H D : Type 0} (g : Ghosts H D) (whole : Bool) (params : Params) (h : H
   still_stands DiskFault d stops other = absurd (other refl)
 
   -- the run ended in the step
-  pub step_broke : (ran : Ran D) → Stops g whole params h t (Err ran) → (whole ≡ true → Leaves g params h t.state.history before (Err ran)) → GoesOnFrom h t.state.history
-      → g.reads ran.device ≤ g.reads before + cost → Breaks g whole params h t cost before ran
+  pub step_broke : (ran : Ran D) → Stops g whole params h t rows (Err ran) → (whole ≡ true → Leaves g params h t.state.history before (Err ran)) → GoesOnFrom h t.state.history
+      → g.reads ran.device ≤ g.reads before + cost → Breaks g whole params h t rows cost before ran
   step_broke ran stops leaves goes reads = record {
     sure = h;
     begins = goes_on_same h;
     within = goes;
     stands = still_stands ran.ending ran.device stops;
-    undamaged = λ page e. subst (λ (s : Ending). StopsFor g whole params h t s ran.device) e stops;
-    page_limit = λ n e. ((subst (λ (s : Ending). StopsFor g whole params h t s ran.device) e stops).1, refl);
+    undamaged = λ page e. subst (λ (s : Ending). StopsFor g whole params h t rows s ran.device) e stops;
+    page_limit = λ n e.
+        let s = subst (λ (s : Ending). StopsFor g whole params h t rows s ran.device) e stops in
+        (s.1, refl, s.2, s.3);
     reads = reads;
     any_moment = λ e. (leaves e).any_moment;
     settled = λ e. (leaves e).lost;

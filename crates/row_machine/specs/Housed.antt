@@ -3,7 +3,8 @@ use Rattle.std.specs.Prelude.{◌≡◌, ◌⊎◌, ℕ, ◌+◌, ◌≤◌, ⊤
 use Rattle.bw_types.specs.History.{History, last_version}
 use Rattle.bw_types.specs.declared.params.Params.{Params}
 use Rattle.bw_types.specs.declared.query.Query.{Query}
-use Rattle.csv_rows.specs.Machine.{State, Step}
+use Rattle.bw_types.specs.declared.row.Row.{Row}
+use Rattle.csv_rows.specs.Machine.{State, Step, rows_of}
 use Rattle.csv_rows.specs.declared.input.Input.{Input}
 use Rattle.csv_rows.specs.declared.input.Input.TheVariants.{Stage, Commit, Forget, Ask}
 use Rattle.csv_rows.specs.declared.reply.Reply.{Reply}
@@ -60,6 +61,14 @@ IsHouseEnding DiskFault = ⊤
 IsHouseEnding (Damaged page) = ⊤
 IsHouseEnding (PageLimit allotted) = ⊤
 
+-- the rows that a line commits: those that its session has staged
+abbrev pub rows_committed : State → Option Input → List Row
+rows_committed s None = []
+rows_committed s (Some (Stage session r)) = []
+rows_committed s (Some (Commit session)) = rows_of s session
+rows_committed s (Some (Forget session)) = []
+rows_committed s (Some (Ask version q)) = []
+
 module _ {H D : Type 0} (g : Ghosts H D) where
   abbrev pub device_of : Desk H D g → D
   device_of desk = g.device desk.house
@@ -79,20 +88,21 @@ module _ {H D : Type 0} (g : Ghosts H D) where
   Went whole params t (Ok taken) = IsAt whole params t.state taken.desk × (taken.reply ≡ t.reply)
   Went whole params t (Err ran) = ⊤
 
-  -- Where a line ends the run, the device stands as before, unless it failed.
-  abbrev pub StopsFor : Bool → Params → History → Step → Ending → D → Type 0
-  StopsFor whole params h t Fine d = ⊥
-  StopsFor whole params h t ReadFault d = ⊥
-  StopsFor whole params h t WriteFault d = ⊥
-  StopsFor whole params h t (InputLimit taken) d = ⊥
-  StopsFor whole params h t (Damaged page) d = ⊥
-  StopsFor whole params h t NoMemory d = g.stands whole d params h
-  StopsFor whole params h t (PageLimit allotted) d = g.stands whole d params h × IsVersion t.reply
-  StopsFor whole params h t DiskFault d = ⊤
+  -- Where a line that was to commit these rows ends the run, the device stands as before, unless it failed.
+  abbrev pub StopsFor : Bool → Params → History → Step → List Row → Ending → D → Type 0
+  StopsFor whole params h t rows Fine d = ⊥
+  StopsFor whole params h t rows ReadFault d = ⊥
+  StopsFor whole params h t rows WriteFault d = ⊥
+  StopsFor whole params h t rows (InputLimit taken) d = ⊥
+  StopsFor whole params h t rows (Damaged page) d = ⊥
+  StopsFor whole params h t rows NoMemory d = g.stands whole d params h
+  StopsFor whole params h t rows (PageLimit allotted) d =
+      g.stands whole d params h × IsVersion t.reply × (allotted ≡ params.pages) × g.lacks_pages d params h rows
+  StopsFor whole params h t rows DiskFault d = ⊤
 
-  abbrev pub Stops : Bool → Params → History → Step → Result (Taken H D g) (Ran D) → Type 0
-  Stops whole params h t (Ok taken) = ⊤
-  Stops whole params h t (Err ran) = StopsFor whole params h t ran.ending ran.device
+  abbrev pub Stops : Bool → Params → History → Step → List Row → Result (Taken H D g) (Ran D) → Type 0
+  Stops whole params h t rows (Ok taken) = ⊤
+  Stops whole params h t rows (Err ran) = StopsFor whole params h t rows ran.ending ran.device
 
   -- the image holds a history that goes on from the first and of which the second goes on
   pub record KeepsBetween (params : Params) (first second : History) (x : g.Image) : Type 0 where

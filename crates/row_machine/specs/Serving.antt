@@ -3,6 +3,7 @@ use Rattle.std.specs.Prelude.{◌≡◌, ◌⊎◌, ℕ, ◌+◌, ◌<◌, ◌�
 use Rattle.bw_types.specs.History.{History}
 use Rattle.bw_types.specs.declared.params.Params.{Params}
 use Rattle.bw_types.specs.declared.query.Query.{Query}
+use Rattle.bw_types.specs.declared.row.Row.{Row}
 use Rattle.csv_rows.specs.Input.{input}
 use Rattle.csv_rows.specs.Lines.{lines, whole_part, TakesLine}
 use Rattle.csv_rows.specs.Reader.{ReaderState}
@@ -14,7 +15,7 @@ use Rattle.row_machine.specs.declared.desk.Desk.{Desk}
 use Rattle.row_machine.specs.declared.ending.Ran.{Ran}
 use Rattle.row_machine.specs.declared.ending.Ending.{Ending}
 use Rattle.row_machine.specs.declared.ending.Ending.TheVariants.{Fine, ReadFault, WriteFault, NoMemory, InputLimit, DiskFault, Damaged, PageLimit}
-use Rattle.row_machine.specs.Housed.{GoesOnFrom, IsAt, IsVersion, MayTake, Settled, SettledBetween, OnlyBetween, input_cost}
+use Rattle.row_machine.specs.Housed.{GoesOnFrom, IsAt, IsVersion, MayTake, Settled, SettledBetween, OnlyBetween, input_cost, rows_committed}
 use Rattle.row_machine.specs.Runs.{WritesPart}
 
 -- a reader that has not stopped, or has stopped at the end of the input
@@ -50,6 +51,11 @@ lines_cost cost params n s (line ∷ rest) =
 abbrev pub next_cost : (Params → History → Query → ℕ) → Params → State → List (List ℕ) → ℕ
 next_cost cost params s [] = 0
 next_cost cost params s (line ∷ rest) = line_cost cost params s.history line
+
+-- the rows that the next line commits
+abbrev pub next_rows : Params → State → List (List ℕ) → List Row
+next_rows params s [] = []
+next_rows params s (line ∷ rest) = rows_committed s (input params line)
 
 -- The next line, which has the number n, is a commit that is accepted.
 abbrev pub NextIsVersion : Params → ℕ → State → List (List ℕ) → Type 0
@@ -112,23 +118,24 @@ module _ {H D : Type 0} (g : Ghosts H D) where
     pub any_moment : whole ≡ true → OnlyBetween g params h t.state.history before (g.device new.house)
     pub settled : whole ≡ true → Settled g params h before → Settled g params t.state.history (g.device new.house)
 
-  -- From the history h the machine was to make this step, and the run ended in it. The history that is sure is that
+  -- From the history h the machine was to make this step, which commits these rows, and the run ended in it. The history that is sure is that
   -- before the step or that after it, and what a crash may leave lies between the sure one and that after it.
-  pub record Breaks (whole : Bool) (params : Params) (h : History) (t : Step) (cost : ℕ) (before : D) (ran : Ran D) : Type 0 where
+  pub record Breaks (whole : Bool) (params : Params) (h : History) (t : Step) (rows : List Row) (cost : ℕ) (before : D) (ran : Ran D) : Type 0 where
     pub sure : History
     pub begins : GoesOnFrom h sure
     pub within : GoesOnFrom sure t.state.history
     pub stands : (ran.ending ≡ DiskFault → ⊥) → g.stands whole ran.device params sure
     pub undamaged : (page : ℕ) → ran.ending ≡ Damaged page → ⊥
-    pub page_limit : (allotted : ℕ) → ran.ending ≡ PageLimit allotted → IsVersion t.reply × (sure ≡ h)
+    pub page_limit : (allotted : ℕ) → ran.ending ≡ PageLimit allotted
+        → IsVersion t.reply × (sure ≡ h) × (allotted ≡ params.pages) × g.lacks_pages ran.device params h rows
     pub reads : g.reads ran.device ≤ g.reads before + cost
     pub any_moment : whole ≡ true → OnlyBetween g params h t.state.history before ran.device
     pub settled : whole ≡ true → Settled g params h before → SettledBetween g params sure t.state.history ran.device
 
   -- The line is served, or the run ends in it.
-  abbrev pub ServesText : Bool → Params → History → Step → ℕ → D → List ℕ → List ℕ → Result (Desk H D g) (Ran D) → Type 0
-  ServesText whole params h t cost before gathered gathered' (Ok desk) = Serves whole params h t cost before desk gathered gathered'
-  ServesText whole params h t cost before gathered gathered' (Err ran) = Breaks whole params h t cost before ran
+  abbrev pub ServesText : Bool → Params → History → Step → List Row → ℕ → D → List ℕ → List ℕ → Result (Desk H D g) (Ran D) → Type 0
+  ServesText whole params h t rows cost before gathered gathered' (Ok desk) = Serves whole params h t cost before desk gathered gathered'
+  ServesText whole params h t rows cost before gathered gathered' (Err ran) = Breaks whole params h t rows cost before ran
 
   -- The next line, which has the number n, is taken off the input and served.
   pub record ServesLine (whole : Bool) (params : Params) (n : ℕ) (before after : List ℕ) (stopped : Option Line) (h : History) (old new : Desk H D g) (gathered gathered' : List ℕ) : Type 0 where
@@ -142,7 +149,7 @@ module _ {H D : Type 0} (g : Ghosts H D) where
     pub after : List ℕ
     pub stopped : Option Line
     pub takes : TakesLine before line after stopped
-    pub breaks : Breaks whole params h (step params n (state_at h old) line) (line_cost g.cost params h line) (g.device old.house) ran
+    pub breaks : Breaks whole params h (step params n (state_at h old) line) (rows_committed (state_at h old) (input params line)) (line_cost g.cost params h line) (g.device old.house) ran
 
   -- What is left when a run over an input ends. Some of its lines were served whole, and what was written are replies
   -- to them, from the first on. The history that is sure has all that these lines have committed; the device stands for it, unless
@@ -163,6 +170,7 @@ module _ {H D : Type 0} (g : Ghosts H D) where
     pub undamaged : (page : ℕ) → ran.ending ≡ Damaged page → ⊥
     pub page_limit : (allotted : ℕ) → ran.ending ≡ PageLimit allotted
         → NextIsVersion params (1 + length served) (state_after params 1 begin served) rest × (sure ≡ (state_after params 1 begin served).history)
+        × (allotted ≡ params.pages) × g.lacks_pages ran.device params sure (next_rows params (state_after params 1 begin served) rest)
     pub reads : g.reads ran.device ≤ g.reads before + (lines_cost g.cost params 1 begin served + next_cost g.cost params (state_after params 1 begin served) rest)
     pub reads_between : IsBetweenLines ran.ending → g.reads ran.device ≤ g.reads before + lines_cost g.cost params 1 begin served
     pub any_moment : whole ≡ true → OnlyBetween g params begin.history (state_after params 1 begin (lines input)).history before ran.device

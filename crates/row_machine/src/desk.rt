@@ -36,7 +36,7 @@ pub struct Taken<H: House> {
 
 impl<H: House> Desk<H> {
     ghost use Rattle.csv_rows.specs.Machine.{begun};
-    ghost use Rattle.row_machine.specs.Housed.{IsHouseEnding, MayTake, input_cost, device_left, Went, Stops, Leaves, KeepsParams, DiskCause};
+    ghost use Rattle.row_machine.specs.Housed.{IsHouseEnding, MayTake, rows_committed, input_cost, device_left, Went, Stops, Leaves, KeepsParams, DiskCause};
 
     /// The house, and nothing staged.
     pub fn new(alloc: Global, house: H) -> Desk<H>
@@ -77,7 +77,8 @@ impl<H: House> Desk<H> {
         ensures went { (whole : Bool) (h : History) → MayTake whole (input self.params line.now) → H.stands whole (H.device self.house) self.params h →
             Went ⟦<H as House>⟧ whole self.params (step self.params number (record { history = h; staged = self.sessions }) line.now) result }
         ensures stops { (whole : Bool) (h : History) → MayTake whole (input self.params line.now) → H.stands whole (H.device self.house) self.params h →
-            Stops ⟦<H as House>⟧ whole self.params h (step self.params number (record { history = h; staged = self.sessions }) line.now) result }
+            Stops ⟦<H as House>⟧ whole self.params h (step self.params number (record { history = h; staged = self.sessions }) line.now)
+            (rows_committed (record { history = h; staged = self.sessions }) (input self.params line.now)) result }
         ensures reads { (whole : Bool) (h : History) → H.stands whole (H.device self.house) self.params h →
             H.reads (device_left ⟦<H as House>⟧ result) ≤ H.reads (H.device self.house) + input_cost H.cost self.params h (input self.params line.now) }
         ensures leaves { (h : History) → H.stands true (H.device self.house) self.params h →
@@ -105,7 +106,8 @@ impl<H: House> Desk<H> {
         ensures went { (whole : Bool) (h : History) → MayTake whole (Some input.now) → H.stands whole (H.device self.house) self.params h →
             Went ⟦<H as House>⟧ whole self.params (input_step self.params number (record { history = h; staged = self.sessions }) input.now) result }
         ensures stops { (whole : Bool) (h : History) → MayTake whole (Some input.now) → H.stands whole (H.device self.house) self.params h →
-            Stops ⟦<H as House>⟧ whole self.params h (input_step self.params number (record { history = h; staged = self.sessions }) input.now) result }
+            Stops ⟦<H as House>⟧ whole self.params h (input_step self.params number (record { history = h; staged = self.sessions }) input.now)
+            (rows_committed (record { history = h; staged = self.sessions }) (Some input.now)) result }
         ensures reads { (whole : Bool) (h : History) → H.stands whole (H.device self.house) self.params h →
             H.reads (device_left ⟦<H as House>⟧ result) ≤ H.reads (H.device self.house) + input_cost H.cost self.params h (Some input.now) }
         ensures leaves { (h : History) → H.stands true (H.device self.house) self.params h →
@@ -131,7 +133,7 @@ impl<H: House> Desk<H> {
         ensures went { (whole : Bool) (h : History) → H.stands whole (H.device self.house) self.params h →
             Went ⟦<H as House>⟧ whole self.params (stage_step number (record { history = h; staged = self.sessions }) session row.now) result }
         ensures stops { (whole : Bool) (h : History) → H.stands whole (H.device self.house) self.params h →
-            Stops ⟦<H as House>⟧ whole self.params h (stage_step number (record { history = h; staged = self.sessions }) session row.now) result }
+            Stops ⟦<H as House>⟧ whole self.params h (stage_step number (record { history = h; staged = self.sessions }) session row.now) [] result }
         ensures reads { (whole : Bool) (h : History) → H.stands whole (H.device self.house) self.params h →
             H.reads (device_left ⟦<H as House>⟧ result) ≤ H.reads (H.device self.house) + 0 }
         ensures leaves { (h : History) → H.stands true (H.device self.house) self.params h →
@@ -159,7 +161,7 @@ impl<H: House> Desk<H> {
         ensures went { (whole : Bool) (h : History) → H.stands whole (H.device self.house) self.params h →
             Went ⟦<H as House>⟧ whole self.params (input_step self.params number (record { history = h; staged = self.sessions }) (Input.Forget session)) result }
         ensures stops { (whole : Bool) (h : History) → H.stands whole (H.device self.house) self.params h →
-            Stops ⟦<H as House>⟧ whole self.params h (input_step self.params number (record { history = h; staged = self.sessions }) (Input.Forget session)) result }
+            Stops ⟦<H as House>⟧ whole self.params h (input_step self.params number (record { history = h; staged = self.sessions }) (Input.Forget session)) [] result }
         ensures reads { (whole : Bool) (h : History) → H.stands whole (H.device self.house) self.params h →
             H.reads (device_left ⟦<H as House>⟧ result) ≤ H.reads (H.device self.house) + 0 }
         ensures leaves { (h : History) → H.stands true (H.device self.house) self.params h →
@@ -184,7 +186,8 @@ impl<H: House> Desk<H> {
         ensures went { (whole : Bool) (h : History) → whole ≡ true → H.stands whole (H.device self.house) self.params h →
             Went ⟦<H as House>⟧ whole self.params (commit_step (record { history = h; staged = self.sessions }) session (first_refusal self.params h (rows_of (record { history = h; staged = self.sessions }) session))) result }
         ensures stops { (whole : Bool) (h : History) → whole ≡ true → H.stands whole (H.device self.house) self.params h →
-            Stops ⟦<H as House>⟧ whole self.params h (commit_step (record { history = h; staged = self.sessions }) session (first_refusal self.params h (rows_of (record { history = h; staged = self.sessions }) session))) result }
+            Stops ⟦<H as House>⟧ whole self.params h (commit_step (record { history = h; staged = self.sessions }) session (first_refusal self.params h (rows_of (record { history = h; staged = self.sessions }) session)))
+            (rows_of (record { history = h; staged = self.sessions }) session) result }
         ensures reads { H.reads (device_left ⟦<H as House>⟧ result) ≤ H.reads (H.device self.house) + 0 }
         ensures leaves { (h : History) → H.stands true (H.device self.house) self.params h →
             Leaves ⟦<H as House>⟧ self.params h (commit_step (record { history = h; staged = self.sessions }) session (first_refusal self.params h (rows_of (record { history = h; staged = self.sessions }) session))).state.history (H.device self.house) result }
@@ -256,7 +259,7 @@ impl<H: House> Desk<H> {
         ensures went { (whole : Bool) (h : History) → H.stands whole (H.device self.house) self.params h →
             Went ⟦<H as House>⟧ whole self.params (ask_step self.params number (record { history = h; staged = self.sessions }) (unwrap_or version (last_version h)) query.now) result }
         ensures stops { (whole : Bool) (h : History) → H.stands whole (H.device self.house) self.params h →
-            Stops ⟦<H as House>⟧ whole self.params h (ask_step self.params number (record { history = h; staged = self.sessions }) (unwrap_or version (last_version h)) query.now) result }
+            Stops ⟦<H as House>⟧ whole self.params h (ask_step self.params number (record { history = h; staged = self.sessions }) (unwrap_or version (last_version h)) query.now) [] result }
         ensures reads { (whole : Bool) (h : History) → H.stands whole (H.device self.house) self.params h →
             H.reads (device_left ⟦<H as House>⟧ result) ≤ H.reads (H.device self.house) + input_cost H.cost self.params h (Some (Input.Ask version query.now)) }
         ensures leaves { (h : History) → H.stands true (H.device self.house) self.params h →

@@ -10,7 +10,7 @@ ghost use Rattle.csv_rows.specs.Machine.{step, replied};
 ghost use Rattle.csv_rows.specs.declared.lines.Line.TheVariants as answered;
 ghost use Rattle.row_machine.specs.Outbox.{gathered};
 ghost use Rattle.row_machine.specs.Runs.{WritesMore, WritesPart};
-ghost use Rattle.row_machine.specs.Housed.{IsHouseEnding, MayTake};
+ghost use Rattle.row_machine.specs.Housed.{IsHouseEnding, MayTake, rows_committed};
 ghost use Rattle.row_machine.specs.Serving.{BreaksOff, Ends, GoesOn, IsBetweenLines, IsFlushed, MayGoOn, MayServe, SeenEnd, ServesLine, ServesText, device_after, line_cost, state_at};
 
 use crate::desk::Desk;
@@ -55,7 +55,7 @@ fn serve_text<H: House>(
     ensures params { IfOk result (λ new. new.params ≡ desk.params) }
     ensures serves { (whole : Bool) (h : History) → MayTake whole (input desk.params line.now) → H.stands whole (H.device desk.house) desk.params h →
         ServesText ⟦<H as House>⟧ whole desk.params h (step desk.params number (state_at ⟦<H as House>⟧ h desk) line.now)
-        (line_cost H.cost desk.params h line.now) (H.device desk.house) (gathered outbox.old) (gathered outbox.new) result }
+        (rows_committed (state_at ⟦<H as House>⟧ h desk) (input desk.params line.now)) (line_cost H.cost desk.params h line.now) (H.device desk.house) (gathered outbox.old) (gathered outbox.new) result }
     ensures within { IfErr result (λ ran. IsHouseEnding ran.ending) }
     ensures unsaid { OnErr result (gathered outbox.new ≡ gathered outbox.old) }
     ensures faults { H.faults (H.device desk.house) ≤ H.faults (device_after ⟦<H as House>⟧ result) }
@@ -77,7 +77,7 @@ fn serve_long<H: House>(
     ensures params { IfOk result (λ new. new.params ≡ desk.params) }
     ensures serves { (whole : Bool) (h : History) (line : List ℕ) → longest_line < length line → H.stands whole (H.device desk.house) desk.params h →
         ServesText ⟦<H as House>⟧ whole desk.params h (step desk.params number (state_at ⟦<H as House>⟧ h desk) line)
-        (line_cost H.cost desk.params h line) (H.device desk.house) (gathered outbox.old) (gathered outbox.new) result }
+        (rows_committed (state_at ⟦<H as House>⟧ h desk) (input desk.params line)) (line_cost H.cost desk.params h line) (H.device desk.house) (gathered outbox.old) (gathered outbox.new) result }
     ensures within { IfErr result (λ ran. IsHouseEnding ran.ending) }
     ensures unsaid { OnErr result (gathered outbox.new ≡ gathered outbox.old) }
     ensures faults { H.faults (H.device desk.house) ≤ H.faults (device_after ⟦<H as House>⟧ result) }

@@ -45,6 +45,15 @@ module _ {H D : Type 0} where
   IfDone (Damaged house page) P = ⊤
   IfDone (Disk d) P = ⊤
 
+  -- the house and the number of pages, where there was no page to be had
+  abbrev pub IfPageLimit : Committed H D → (H → ℕ → Type 0) → Type 0
+  IfPageLimit (Done house version) P = ⊤
+  IfPageLimit (Refused house refusal) P = ⊤
+  IfPageLimit (PageLimit house allotted) P = P house allotted
+  IfPageLimit (NoMemory house) P = ⊤
+  IfPageLimit (Damaged house page) P = ⊤
+  IfPageLimit (Disk d) P = ⊤
+
   -- a house that comes back without a version
   abbrev pub IfKept : Committed H D → (H → Type 0) → Type 0
   IfKept (Done house version) P = ⊤

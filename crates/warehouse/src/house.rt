@@ -6,8 +6,9 @@ ghost use Rattle.bw_types.specs.History.{History, last_version};
 ghost use Rattle.bw_types.specs.Refusals.{first_refusal};
 ghost use Rattle.bw_types.specs.declared.params.Params.{Params};
 ghost use Rattle.bw_types.specs.declared.query.Query.{Query};
-ghost use Rattle.page_ports.specs.Pages.{Rose};
-ghost use Rattle.warehouse.specs.Committed.{Answers, IfDone, IfKept, IfDisk, IsCommitCause, after_commit, device_out, with_batch};
+ghost use Rattle.bw_types.specs.declared.row.Row.{Row};
+ghost use Rattle.counts.specs.Count.{Rose};
+ghost use Rattle.warehouse.specs.Committed.{Answers, IfDone, IfKept, IfDisk, IfPageLimit, IsCommitCause, after_commit, device_out, with_batch};
 ghost use Rattle.warehouse.specs.Crashes.{OnlyLeaves};
 
 use crate::committed::{Committed, QueryFault};
@@ -51,6 +52,10 @@ pub trait House: Drop {
     /// How often a page was read, and how often the device failed.
     ghost reads: { Self.Device → ℕ };
     ghost faults: { Self.Device → ℕ };
+
+    /// On a device that stands for the history a commit of these rows may find no page: the number of
+    /// pages that it may ask for passes the limit.
+    ghost lacks_pages: { Self.Device → Params → History → List Row → Type 0 };
 
     /// The most reads of a query on a history.
     ghost cost: { Params → History → Query → ℕ };
@@ -100,6 +105,8 @@ pub trait House: Drop {
             ((x : Image) → now (moments (device self)) x → keeps x (params self) h) →
             (x : Image) → now (moments (device_out device result)) x →
             keeps x (params self) h ⊎ keeps x (params self) (after_commit (first_refusal (params self) h rows.now) h rows.now) }
+        ensures page_limit { (h : History) → stands true (device self) (params self) h → IfPageLimit result (λ house allotted.
+            (allotted ≡ (params self).pages) × lacks_pages (device house) (params self) h rows.now) }
         ensures moments_kept { IfKept result (λ house. moments (device house) ≡ moments (device self)) }
 
         ensures reads { reads (device_out device result) ≤ reads (device self) }

@@ -181,6 +181,8 @@ impl House for ListHouse {
 
     ghost faults = { λ house. 0 };
 
+    ghost lacks_pages = { λ house params h rows. ⊥ };
+
     ghost cost = { λ params h query. 0 };
 
     fn params(&self) -> Params {
