@@ -5,3 +5,5 @@ pub mod Causes
 pub mod Parts
 pub mod Told
 pub mod Accepted
+pub mod Committed
+pub mod Crashes

@@ -8,7 +8,9 @@
 #![tactic(auto)]
 
 mod apply;
+mod committed;
 mod fault;
+mod house;
 mod integral;
 mod life;
 mod list_house;
@@ -20,5 +22,7 @@ mod seen;
 mod tests;
 mod totals;
 
+pub use committed::{Committed, QueryFault};
 pub use fault::{ListFault, NoVersion};
+pub use house::House;
 pub use list_house::ListHouse;

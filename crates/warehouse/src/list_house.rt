@@ -4,7 +4,7 @@ use crate::masses::mass_after;
 use crate::prepare::{flat, prepare};
 use crate::seen::SeenStates;
 use crate::totals::{count_total, integral_total, weight_total};
-use crate::{ListFault, NoVersion};
+use crate::{Committed, House, ListFault, NoVersion, QueryFault};
 use bw_types::{Change, Kind, Params, Query, Refusal, Row};
 use session_book::first_refusal;
 use std::alloc::Global;
@@ -148,5 +148,68 @@ impl ListHouse {
         enter_all(&mut self.lives, &mut self.states, &batch, version);
         let _ = self.batches.push(batch);
         Ok(version)
+    }
+}
+
+// What lasts of a house in memory is the house, of which a crash leaves nothing.
+impl House for ListHouse {
+    type Device = ListHouse;
+
+    ghost use Rattle.std.specs.Prelude.{◌≡◌, ⊤};
+
+    ghost Image = { ⊤ };
+
+    ghost Moments = { ⊤ };
+
+    ghost params = { λ house. house.params };
+
+    ghost device = { λ house. house };
+
+    ghost stands = { λ whole house params h. house.history ≡ h };
+
+    ghost moments = { λ house. tt };
+
+    ghost clock = { λ moments. 0 };
+
+    ghost now = { λ moments x. ⊥ };
+
+    ghost since = { λ moments t x. ⊥ };
+
+    ghost keeps = { λ x params h. ⊤ };
+
+    ghost reads = { λ house. 0 };
+
+    ghost faults = { λ house. 0 };
+
+    ghost lacks_pages = { λ house params h rows. ⊥ };
+
+    ghost cost = { λ params h query. 0 };
+
+    fn params(&self) -> Params {
+        self.params
+    }
+
+    fn last(&self) -> u32 {
+        ListHouse::last(self)
+    }
+
+    fn query(&mut self, query: &Query, version: u32) -> Result<i128, QueryFault> {
+        match ListHouse::query(self, query, version) {
+            Ok(value) => Ok(value),
+            Err(NoVersion { last }) => Err(QueryFault::NoVersion(last)),
+        }
+    }
+
+    fn commit(self, rows: &[Row]) -> Committed<ListHouse, ListHouse> {
+        let mut house = self;
+        match ListHouse::commit(&mut house, rows) {
+            Ok(version) => Committed::Done { house, version },
+            Err(ListFault::Refused(refusal)) => Committed::Refused { house, refusal },
+            Err(ListFault::NoMemory) => Committed::NoMemory { house },
+        }
+    }
+
+    fn into_device(self) -> ListHouse {
+        self
     }
 }

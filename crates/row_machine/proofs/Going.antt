@@ -1,0 +1,295 @@
+-- The invariant of the loop over lines.
+use Rattle.std.proofs.Common.{◌≡◌, ℕ, ◌+◌, ◌<◌, ◌≤◌, Bool, true, IsTrue, List, [], ◌++◌, length, ◌⊎◌, inl, inr, Option, None, Some, sym, ◌∙◌, ap, refl, arith, subst}
+use Rattle.std.proofs.lemmas.List.{append-nil}
+use Rattle.bw_types.specs.declared.params.Params.{Params}
+use Rattle.bw_types.specs.History.{History}
+use Rattle.bw_types.specs.Fits.{IsInRange}
+use Rattle.warehouse.specs.declared.house.House.{Ghosts}
+use Rattle.row_machine.specs.declared.desk.Desk.{Desk}
+use Rattle.csv_rows.specs.Reader.{ReaderState, to_come, unless_stopped}
+use Rattle.csv_rows.specs.declared.lines.Line.{Line}
+use Rattle.csv_rows.specs.declared.lines.Line.TheVariants.{End}
+use Rattle.row_machine.specs.declared.serving.TheConstants.{INPUT_LIMIT}
+use Rattle.row_machine.specs.Runs.{WritesMore, WritesPart}
+use Rattle.row_machine.specs.Serving.{TakesWhole, MayGoOn, MayServe, SeenEnd, GoesOn, ServesLine, IsBetweenLines, IsFlushed, IsInputEnding, BreaksOff, Ends, state_at}
+use Rattle.row_machine.specs.Housed.{IsHouseEnding}
+use Rattle.row_machine.specs.declared.ending.Ran.{Ran}
+use Rattle.row_machine.specs.declared.ending.Ending.{Ending}
+use Rattle.row_machine.specs.declared.ending.Ending.TheVariants.{Fine, ReadFault, WriteFault, NoMemory, InputLimit, DiskFault, Damaged, PageLimit}
+use Rattle.csv_rows.specs.Lines.{lines, PassesNoLineFeed}
+use Rattle.csv_rows.specs.Machine.{replies}
+use Rattle.row_machine.proofs.Lined.{not_both}
+use Rattle.row_machine.proofs.Parts.{more_twice, nothing_more, part_of_all}
+use Rattle.row_machine.proofs.Replies.{MayServe-later}
+use Rattle.row_machine.proofs.Served.{LineLaws, lines_split, served_whole}
+use Rattle.row_machine.proofs.Reached.{Reached, reached_nothing, reached_line}
+use Rattle.row_machine.proofs.EndsLaws.{Written, ends_between, ends_within}
+
+-- what is known of a port at a moment: whether it tells, its bytes and its faults
+pub record Port : Type 0 where
+  pub tells : Bool
+  pub bytes : List ℕ
+  pub faults : ℕ
+
+-- from one moment to the other the port did not fail, and still tells if it told
+pub record Calm (old new : Port) : Type 0 where
+  pub faults : new.faults ≡ old.faults
+  pub tells : IsTrue old.tells → IsTrue new.tells
+
+pub calm_twice : (a b c : Port) → Calm a b → Calm b c → Calm a c
+calm_twice a b c f g = record { faults = g.faults ∙ f.faults; tells = λ t. g.tells (f.tells t) }
+
+-- Between two lines: source and sink at entry and now, the replies that are gathered, the machine at entry and now, the reader
+-- and the next line's number.
+pub record Going {H D : Type 0} (g : Ghosts H D) (first now : Desk H D g) (source source' sink sink' : Port) (gathered : List ℕ) (reader : ReaderState) (number : ℕ) : Type 0 where
+  pub params : now.params ≡ first.params
+  pub range : IsInRange first.params
+  pub limit : reader.limit ≡ INPUT_LIMIT
+  pub taken : reader.taken ≤ reader.limit
+  pub number_small : number + length reader.pending ≤ reader.taken + 1
+  pub may_go_on : MayGoOn reader.stopped
+  pub seen_end : SeenEnd reader source.tells source'.bytes
+  pub source_calm : Calm source source'
+  pub sink_calm : Calm sink sink'
+  pub more : IsTrue sink.tells → WritesMore sink.bytes sink'.bytes
+  pub faults : g.faults (g.device first.house) ≤ g.faults (g.device now.house)
+  pub counts : IsTrue source.tells → reader.taken + length source'.bytes ≡ length source.bytes
+  pub reached : IsTrue source.tells → (whole : Bool) (h : History) → MayServe whole first.params (lines source.bytes) → g.stands whole (g.device first.house) first.params h
+      → Reached g whole sink.tells first.params h first now number source.bytes (to_come reader source'.bytes) reader.stopped sink.bytes (sink'.bytes ++ gathered)
+
+-- a reader that may go on has not stopped, or has stopped at the end
+pub going_or_ended : (stopped : Option Line) → MayGoOn stopped → (stopped ≡ None) ⊎ (stopped ≡ Some End)
+going_or_ended None m = inl refl
+going_or_ended (Some answer) m = inr (ap Some m)
+
+-- nothing is to come for a reader that has stopped
+pub nothing_to_come : (reader : ReaderState) (left : List ℕ) → reader.stopped ≡ Some End → to_come reader left ≡ []
+nothing_to_come reader left e = stopped_at reader.stopped e
+  where
+    stopped_at : (s : Option Line) → s ≡ Some End → unless_stopped s (reader.pending ++ left) ≡ []
+    stopped_at s f = rw f refl
+
+-- the end is seen as before, or it is seen now
+seen_after : (source source' source'' : Port) (reader reader' : ReaderState) → MayGoOn reader.stopped → Calm source source' → SeenEnd reader source.tells source'.bytes
+    → (reader.stopped ≡ None → SeenEnd reader' source'.tells source''.bytes)
+    → (reader.stopped ≡ Some End → (reader' ≡ reader) × (source''.bytes ≡ source'.bytes))
+    → SeenEnd reader' source.tells source''.bytes
+seen_after source source' source'' reader reader' may calm seen now stays = elim (going_or_ended reader.stopped may) [
+  | inl open_ ↦ (λ e. ((now open_ e).0, λ told. (now open_ e).1 (calm.tells told)))
+  | inr ended ↦ (λ e. ((rw ((stays ended).0) (seen ended).0), λ told. (stays ended).1 ∙ (seen ended).1 told))
+]
+
+-- what was gathered is put, or stays gathered
+pub going_put : {H D : Type 0} (g : Ghosts H D) (first now : Desk H D g) (source source' sink sink' sink'' : Port) (gathered gathered' : List ℕ) (reader : ReaderState) (number : ℕ)
+    → Going g first now source source' sink sink' gathered reader number
+    → Calm sink' sink'' → (IsTrue sink'.tells → WritesMore sink'.bytes sink''.bytes) → (IsTrue sink'.tells → sink''.bytes ++ gathered' ≡ sink'.bytes ++ gathered)
+    → Going g first now source source' sink sink'' gathered' reader number
+going_put g first now source source' sink sink' sink'' gathered gathered' reader number o calm more same = record {
+  params = o.params;
+  range = o.range;
+  limit = o.limit;
+  taken = o.taken;
+  number_small = o.number_small;
+  may_go_on = o.may_go_on;
+  seen_end = o.seen_end;
+  source_calm = o.source_calm;
+  sink_calm = calm_twice sink sink' sink'' o.sink_calm calm;
+  more = λ told. more_twice sink.bytes sink'.bytes sink''.bytes (o.more told) (more (o.sink_calm.tells told));
+  faults = o.faults;
+  counts = o.counts;
+  reached = λ told whole h may stands. virtual_same (o.reached told whole h may stands);
+}
+  where
+    virtual_same : {whole : Bool} {h : History}
+        → Reached g whole sink.tells first.params h first now number source.bytes (to_come reader source'.bytes) reader.stopped sink.bytes (sink'.bytes ++ gathered)
+        → Reached g whole sink.tells first.params h first now number source.bytes (to_come reader source'.bytes) reader.stopped sink.bytes (sink''.bytes ++ gathered')
+    virtual_same r = record {
+      state = r.state;
+      at = r.at;
+      served = record {
+          given = r.served.given;
+          cut = r.served.cut;
+          ends = r.served.ends;
+          nothing = r.served.nothing;
+          number = r.served.number;
+          state = r.served.state;
+          wrote = λ told. same (o.sink_calm.tells told) ∙ r.served.wrote told;
+      };
+      goes = r.goes;
+      reads = r.reads;
+      any_moment = r.any_moment;
+      settled = r.settled;
+    }
+
+-- the lines to come may be served
+coming_may : {H D : Type 0} (g : Ghosts H D) (laws : LineLaws) (whole tells : Bool) (params : Params) (h : History) (first now : Desk H D g) (n : ℕ) (input come : List ℕ) (stopped : Option Line) (before virtual : List ℕ)
+    → Reached g whole tells params h first now n input come stopped before virtual → MayServe whole params (lines input) → MayServe whole params (lines come)
+coming_may g laws whole tells params h first now n input come stopped before virtual r may =
+    MayServe-later whole params (lines r.served.given) (lines come)
+    (subst (λ (ls : List (List ℕ)). MayServe whole params ls)
+    (lines_split laws tells params (state_at g h first) r.state n input come stopped before virtual r.served) may)
+
+-- one line more
+pub going_on : {H D : Type 0} (g : Ghosts H D) (laws : LineLaws) (first now now' : Desk H D g) (source source' source'' sink sink' : Port) (gathered gathered' : List ℕ) (reader reader' : ReaderState) (number : ℕ)
+    → Going g first now source source' sink sink' gathered reader number
+    → now'.params ≡ now.params → reader'.limit ≡ reader.limit → GoesOn reader reader' → Calm source' source''
+    → g.faults (g.device now.house) ≤ g.faults (g.device now'.house)
+    → (reader.stopped ≡ None → SeenEnd reader' source'.tells source''.bytes)
+    → (reader.stopped ≡ Some End → (reader' ≡ reader) × (source''.bytes ≡ source'.bytes))
+    → (IsTrue source'.tells → IsTrue source''.tells → reader'.taken + length source''.bytes ≡ reader.taken + length source'.bytes)
+    → (IsTrue source'.tells → (whole : Bool) (h : History) → MayServe whole now.params (lines (to_come reader source'.bytes)) → g.stands whole (g.device now.house) now.params h
+    → ServesLine g whole now.params number (to_come reader source'.bytes) (to_come reader' source''.bytes) reader'.stopped h now now' gathered gathered')
+    → Going g first now' source source'' sink sink' gathered' reader' (number + 1)
+going_on g laws first now now' source source' source'' sink sink' gathered gathered' reader reader' number o params limit goes calm faults seen stays counts serves = record {
+  params = params ∙ o.params;
+  range = o.range;
+  limit = limit ∙ o.limit;
+  taken = goes.taken;
+  number_small = omega (arith, o.number_small, goes.used);
+  may_go_on = goes.stopped;
+  seen_end = seen_after source source' source'' reader reader' o.may_go_on o.source_calm o.seen_end seen stays;
+  source_calm = calm_twice source source' source'' o.source_calm calm;
+  sink_calm = o.sink_calm;
+  more = o.more;
+  faults = omega (arith, o.faults, faults);
+  counts = λ told. counts (o.source_calm.tells told) (calm.tells (o.source_calm.tells told)) ∙ o.counts told;
+  reached = λ told whole h may stands.
+      let r = o.reached told whole h may stands in
+      let may' : MayServe whole first.params (lines (to_come reader source'.bytes)) =
+          coming_may g laws whole sink.tells first.params h first now number source.bytes (to_come reader source'.bytes) reader.stopped sink.bytes (sink'.bytes ++ gathered) r may in
+      reached_line g laws whole sink.tells first.params h first now now' number source.bytes (to_come reader source'.bytes) (to_come reader' source''.bytes) reader.stopped reader'.stopped sink.bytes sink'.bytes gathered gathered'
+      r (nothing_to_come reader' source''.bytes)
+      (subst (λ (p : Params). ServesLine g whole p number (to_come reader source'.bytes) (to_come reader' source''.bytes) reader'.stopped r.state.history now now' gathered gathered') o.params
+      (serves (o.source_calm.tells told) whole r.state.history
+      (subst (λ (p : Params). MayServe whole p (lines (to_come reader source'.bytes))) (sym o.params) may')
+      (subst (λ (p : Params). g.stands whole (g.device now.house) p r.state.history) (sym o.params) r.at.stands)));
+}
+
+-- before the first line
+pub going_first : {H D : Type 0} (g : Ghosts H D) (first : Desk H D g) (source sink : Port) (gathered : List ℕ) (reader : ReaderState) → IsInRange first.params
+    → reader ≡ record { text = []; pending = []; taken = 0; limit = INPUT_LIMIT; stopped = None } → gathered ≡ []
+    → Going g first first source source sink sink gathered reader 1
+going_first g first source sink gathered reader range e none = subst (λ (r : ReaderState). Going g first first source source sink sink gathered r 1) (sym e) (record {
+  params = refl;
+  range = range;
+  limit = refl;
+  taken = omega arith;
+  number_small = omega arith;
+  may_go_on = tt;
+  seen_end = λ f. absurd cc;
+  source_calm = record { faults = refl; tells = λ t. t };
+  sink_calm = record { faults = refl; tells = λ t. t };
+  more = λ told. nothing_more sink.bytes sink.bytes refl;
+  faults = omega arith;
+  counts = λ told. omega arith;
+  reached = λ told whole h may stands. subst (λ (b : List ℕ). Reached g whole sink.tells first.params h first first 1 source.bytes source.bytes None sink.bytes b)
+      (sym (append-nil sink.bytes) ∙ ap (λ (t : List ℕ). sink.bytes ++ t) (sym none))
+      (reached_nothing g whole sink.tells first.params h first source.bytes sink.bytes stands);
+})
+
+-- What was written when the run ends, of the replies that were written before and those that were gathered.
+written_so : {H D : Type 0} (g : Ghosts H D) (whole : Bool) (params : Params) (h : History) (first now : Desk H D g) (n : ℕ) (input come left : List ℕ) (stopped : Option Line) (sink sink' : Port) (gathered : List ℕ) (tells' still : Bool) (written' : List ℕ) (ending : Ending)
+    → (r : Reached g whole sink.tells params h first now n input come stopped sink.bytes (sink'.bytes ++ gathered)) → (IsTrue sink.tells → IsTrue sink'.tells)
+    → (IsTrue sink.tells → WritesMore sink.bytes sink'.bytes)
+    → (IsInputEnding ending → IsTrue still → TakesWhole input left (lines r.served.given))
+    → (IsTrue sink'.tells → IsTrue tells' → WritesPart sink'.bytes written' gathered)
+    → (IsFlushed ending → IsTrue sink'.tells → written' ≡ sink'.bytes ++ gathered)
+    → Written sink.tells tells' still ending params (state_at g h first) input left (lines r.served.given) sink.bytes written'
+written_so g whole params h first now n input come left stopped sink sink' gathered tells' still written' ending r told more taken part flushed = record {
+  taken = taken;
+  wrote = λ t still. part_of_all sink.bytes sink'.bytes written' gathered (replies params 1 (state_at g h first) (lines r.served.given)) (more t) (r.served.wrote t) (part (told t) still);
+  flushed = λ f t still. flushed f (told t) ∙ r.served.wrote t;
+}
+
+-- the sink fails, between two lines
+pub going_stops : {H D : Type 0} (g : Ghosts H D) (laws : LineLaws) (first now : Desk H D g) (source source' sink sink' : Port) (gathered : List ℕ) (reader : ReaderState) (number : ℕ) (tells' : Bool) (written' : List ℕ) (ran : Ran D)
+    → Going g first now source source' sink sink' gathered reader number
+    → ran.ending ≡ WriteFault → ran.device ≡ g.device now.house → (IsTrue sink'.tells → IsTrue tells' → WritesPart sink'.bytes written' gathered)
+    → IsTrue source.tells → (whole : Bool) (h : History) → MayServe whole first.params (lines source.bytes) → g.stands whole (g.device first.house) first.params h
+    → Ends g whole sink.tells tells' source'.tells first.params (state_at g h first) source.bytes source'.bytes (g.device first.house) ran sink.bytes written'
+going_stops g laws first now source source' sink sink' gathered reader number tells' written' ran o why device part told whole h may stands =
+    let r = o.reached told whole h may stands in
+    ends_between g laws whole sink.tells tells' source'.tells first.params h first now number source.bytes (to_come reader source'.bytes) source'.bytes reader.stopped sink.bytes (sink'.bytes ++ gathered) written' ran r
+    device (λ f. absurd (let no : WriteFault ≡ Fine = sym why ∙ f in cc)) (λ w. subst (λ (s : Ending). IsHouseEnding s) why w)
+    (written_so g whole first.params h first now number source.bytes (to_come reader source'.bytes) source'.bytes reader.stopped sink sink' gathered tells' source'.tells written' ran.ending r o.sink_calm.tells o.more
+    (λ i. absurd (subst (λ (s : Ending). IsInputEnding s) why i)) part (λ f. absurd (subst (λ (s : Ending). IsFlushed s) why f)))
+
+-- what closing a run does to its ending
+pub record Closes {D : Type 0} (ended ran : Ran D) : Type 0 where
+  pub device : ran.device ≡ ended.device
+  pub ending : (ran.ending ≡ ended.ending) ⊎ ((ran.ending ≡ WriteFault) × (ended.ending ≡ DiskFault → ⊥))
+
+closes_same : {D : Type 0} (ended ran : Ran D) → Closes ended ran → (s : Ending) → (WriteFault ≡ s → ⊥) → ran.ending ≡ s → ended.ending ≡ s
+closes_same ended ran c s other e = elim c.ending [
+  | inl same ↦ sym same ∙ e
+  | inr wrote ↦ absurd (other (sym wrote.0 ∙ e))
+]
+
+ended_by_input : {D : Type 0} (ended ran : Ran D) → Closes ended ran → IsInputEnding ran.ending → IsInputEnding ended.ending
+ended_by_input ended ran c i = elim c.ending [
+  | inl same ↦ subst (λ (s : Ending). IsInputEnding s) same i
+  | inr wrote ↦ absurd (subst (λ (s : Ending). IsInputEnding s) wrote.0 i)
+]
+
+house_both : {D : Type 0} (ended ran : Ran D) → Closes ended ran → IsHouseEnding ran.ending → IsHouseEnding ended.ending
+house_both ended ran c w = elim c.ending [
+  | inl same ↦ subst (λ (s : Ending). IsHouseEnding s) same w
+  | inr wrote ↦ absurd (subst (λ (s : Ending). IsHouseEnding s) wrote.0 w)
+]
+
+between_both : {D : Type 0} (ended ran : Ran D) → Closes ended ran → IsHouseEnding ended.ending → IsBetweenLines ran.ending → ⊥
+between_both ended ran c w b = elim c.ending [
+  | inl same ↦ not_both ended.ending w (subst (λ (s : Ending). IsBetweenLines s) same b)
+  | inr wrote ↦ subst (λ (s : Ending). IsBetweenLines s) wrote.0 b
+]
+
+disk_stays : {D : Type 0} (ended ran : Ran D) → Closes ended ran → ended.ending ≡ DiskFault → ran.ending ≡ DiskFault
+disk_stays ended ran c e = elim c.ending [ inl same ↦ same ∙ e | inr wrote ↦ absurd (wrote.1 e) ]
+
+-- the run ends between two lines or in one, and the replies that are gathered are put
+pub going_ends : {H D : Type 0} (g : Ghosts H D) (laws : LineLaws) (first now : Desk H D g) (source source' source'' sink sink' : Port) (gathered : List ℕ) (reader reader' : ReaderState) (number : ℕ) (tells' : Bool) (written' : List ℕ) (ended ran : Ran D)
+    → Going g first now source source' sink sink' gathered reader number
+    → Closes ended ran
+    → (IsBetweenLines ended.ending ⊎ IsHouseEnding ended.ending)
+    → (IsBetweenLines ended.ending → ended.device ≡ g.device now.house)
+    → (ended.ending ≡ Fine → IsTrue source'.tells → to_come reader source'.bytes ≡ [])
+    → (IsInputEnding ended.ending → IsTrue source'.tells → IsTrue source''.tells → (reader.stopped ≡ None) × PassesNoLineFeed (to_come reader source'.bytes) source''.bytes)
+    → (IsHouseEnding ended.ending → IsTrue source'.tells → (whole : Bool) (h : History) → MayServe whole now.params (lines (to_come reader source'.bytes)) → g.stands whole (g.device now.house) now.params h
+    → BreaksOff g whole now.params number (to_come reader source'.bytes) h now ended)
+    → (IsTrue sink'.tells → IsTrue tells' → WritesPart sink'.bytes written' gathered)
+    → (IsFlushed ran.ending → IsTrue sink'.tells → written' ≡ sink'.bytes ++ gathered)
+    → IsTrue source.tells → (whole : Bool) (h : History) → MayServe whole first.params (lines source.bytes) → g.stands whole (g.device first.house) first.params h
+    → Ends g whole sink.tells tells' source''.tells first.params (state_at g h first) source.bytes source''.bytes (g.device first.house) ran sink.bytes written'
+going_ends g laws first now source source' source'' sink sink' gathered reader reader' number tells' written' ended ran o closes why between fine input breaks part flushed told whole h may stands =
+    let r = o.reached told whole h may stands in
+    let told' = o.source_calm.tells told in
+    let written = written_so g whole first.params h first now number source.bytes (to_come reader source'.bytes) source''.bytes reader.stopped sink sink' gathered tells' source''.tells written' ran.ending r o.sink_calm.tells o.more
+        (λ i still.
+        let p = input (ended_by_input ended ran closes i) told' still in
+        served_whole laws sink.tells first.params (state_at g h first) r.state number source.bytes (to_come reader source'.bytes) source''.bytes reader.stopped sink.bytes (sink'.bytes ++ gathered) r.served p.0 p.1)
+        part flushed in
+    elim why [
+      | inl b ↦ ends_between g laws whole sink.tells tells' source''.tells first.params h first now number source.bytes (to_come reader source'.bytes) source''.bytes reader.stopped sink.bytes (sink'.bytes ++ gathered) written' ran r
+          (closes.device ∙ between b) (λ f. fine (closes_same ended ran closes Fine (λ e. cc) f) told')
+          (λ w. not_both ended.ending (house_both ended ran closes w) b) written
+      | inr w ↦ ends_within g laws whole sink.tells tells' source''.tells first.params h first now number source.bytes (to_come reader source'.bytes) source''.bytes reader.stopped sink.bytes (sink'.bytes ++ gathered) written' ran ended r
+          (subst (λ (p : Params). BreaksOff g whole p number (to_come reader source'.bytes) r.state.history now ended) o.params
+          (breaks w told' whole r.state.history
+          (subst (λ (p : Params). MayServe whole p (lines (to_come reader source'.bytes))) (sym o.params)
+          (coming_may g laws whole sink.tells first.params h first now number source.bytes (to_come reader source'.bytes) reader.stopped sink.bytes (sink'.bytes ++ gathered) r may))
+          (subst (λ (p : Params). g.stands whole (g.device now.house) p r.state.history) (sym o.params) r.at.stands)))
+          closes.device (λ e. closes_same ended ran closes DiskFault (λ f. cc) e) (λ e. disk_stays ended ran closes e)
+          (λ b. between_both ended ran closes w b)
+          (λ page e. closes_same ended ran closes (Damaged page) (λ f. cc) e) (λ allotted e. closes_same ended ran closes (PageLimit allotted) (λ f. cc) e) written
+    ]
+
+-- what is known at each of the two endings by the input is known at both
+pub input_passes : {P Q : Type 0} (ending : Ending) → (ending ≡ ReadFault → P → Q) → ((taken : ℕ) → ending ≡ InputLimit taken → P → Q) → IsInputEnding ending → P → Q
+input_passes ReadFault f l i = f refl
+input_passes (InputLimit taken) f l i = l taken refl
+input_passes Fine f l i = absurd i
+input_passes WriteFault f l i = absurd i
+input_passes NoMemory f l i = absurd i
+input_passes DiskFault f l i = absurd i
+input_passes (Damaged page) f l i = absurd i
+input_passes (PageLimit allotted) f l i = absurd i

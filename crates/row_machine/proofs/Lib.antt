@@ -1,0 +1,11 @@
+pub mod EndsLaws
+pub mod Going
+pub mod Housing
+pub mod Lined
+pub mod Long
+pub mod Parts
+pub mod Reached
+pub mod Replies
+pub mod Served
+pub mod Serviced
+pub mod Staged

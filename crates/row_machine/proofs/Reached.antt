@@ -1,0 +1,91 @@
+-- How far a run has come between two lines.
+use Rattle.std.proofs.Common.{◌≡◌, ℕ, ◌+◌, ◌≤◌, Bool, true, IsTrue, List, [], ◌∷◌, ◌++◌, length, Option, None, Some, refl, sym, ◌∙◌, ap, subst, append_assoc, arith, add-zero}
+use Rattle.bw_types.specs.History.{History}
+use Rattle.bw_types.specs.declared.params.Params.{Params}
+use Rattle.csv_rows.specs.Lines.{lines}
+use Rattle.csv_rows.specs.declared.lines.Line.{Line}
+use Rattle.csv_rows.specs.declared.lines.Line.TheVariants.{End}
+use Rattle.csv_rows.specs.Machine.{State, step, replied, replies, state_after}
+use Rattle.warehouse.specs.declared.house.House.{Ghosts}
+use Rattle.row_machine.specs.declared.desk.Desk.{Desk}
+use Rattle.row_machine.specs.Housed.{GoesOnFrom, IsAt, Settled, OnlyBetween}
+use Rattle.row_machine.specs.Serving.{state_at, Serves, ServesLine, MayServe, line_cost, lines_cost}
+use Rattle.row_machine.proofs.Replies.{state_after-append, lines_cost-append}
+use Rattle.row_machine.proofs.Housing.{goes_on_same, goes_on_twice, step_goes_on, only_same, only_twice}
+use Rattle.row_machine.proofs.Served.{Served, OneLine, LineLaws, served_nothing, served_line, lines_split}
+
+module _ {H D : Type 0} (g : Ghosts H D) where
+  -- From the history h of the first desk some lines were served, which left the desk now. The replies to them are those
+  -- that were written and those that are gathered.
+  pub record Reached (whole tells : Bool) (params : Params) (h : History) (first now : Desk H D g) (n : ℕ) (input come : List ℕ) (stopped : Option Line) (before replied_so_far : List ℕ) : Type 0 where
+    pub state : State
+    pub at : IsAt g whole params state now
+    pub served : Served tells params (state_at g h first) state n input come stopped before replied_so_far
+    pub goes : GoesOnFrom h state.history
+    pub reads : g.reads (g.device now.house) ≤ g.reads (g.device first.house) + lines_cost g.cost params 1 (state_at g h first) (lines served.given)
+    pub any_moment : whole ≡ true → OnlyBetween g params h state.history (g.device first.house) (g.device now.house)
+    pub settled : whole ≡ true → Settled g params h (g.device first.house) → Settled g params state.history (g.device now.house)
+
+  pub reached_nothing : (whole tells : Bool) (params : Params) (h : History) (first : Desk H D g) (input before : List ℕ) → g.stands whole (g.device first.house) params h
+      → Reached whole tells params h first first 1 input input None before before
+  reached_nothing whole tells params h first input before stands = record {
+    state = state_at g h first;
+    at = record { stands = stands; staged = refl };
+    served = served_nothing tells params (state_at g h first) input before;
+    goes = goes_on_same h;
+    reads = omega arith;
+    any_moment = λ e. only_same g params h h _ _ refl;
+    settled = λ e s. s;
+  }
+
+  -- the desk's state is what the machine has
+  pub state_is : (state : State) (desk : Desk H D g) → desk.sessions ≡ state.staged → state_at g state.history desk ≡ state
+  state_is state desk e = ap (λ (st : _). let s : State = record { history = state.history; staged = st } in s) e
+
+  -- what was read for the lines so far, and for one line more
+  reads_more : (params : Params) (first now : State) (n : ℕ) (given : List (List ℕ)) (line : List ℕ) (before after entry : ℕ)
+      → n ≡ 1 + length given → now ≡ state_after params 1 first given
+      → before ≤ entry + lines_cost g.cost params 1 first given → after ≤ before + line_cost g.cost params now.history line
+      → after ≤ entry + lines_cost g.cost params 1 first (given ++ line ∷ [])
+  reads_more params first now n given line before after entry number state so_far more =
+      let one : lines_cost g.cost params (1 + length given) (state_after params 1 first given) (line ∷ []) ≡ line_cost g.cost params (state_after params 1 first given).history line + 0 = refl in
+      let same : line_cost g.cost params now.history line ≡ line_cost g.cost params (state_after params 1 first given).history line =
+          ap (λ (s : State). line_cost g.cost params s.history line) state in
+      let split = lines_cost-append g.cost params 1 first given (line ∷ []) in
+      omega (arith, one, same, split, so_far, more)
+
+  -- one line more
+  pub reached_line : (laws : LineLaws) (whole tells : Bool) (params : Params) (h : History) (first now new : Desk H D g) (n : ℕ) (input come come' : List ℕ) (stopped stopped' : Option Line) (before written gathered gathered' : List ℕ)
+      → (reached : Reached whole tells params h first now n input come stopped before (written ++ gathered))
+      → (stopped' ≡ Some End → come' ≡ [])
+      → ServesLine g whole params n come come' stopped' reached.state.history now new gathered gathered'
+      → Reached whole tells params h first new (n + 1) input come' stopped' before (written ++ gathered')
+  reached_line laws whole tells params h first now new n input come come' stopped stopped' before written gathered gathered' r nothing l =
+      let line = l.line in
+      let same : state_at g r.state.history now ≡ r.state = state_is r.state now r.at.staged in
+      let serves : Serves g whole params r.state.history (step params n r.state line) (line_cost g.cost params r.state.history line) (g.device now.house) new gathered gathered' =
+      subst (λ (s : State). Serves g whole params r.state.history (step params n s line) (line_cost g.cost params r.state.history line) (g.device now.house) new gathered gathered') same l.serves in
+      let goes : GoesOnFrom r.state.history (step params n r.state line).state.history = step_goes_on params n r.state line in
+      let one : OneLine tells params n come come' stopped' r.state (step params n r.state line).state (written ++ gathered) (written ++ gathered') =
+      record { line = line; takes = l.takes; state = refl;
+      wrote = λ t. ap (λ (b : List ℕ). written ++ b) serves.replies ∙ sym (append_assoc written gathered (replied (step params n r.state line).reply)) } in
+      let served = served_line laws tells params (state_at g h first) r.state (step params n r.state line).state n input come come' stopped stopped' before
+      (written ++ gathered) (written ++ gathered') r.served nothing one in
+      record {
+        state = (step params n r.state line).state;
+        at = serves.at;
+        served = served.0;
+        goes = goes_on_twice _ _ _ r.goes goes;
+        reads = subst (λ (ls : List (List ℕ)). g.reads (g.device new.house) ≤ g.reads (g.device first.house) + lines_cost g.cost params 1 (state_at g h first) ls) (sym served.1)
+            (reads_more params (state_at g h first) r.state n (lines r.served.given) line _ _ _ r.served.number r.served.state r.reads serves.reads);
+        any_moment = λ e. only_twice g params _ _ _ _ _ _ r.goes goes (r.any_moment e) (serves.any_moment e);
+        settled = λ e s. serves.settled e (r.settled e s);
+      }
+
+  -- the history after all lines goes on from that of now
+  pub to_all : (laws : LineLaws) (tells : Bool) (params : Params) (first now : State) (n : ℕ) (input come : List ℕ) (stopped : Option Line) (before written : List ℕ) → (served : Served tells params first now n input come stopped before written)
+      → (state_after params 1 first (lines input)) ≡ state_after params (1 + length (lines served.given)) now (lines come)
+  to_all laws tells params first now n input come stopped before written served =
+      ap (state_after params 1 first) (lines_split laws tells params first now n input come stopped before written served)
+      ∙ (state_after-append params 1 first (lines served.given) (lines come)
+      ∙ ap (λ (s : State). state_after params (1 + length (lines served.given)) s (lines come)) (sym served.state))

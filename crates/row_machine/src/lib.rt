@@ -1,0 +1,15 @@
+//! The machine of rows and replies, over any house.
+//!
+//! A [`Desk`] is a house that keeps a history, and what the sixteen sessions have staged. It takes one
+//! line at a time, as one step, and [`serve`] takes a whole input: after every end, an early one too,
+//! what was written, which history is there, and what a crash may leave of it are said.
+#![tactic(auto)]
+
+mod desk;
+mod ending;
+mod outbox;
+mod serving;
+
+pub use desk::{Desk, Taken};
+pub use ending::{Ending, Ran};
+pub use serving::{INPUT_LIMIT, serve};

@@ -1,0 +1,119 @@
+//! A house: it keeps a history, on a device or in memory.
+ghost use Rattle.std.specs.Prelude.{◌≡◌, ◌⊎◌, ◌+◌, ◌≤◌, ℕ, Bool, true, List, length, Ok, Err, IsTrue, IfOk, MatchResult};
+ghost use Rattle.std.specs.List.{list_all};
+ghost use Rattle.bw_types.specs.Fits.{IsInRange, row_fits, query_fits};
+ghost use Rattle.bw_types.specs.History.{History, last_version};
+ghost use Rattle.bw_types.specs.Refusals.{first_refusal};
+ghost use Rattle.bw_types.specs.declared.params.Params.{Params};
+ghost use Rattle.bw_types.specs.declared.query.Query.{Query};
+ghost use Rattle.bw_types.specs.declared.row.Row.{Row};
+ghost use Rattle.counts.specs.Count.{Rose};
+ghost use Rattle.warehouse.specs.Committed.{Answers, IfDone, IfKept, IfDisk, IfPageLimit, IsCommitCause, after_commit, device_out, with_batch};
+ghost use Rattle.warehouse.specs.Crashes.{OnlyLeaves};
+
+use crate::committed::{Committed, QueryFault};
+use bw_types::{Params, Query, Row};
+
+/// Keeps a history, answers queries on it and takes batches.
+///
+/// What is kept lies on a device, which goes in by value and comes back at every end. What a crash may
+/// leave of it is told by its moments.
+pub trait House: Drop {
+    /// What lasts when the house is gone.
+    type Device;
+
+    /// What a crash leaves.
+    ghost Image: { Type 0 };
+
+    /// What is known of all crashes since the device began.
+    ghost Moments: { Type 0 };
+
+    ghost params: { Self → Params };
+
+    ghost device: { Self → Self.Device };
+
+    /// The device stands for this history: whole, or (false) as far as queries read.
+    ghost stands: { Bool → Self.Device → Params → History → Type 0 };
+
+    ghost moments: { Self.Device → Moments };
+
+    /// The clock never falls, and rises wherever a call changes what a crash may leave.
+    ghost clock: { Moments → ℕ };
+
+    /// A crash now may leave this image.
+    ghost now: { Moments → Image → Type 0 };
+
+    /// A crash at some moment since the clock stood there may have left this image.
+    ghost since: { Moments → ℕ → Image → Type 0 };
+
+    /// The image holds this history.
+    ghost keeps: { Image → Params → History → Type 0 };
+
+    /// How often a page was read, and how often the device failed.
+    ghost reads: { Self.Device → ℕ };
+    ghost faults: { Self.Device → ℕ };
+
+    /// On a device that stands for the history a commit of these rows may find no page: the number of
+    /// pages that it may ask for passes the limit.
+    ghost lacks_pages: { Self.Device → Params → History → List Row → Type 0 };
+
+    /// The most reads of a query on a history.
+    ghost cost: { Params → History → Query → ℕ };
+
+    fn params(&self) -> Params
+        ensures value { result ≡ params self.now }
+        ensures range { IsInRange result };
+
+    /// The number of the last version.
+    fn last(&self) -> u32
+        ensures { (whole : Bool) (h : History) → stands whole (device self.now) (params self.now) h → result ≡ last_version h };
+
+    /// What the query answers at the version. It takes no memory, and changes neither history nor image.
+    fn query(&mut self, query: &Query, version: u32) -> Result<i128, QueryFault>
+        requires { IsTrue (query_fits (params self.old) query.now) }
+        ensures answers { (whole : Bool) (h : History) → stands whole (device self.old) (params self.old) h →
+            Answers (params self.old) h version query.now result }
+        ensures stands { (whole : Bool) (h : History) → stands whole (device self.old) (params self.old) h →
+            stands whole (device self.new) (params self.old) h }
+        ensures moments { moments (device self.new) ≡ moments (device self.old) }
+        ensures params { params self.new ≡ params self.old }
+        ensures disk { result ≡ Err QueryFault.Disk → Rose (faults (device self.old)) (faults (device self.new)) }
+        ensures faults { faults (device self.old) ≤ faults (device self.new) }
+        ensures reads { (whole : Bool) (h : History) → stands whole (device self.old) (params self.old) h →
+            reads (device self.new) ≤ reads (device self.old) + cost (params self.old) h query.now }
+        ensures no_reads { (last : ℕ) → result ≡ Err (QueryFault.NoVersion last) → reads (device self.new) ≡ reads (device self.old) };
+
+    /// Puts the batch of rows last in the history, or gives its first refusal.
+    fn commit(self, rows: &[Row]) -> Committed<Self, Self::Device>
+        requires fit { IsTrue (list_all (row_fits (params self)) rows.now) }
+        requires most { length rows.now ≤ 4096 }
+        ensures cause { (h : History) → stands true (device self) (params self) h →
+            IsCommitCause (first_refusal (params self) h rows.now) result }
+        ensures done { (h : History) → stands true (device self) (params self) h → IfDone result (λ house version.
+            (version ≡ last_version h + 1) × stands true (device house) (params self) (with_batch h rows.now)) }
+        ensures kept { (whole : Bool) (h : History) → stands whole (device self) (params self) h → IfKept result (λ house.
+            stands whole (device house) (params self) h) }
+        ensures params_done { IfDone result (λ house version. params house ≡ params self) }
+        ensures params_kept { IfKept result (λ house. params house ≡ params self) }
+
+        ensures any_moment { (h : History) → stands true (device self) (params self) h → OnlyLeaves clock since
+            (λ x. keeps x (params self) h ⊎ keeps x (params self) (after_commit (first_refusal (params self) h rows.now) h rows.now))
+            (moments (device self)) (moments (device_out device result)) }
+        ensures settled { (h : History) → stands true (device self) (params self) h → IfDone result (λ house version.
+            (x : Image) → now (moments (device house)) x → keeps x (params self) (with_batch h rows.now)) }
+        ensures lost { (h : History) → stands true (device self) (params self) h →
+            ((x : Image) → now (moments (device self)) x → keeps x (params self) h) →
+            (x : Image) → now (moments (device_out device result)) x →
+            keeps x (params self) h ⊎ keeps x (params self) (after_commit (first_refusal (params self) h rows.now) h rows.now) }
+        ensures page_limit { (h : History) → stands true (device self) (params self) h → IfPageLimit result (λ house allotted.
+            (allotted ≡ (params self).pages) × lacks_pages (device house) (params self) h rows.now) }
+        ensures moments_kept { IfKept result (λ house. moments (device house) ≡ moments (device self)) }
+
+        ensures reads { reads (device_out device result) ≤ reads (device self) }
+        ensures disk { IfDisk result (Rose (faults (device self)) (faults (device_out device result))) }
+        ensures faults { faults (device self) ≤ faults (device_out device result) };
+
+    /// Gives back what lasts.
+    fn into_device(self) -> Self::Device
+        ensures { result ≡ device self };
+}
