@@ -1,9 +1,1 @@
-pub mod Ending
-pub mod Going
-pub mod Parts
-pub mod Replies
 pub mod Scratch
-pub mod Served
-pub mod Staged
-pub mod WordsTables
-pub mod WordsWalk

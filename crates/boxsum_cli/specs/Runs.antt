@@ -4,15 +4,8 @@ use Rattle.bw_types.specs.declared.params.Params.{Params}
 use Rattle.csv_rows.specs.Lines.{whole_part}
 use Rattle.csv_rows.specs.Machine.{text}
 
--- from before to after a part of the whole text was written, its front
-pub record WritesPart (before after whole : List ℕ) : Type 0 where
-  pub out : List ℕ
-  pub rest : List ℕ
-  pub wrote : after ≡ before ++ out
-  pub part : whole ≡ out ++ rest
-
--- of the input all was taken but what is left, and what was written is the text of the bytes up to the last line feed
--- that was taken
+-- Of the input all was taken but what is left, and what was written is the text of the bytes up to the last line feed
+-- that was taken.
 pub record WritesWholeLines (params : Params) (input left before after : List ℕ) : Type 0 where
   pub taken : List ℕ
   pub cut : input ≡ taken ++ left

@@ -1,7 +1,20 @@
 -- The numbers and the texts of the statuses.
-use Rattle.std.specs.Prelude.{ℕ, List, [], codes}
+use Rattle.std.specs.Prelude.{ℕ, List, [], ◌++◌, codes, decimal}
+use Rattle.row_machine.specs.declared.ending.Ending.{Ending}
+use Rattle.row_machine.specs.declared.ending.Ending.TheVariants as ending
 use Rattle.boxsum_cli.specs.declared.status.Status.{Status}
-use Rattle.boxsum_cli.specs.declared.status.Status.TheVariants.{Fine, Usage, ReadFault, WriteFault, NoMemory, InputLimit}
+use Rattle.boxsum_cli.specs.declared.status.Status.TheVariants.{Fine, Usage, ReadFault, WriteFault, DiskFault, NoMemory, Damaged, InputLimit, PageLimit}
+
+-- the status of a run over an input that ended so
+abbrev pub status_of : Ending → Status
+status_of ending.Fine = Fine
+status_of ending.ReadFault = ReadFault
+status_of ending.WriteFault = WriteFault
+status_of ending.NoMemory = NoMemory
+status_of (ending.InputLimit taken) = InputLimit taken
+status_of ending.DiskFault = DiskFault
+status_of (ending.Damaged page) = Damaged page
+status_of (ending.PageLimit allotted) = PageLimit allotted
 
 -- the exit status
 abbrev pub exit_code : Status → ℕ
@@ -9,8 +22,11 @@ exit_code Fine = 0
 exit_code Usage = 2
 exit_code ReadFault = 5
 exit_code WriteFault = 6
+exit_code DiskFault = 7
 exit_code NoMemory = 8
+exit_code (Damaged page) = 9
 exit_code (InputLimit taken) = 10
+exit_code (PageLimit allotted) = 11
 
 -- what is printed to standard error after the program's name
 abbrev pub status_text : Status → List ℕ
@@ -18,5 +34,8 @@ status_text Fine = []
 status_text Usage = codes "usage: boxsum scratch D [--degree G] [--events N] [--signed S]"
 status_text ReadFault = codes "input failed"
 status_text WriteFault = codes "output failed"
+status_text DiskFault = codes "disk failed"
 status_text NoMemory = codes "no memory"
+status_text (Damaged page) = codes "damaged page " ++ decimal page
 status_text (InputLimit taken) = codes "input too long"
+status_text (PageLimit allotted) = codes "page limit " ++ (decimal allotted ++ codes " reached")

@@ -5,15 +5,10 @@
 //! the text of the status and ends.
 #![tactic(auto)]
 
-mod command;
-mod desk;
-mod replying;
 mod run;
-mod serving;
 mod status;
 #[cfg(test)]
 mod tests;
-mod words;
 
 use crate::run::run;
 use crate::status::Status;

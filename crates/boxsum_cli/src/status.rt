@@ -1,8 +1,8 @@
-// How a run ended.
-
+//! How the program ended.
 ghost use Rattle.std.specs.Prelude.{◌≡◌};
 ghost use Rattle.boxsum_cli.specs.Statuses.{exit_code};
 
+use row_machine::Ending;
 use std::fmt;
 
 /// How the program ended. The number of a status is the exit status, and its text goes to standard
@@ -18,10 +18,16 @@ pub enum Status {
     ReadFault,
     /// The output failed.
     WriteFault,
+    /// The disk failed.
+    DiskFault,
     /// Memory ran out.
     NoMemory,
+    /// This page of the disk is not as the program leaves it.
+    Damaged { page: u64 },
     /// So many bytes were taken from the input, as many as may be, and more are needed.
     InputLimit { taken: u64 },
+    /// As many pages are given out as the limit allows: this number.
+    PageLimit { allotted: u64 },
 }
 
 impl Status {
@@ -34,8 +40,31 @@ impl Status {
             Status::Usage => 2,
             Status::ReadFault => 5,
             Status::WriteFault => 6,
+            Status::DiskFault => 7,
             Status::NoMemory => 8,
+            Status::Damaged { .. } => 9,
             Status::InputLimit { .. } => 10,
+            Status::PageLimit { .. } => 11,
+        }
+    }
+}
+
+impl From<Ending> for Status {
+    ghost use Rattle.std.specs.Prelude.{◌≡◌};
+    ghost use Rattle.boxsum_cli.specs.Statuses.{status_of};
+
+    ghost from_gives = { λ ending status. status ≡ status_of ending };
+
+    fn from(ending: Ending) -> Status {
+        match ending {
+            Ending::Fine => Status::Fine,
+            Ending::ReadFault => Status::ReadFault,
+            Ending::WriteFault => Status::WriteFault,
+            Ending::DiskFault => Status::DiskFault,
+            Ending::NoMemory => Status::NoMemory,
+            Ending::Damaged { page } => Status::Damaged { page },
+            Ending::InputLimit { taken } => Status::InputLimit { taken },
+            Ending::PageLimit { allotted } => Status::PageLimit { allotted },
         }
     }
 }
@@ -47,13 +76,18 @@ impl fmt::Display for Status {
     ghost output = { λ status. Some (status_text status) };
 
     fn fmt<W: fmt::Write>(&self, f: &mut fmt::Formatter<W>) -> fmt::Result {
-        f.write_str(match self {
-            Status::Fine => "",
-            Status::Usage => "usage: boxsum scratch D [--degree G] [--events N] [--signed S]",
-            Status::ReadFault => "input failed",
-            Status::WriteFault => "output failed",
-            Status::NoMemory => "no memory",
-            Status::InputLimit { .. } => "input too long",
-        })
+        match self {
+            Status::Fine => f.write_str(""),
+            Status::Usage => {
+                f.write_str("usage: boxsum scratch D [--degree G] [--events N] [--signed S]")
+            }
+            Status::ReadFault => f.write_str("input failed"),
+            Status::WriteFault => f.write_str("output failed"),
+            Status::DiskFault => f.write_str("disk failed"),
+            Status::NoMemory => f.write_str("no memory"),
+            Status::Damaged { page } => write!(f, "damaged page {page}"),
+            Status::InputLimit { .. } => f.write_str("input too long"),
+            Status::PageLimit { allotted } => write!(f, "page limit {allotted} reached"),
+        }
     }
 }

@@ -1,3 +1,4 @@
+pub mod Endings
 pub mod EndsLaws
 pub mod Going
 pub mod Housing

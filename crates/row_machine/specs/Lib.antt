@@ -1,4 +1,5 @@
 pub mod DeskState
+pub mod Ended
 pub mod Housed
 pub mod Outbox
 pub mod Runs

@@ -7,9 +7,11 @@
 
 mod desk;
 mod ending;
+mod laws;
 mod outbox;
 mod serving;
 
 pub use desk::{Desk, Taken};
 pub use ending::{Ending, Ran};
+pub use laws::{ends_laws, machine_laws};
 pub use serving::{INPUT_LIMIT, serve};

@@ -1,5 +1,0 @@
-use Rattle.boxsum_cli.proofs.Parts.{writes_front}
-use Rattle.boxsum_cli.proofs.replying.put_text.Goals as goal
-
-pub returns-in-Err-clause-part : goal.returns-in-Err-clause-part
-returns-in-Err-clause-part g c = λ failed told tells. writes_front _ _ _ (c.in-Err.ensures.prefix told tells)

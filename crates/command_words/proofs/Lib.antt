@@ -1,0 +1,2 @@
+pub mod WordsTables
+pub mod WordsWalk

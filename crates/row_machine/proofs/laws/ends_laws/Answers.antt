@@ -1,0 +1,14 @@
+use Rattle.row_machine.proofs.Endings.{in_part, fine_serves, input_serves, fine_settles}
+use Rattle.row_machine.proofs.laws.ends_laws.Goals as goal
+
+pub returns-clause-part : goal.returns-clause-part
+returns-clause-part g c = in_part g.H.House
+
+pub returns-clause-fine : goal.returns-clause-fine
+returns-clause-fine g c = fine_serves g.H.House
+
+pub returns-clause-input : goal.returns-clause-input
+returns-clause-input g c = input_serves g.H.House
+
+pub returns-clause-settles : goal.returns-clause-settles
+returns-clause-settles g c = fine_settles g.H.House

@@ -1,0 +1,67 @@
+-- What follows from how a run ended.
+use Rattle.std.specs.Prelude.{◌≡◌, ℕ, ◌+◌, Bool, true, IsTrue, List, ◌++◌, length}
+use Rattle.bw_types.specs.History.{History}
+use Rattle.bw_types.specs.declared.params.Params.{Params}
+use Rattle.csv_rows.specs.Lines.{is_whole, lines, whole_part}
+use Rattle.csv_rows.specs.Machine.{State, replies, state_after, text, after, begun}
+use Rattle.warehouse.specs.declared.house.House.{Ghosts}
+use Rattle.row_machine.specs.declared.ending.Ran.{Ran}
+use Rattle.row_machine.specs.declared.ending.Ending.TheVariants.{Fine}
+use Rattle.row_machine.specs.Housed.{GoesOnFrom, Settled}
+use Rattle.row_machine.specs.Runs.{WritesPart}
+use Rattle.row_machine.specs.Serving.{Ends, IsInputEnding, MayServe}
+
+module _ {H D : Type 0} (g : Ghosts H D) where
+  -- The replies to the lines were written, and no more; the device stands for the history after them.
+  pub record Served (whole tells tells' : Bool) (params : Params) (begin : State) (served : List (List ℕ)) (ran : Ran D) (written written' : List ℕ) : Type 0 where
+    pub wrote : IsTrue tells → IsTrue tells' → written' ≡ written ++ replies params 1 begin served
+    pub stands : g.stands whole ran.device params (state_after params 1 begin served).history
+
+  -- Of the input all was taken but what is left, and its lines up to the last line feed that was taken were served.
+  pub record ServedWhole (whole tells tells' : Bool) (params : Params) (begin : State) (input left : List ℕ) (ran : Ran D) (written written' : List ℕ) : Type 0 where
+    pub taken : List ℕ
+    pub cut : input ≡ taken ++ left
+    pub served : Served whole tells tells' params begin (lines (whole_part taken)) ran written written'
+
+  -- However a run ends, a part of the replies to all lines was written, from its beginning.
+  abbrev pub EndsInPart : Type 0
+  EndsInPart = (whole tells tells' still : Bool) (params : Params) (begin : State) (input left : List ℕ) (before : D) (ran : Ran D) (written written' : List ℕ)
+      → Ends g whole tells tells' still params begin input left before ran written written' → IsTrue tells → IsTrue tells'
+      → WritesPart written written' (replies params 1 begin (lines input))
+
+  -- A run that is fine served all lines.
+  abbrev pub FineServesAll : Type 0
+  FineServesAll = (whole tells tells' still : Bool) (params : Params) (begin : State) (input left : List ℕ) (before : D) (ran : Ran D) (written written' : List ℕ)
+      → Ends g whole tells tells' still params begin input left before ran written written' → ran.ending ≡ Fine
+      → Served whole tells tells' params begin (lines input) ran written written'
+
+  -- A run that the input ended served the lines up to the last line feed that was taken.
+  abbrev pub InputServesWhole : Type 0
+  InputServesWhole = (whole tells tells' still : Bool) (params : Params) (begin : State) (input left : List ℕ) (before : D) (ran : Ran D) (written written' : List ℕ)
+      → Ends g whole tells tells' still params begin input left before ran written written' → IsInputEnding ran.ending → IsTrue still
+      → ServedWhole whole tells tells' params begin input left ran written written'
+
+  -- Where nothing but the history of the beginning may be left then, a crash after a fine run leaves the history after all lines.
+  abbrev pub FineSettles : Type 0
+  FineSettles = (tells tells' still : Bool) (params : Params) (begin : State) (input left : List ℕ) (before : D) (ran : Ran D) (written written' : List ℕ)
+      → Ends g true tells tells' still params begin input left before ran written written' → ran.ending ≡ Fine
+      → Settled g params begin.history before → Settled g params (state_after params 1 begin (lines input)).history ran.device
+
+-- Where the device is whole for commits, all lines may be served.
+abbrev pub AllMayBeServed : Type 0
+AllMayBeServed = (params : Params) (ls : List (List ℕ)) → MayServe true params ls
+
+-- The history after an input goes on from the one before it.
+abbrev pub AfterGoesOn : Type 0
+AfterGoesOn = (params : Params) (h : History) (bytes : List ℕ) → GoesOnFrom h (after params h bytes)
+
+-- What is written for two inputs that meet at a line's end is what is written for the first, and then the replies to the
+-- second from the state that the first leaves.
+abbrev pub TextJoins : Type 0
+TextJoins = (params : Params) (h : History) (first second : List ℕ) → IsTrue (is_whole first)
+    → text params h (first ++ second) ≡ text params h first ++ replies params (1 + length (lines first)) (state_after params 1 (begun h) (lines first)) (lines second)
+
+-- The history after two inputs that meet at a line's end is that after the second, from the state that the first leaves.
+abbrev pub AfterJoins : Type 0
+AfterJoins = (params : Params) (h : History) (first second : List ℕ) → IsTrue (is_whole first)
+    → after params h (first ++ second) ≡ (state_after params (1 + length (lines first)) (state_after params 1 (begun h) (lines first)) (lines second)).history
