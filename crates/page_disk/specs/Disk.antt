@@ -1,12 +1,7 @@
 -- The answers of a disk.
-use Rattle.std.specs.Prelude.{◌≡◌, ℕ, ◌<◌, ◌≤◌, Bool, true, false, List, [], ◌∷◌, length, Result, MatchResult}
-use Rattle.page_ports.specs.Pages.{Rose}
+use Rattle.std.specs.Prelude.{◌≡◌, ℕ, ◌<◌, ◌≤◌, Bool, true, false, List, [], ◌∷◌, length}
 use Rattle.page_disk.specs.Image.{PageList, Image, page_at}
 use Rattle.page_disk.specs.Moment.{Moment, MayBeLeft}
-
--- The count stays at `Ok`, and rises at `Err`.
-abbrev pub CountsFault : {T E : Type 0} → Result T E → ℕ → ℕ → Type 0
-CountsFault result old new = MatchResult result (λ _. new ≡ old) (λ _. Rose old new × (old ≤ new))
 
 -- the buffer after a read: whether the page is there, and then its bytes
 abbrev pub IsRead : PageList → ℕ → Bool → List ℕ → Type 0

@@ -1,7 +1,7 @@
 //! A disk over two files of the operating system.
 ghost use Rattle.std.specs.Prelude.{◌≡◌, ◌≢◌, ◌≤◌, [], false, IsTrue};
-ghost use Rattle.page_ports.specs.Pages.{Rose};
-ghost use Rattle.page_disk.specs.Disk.{CountsFault};
+ghost use Rattle.counts.specs.Count.{Rose};
+ghost use Rattle.counts.specs.Count.{CountsFault};
 ghost use Rattle.page_disk.specs.FileName.{is_file_name};
 ghost use Rattle.page_disk.specs.Image.{Image};
 

@@ -1,9 +1,10 @@
 //! A disk in memory that records its calls and tells everything.
 ghost use Rattle.std.specs.Prelude.{◌≡◌, ◌∷◌, ◌+◌, ◌-◌, ◌^◌, ◌≤◌, ◌==◌, ◌||◌, [], length, min, true, false, Ok, IfOk, IsErr, OnOk, OnErr, is_err};
-ghost use Rattle.page_ports.specs.Pages.{Rose};
+ghost use Rattle.counts.specs.Count.{Rose};
 ghost use Rattle.page_disk.specs.Crash.{LeftBy};
 ghost use Rattle.page_disk.specs.CallPlan.{no_failures};
-ghost use Rattle.page_disk.specs.Disk.{CountsFault, IsRead};
+ghost use Rattle.counts.specs.Count.{CountsFault};
+ghost use Rattle.page_disk.specs.Disk.{IsRead};
 ghost use Rattle.page_disk.specs.History.{area_moments, side_by_side};
 ghost use Rattle.page_disk.specs.Image.{Image, area_of, with_area, written_at};
 ghost use Rattle.page_disk.specs.Moment.{MayBeLeftNow, area_counted, counted_in, settled_moment, then_moment};

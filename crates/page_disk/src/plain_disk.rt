@@ -1,6 +1,6 @@
 //! A disk in memory that tells its image and its counts, and keeps no record.
 ghost use Rattle.std.specs.Prelude.{◌≡◌, ◌≤◌, [], length, true, OnOk, OnErr};
-ghost use Rattle.page_ports.specs.Pages.{Rose};
+ghost use Rattle.counts.specs.Count.{Rose};
 ghost use Rattle.page_disk.specs.Image.{Image, area_of, written_at};
 
 use crate::{Area, Disk, Failed};

@@ -1,5 +1,5 @@
--- Maps of pages, and the counts of a device.
-use Rattle.std.specs.Prelude.{ℕ, ◌+◌, ◌-◌, ◌^◌, ◌≤◌, min, ◌==◌, if◌then◌else◌, Option, Some, None, List, replicate}
+-- Maps of pages.
+use Rattle.std.specs.Prelude.{ℕ, ◌==◌, if◌then◌else◌, Option, Some, None, List, replicate}
 
 -- Which pages are there, and their 4096 bytes.
 abbrev pub PageMap : Type 0
@@ -19,7 +19,3 @@ empty_map = λ _. None
 -- a page of zeros
 unfoldable pub blank_bytes : List ℕ
 blank_bytes = replicate 4096 0
-
--- The count rose in this call, or stands at the last value of a `u64`.
-abbrev pub Rose : ℕ → ℕ → Type 0
-Rose old new = min (old + 1) (2 ^ 64 - 1) ≤ new

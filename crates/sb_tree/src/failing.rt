@@ -1,6 +1,6 @@
 //! A stage of which one call fails.
 ghost use Rattle.std.specs.Prelude.{◌≡◌, ◌+◌, IsTrue};
-ghost use Rattle.page_ports.specs.Pages.{Rose};
+ghost use Rattle.counts.specs.Count.{Rose};
 
 use page_ports::{Page, PageFault, Pages, Stage, StageFault};
 
