@@ -1,3 +1,4 @@
+pub mod Empty
 pub mod Tally
 pub mod Dominance
 pub mod Fits

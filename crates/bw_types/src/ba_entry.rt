@@ -20,8 +20,13 @@ pub enum Outside {
 }
 
 impl Default for Outside {
-    /// No points.
-    fn default() -> Outside {
+    ghost use Rattle.std.specs.Prelude.{◌≡◌};
+    ghost use Rattle.bw_types.specs.Empty.{no_points};
+
+    /// No points: four empty trees.
+    fn default() -> Outside
+        ensures { result ≡ no_points }
+    {
         Outside::Trees {
             subtotal: Tree::default(),
             borders: [Tree::default(); 3],
