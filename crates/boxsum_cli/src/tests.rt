@@ -314,16 +314,19 @@ fn the_input_fails(rt: HostRuntime) -> Result<(), Fail> {
 fn the_output_fails(rt: HostRuntime) -> Result<(), Fail> {
     let input =
         b"add,1,1,0,9,5\nadd,2,1,0,9,6\nsum,now,0,9\ncommit,1\nsum,now,0,9\ncommit,2\nsum,now,0,9\n";
+    // Where each take gives one byte, each reply is put before the next one. Where one gives all,
+    // replies are put after the version and at the end.
     let parts = [
-        "",
-        "sum,0,0\n",
-        "sum,0,0\nversion,1\n",
-        "sum,0,0\nversion,1\nsum,1,5\n",
-        "sum,0,0\nversion,1\nsum,1,5\nrefused,1,used\n",
+        (1, 1, ""),
+        (1, 2, "sum,0,0\n"),
+        (1, 3, "sum,0,0\nversion,1\n"),
+        (1, 4, "sum,0,0\nversion,1\nsum,1,5\n"),
+        (1, 5, "sum,0,0\nversion,1\nsum,1,5\nrefused,1,used\n"),
+        (4096, 1, ""),
+        (4096, 2, "sum,0,0\nversion,1\n"),
     ];
-    for (puts, part) in parts.iter().enumerate() {
-        let call = puts as u64 + 1;
-        let (status, sink) = run_on(rt.alloc(), "scratch 1", input, 4096, None, Some(call))?;
+    for (piece, call, part) in parts {
+        let (status, sink) = run_on(rt.alloc(), "scratch 1", input, piece, None, Some(call))?;
         assert_eq!(rt; status, Status::WriteFault);
         assert_eq!(rt; sink.bytes(), part.as_bytes());
         assert_eq!(rt; sink.faults(), 1);

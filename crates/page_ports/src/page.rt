@@ -2,6 +2,8 @@
 ghost use Rattle.std.specs.Prelude.{◌≡◌};
 ghost use Rattle.page_ports.specs.Pages.{blank_bytes};
 
+use thiserror::Error;
+
 /// A page: 4096 bytes.
 pub type Page = [u8; 4096];
 
@@ -17,24 +19,30 @@ pub fn blank_page() -> Page
 }
 
 /// Why a page could not be read.
-#[derive(Clone, Copy, Debug, PartialEq, Eq)]
+#[derive(Clone, Copy, Debug, PartialEq, Eq, Error)]
 pub enum PageFault {
     /// The device failed. Comes only where the count of faults rose.
+    #[error("the disk failed")]
     Disk,
     /// This page is not in the map.
+    #[error("page {0} is damaged")]
     Damaged(u64),
 }
 
 /// Why a stage of changes refused a call.
-#[derive(Clone, Copy, Debug, PartialEq, Eq)]
+#[derive(Clone, Copy, Debug, PartialEq, Eq, Error)]
 pub enum StageFault {
     /// The device failed. Comes only where the count of faults rose.
+    #[error("the disk failed")]
     Disk,
     /// This page is not in the map, or is met where the free pages are not in order.
+    #[error("page {0} is damaged")]
     Damaged(u64),
     /// As many pages are allotted as the limit allows: this number.
+    #[error("page limit {0} reached")]
     PageLimit(u64),
     /// There was no memory.
+    #[error("no memory")]
     NoMemory,
 }
 
