@@ -12,13 +12,16 @@ ghost use Rattle.command_words.specs.Words.{CommandFits, ExplainsWords};
 use crate::command::Command;
 use crate::words::commands::command_named;
 use std::alloc::{AllocError, Global};
+use thiserror::Error;
 
 /// Why words were not read as a command.
-#[derive(Clone, Copy, PartialEq, Eq, Debug)]
+#[derive(Clone, Copy, PartialEq, Eq, Debug, Error)]
 pub enum WordsFault {
     /// The words are not in the grammar.
+    #[error("the words are no command")]
     Usage,
     /// Memory ran out.
+    #[error("no memory")]
     NoMemory,
 }
 

@@ -21,14 +21,17 @@ use crate::writes::{put_home, write_gate};
 use page_disk::{Area, Disk, Failed};
 use page_layout::{JournalHead, Spelled};
 use page_ports::blank_page;
+use thiserror::Error;
 
 /// Why a replay ended early.
-#[derive(Clone, Copy, Debug, PartialEq, Eq)]
+#[derive(Clone, Copy, Debug, PartialEq, Eq, Error)]
 pub enum JournalFault {
     /// The device failed. Comes only where the count of faults rose.
+    #[error("the disk failed")]
     Disk,
     /// This page of the journal is the first head that is missing or breaks a rule. Nothing was
     /// written, if the disk tells its image.
+    #[error("journal page {0} is damaged")]
     Damaged(u64),
 }
 

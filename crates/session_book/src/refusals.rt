@@ -12,15 +12,19 @@ use crate::Seen;
 use crate::batch::Batch;
 use bw_types::{Params, Reason, Refusal, Row};
 use std::alloc::Global;
+use thiserror::Error;
 
 /// Why a batch could not be judged.
-#[derive(Clone, Copy, PartialEq, Eq, Debug)]
+#[derive(Clone, Copy, PartialEq, Eq, Debug, Error)]
 pub enum BookFault {
     /// The device below the `Seen` failed. Comes only where its count of faults rose.
+    #[error("the disk failed")]
     Disk,
     /// What the `Seen` reads is damaged at this page.
+    #[error("page {0} is damaged")]
     Damaged(u64),
     /// There was no memory.
+    #[error("no memory")]
     NoMemory,
 }
 

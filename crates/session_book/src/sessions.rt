@@ -4,13 +4,16 @@ ghost use Rattle.session_book.specs.Staged.{IsSession, rows_of, with_rows};
 use bw_types::Row;
 use std::alloc::Global;
 use std::marker::Model;
+use thiserror::Error;
 
 /// Why a row was not staged.
-#[derive(Clone, Copy, PartialEq, Eq, Debug)]
+#[derive(Clone, Copy, PartialEq, Eq, Debug, Error)]
 pub enum StageRow {
     /// The session has as many rows as one may have, 4096.
+    #[error("the session is full")]
     Full,
     /// There was no memory.
+    #[error("no memory")]
     NoMemory,
 }
 

@@ -1,14 +1,18 @@
 //! What a house answers.
 use bw_types::Refusal;
+use thiserror::Error;
 
 /// Why a query was not answered. The house is as it was before.
-#[derive(Clone, Copy, PartialEq, Eq, Debug)]
+#[derive(Clone, Copy, PartialEq, Eq, Debug, Error)]
 pub enum QueryFault {
     /// The device failed.
+    #[error("the disk failed")]
     Disk,
     /// The page is not as the program leaves it.
+    #[error("page {0} is damaged")]
     Damaged(u64),
     /// The version is above the last one, which is this.
+    #[error("the last version is {0}")]
     NoVersion(u32),
 }
 

@@ -51,6 +51,7 @@ pub trait House: Drop {
 
     /// How often a page was read, and how often the device failed.
     ghost reads: { Self.Device → ℕ };
+
     ghost faults: { Self.Device → ℕ };
 
     /// On a device that stands for the history a commit of these rows may find no page: the number of
