@@ -4,6 +4,7 @@
 //! as: its count of faults rose in this call, or stands at its last value. The definitions are in
 //! specs/Count.antt.
 #![tactic(auto)]
+
 ghost use Rattle.std.specs.Prelude.{◌≡◌, ◌≤◌};
 ghost use Rattle.counts.specs.Count.{Rose, raised as one_more};
 

@@ -89,7 +89,7 @@ module _ {H D : Type 0} (g : Ghosts H D) (tells tells' still : Bool) (params : P
   fine_settles e fine settled = λ x left_so.
       let all : History = (state_after params 1 begin (lines input)).history in
       let sure : e.sure ≡ all = e.between (subst (λ (s : Ending). IsBetweenLines s) (sym fine) tt)
-          ∙ ap (λ (ls : List (List ℕ)). (state_after params 1 begin ls).history) (all_served g true tells tells' still params begin input left before ran written written' e fine) in
+      ∙ ap (λ (ls : List (List ℕ)). (state_after params 1 begin ls).history) (all_served g true tells tells' still params begin input left before ran written written' e fine) in
       let k : KeepsBetween g params e.sure all x = e.settled refl settled x left_so in
       let same : k.between ≡ all = same_history all k.between (subst (λ (h : History). GoesOnFrom h k.between) sure k.begins) k.within in
       subst (λ (h : History). g.keeps x params h) same k.keeps

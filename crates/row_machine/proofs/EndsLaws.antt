@@ -118,12 +118,14 @@ module _ {H D : Type 0} (g : Ghosts H D) (laws : LineLaws) (whole tells tells' s
         stands = λ other. subst (λ (d : D). g.stands whole d params breaks.sure) (sym disk) (breaks.stands (λ e. other (fault' e)));
         undamaged = λ page e. breaks.undamaged page (damaged page e);
         page_limit = λ allotted e.
-            let p = breaks.page_limit allotted (limit allotted e) in
-            (next_version params (state_after params 1 (state_at g h first) given) r.state n (1 + length given) line (lines come) (lines b.after) (sym r.served.state) number coming p.0,
-            p.1 ∙ ap (λ (s : State). s.history) r.served.state, p.2,
-            subst (λ (k : History). g.lacks_pages ran.device params k (next_rows params (state_after params 1 (state_at g h first) given) (lines come))) (sym p.1)
-            (subst (λ (s : List Row). g.lacks_pages ran.device params r.state.history s) (sym next_committed)
-            (subst (λ (d : D). g.lacks_pages d params r.state.history (rows_committed r.state (input_of params line))) (sym disk) p.3)));
+            let p = breaks.page_limit allotted (limit allotted e) in (
+              next_version params (state_after params 1 (state_at g h first) given) r.state n (1 + length given) line (lines come) (lines b.after) (sym r.served.state) number coming p.0,
+              p.1 ∙ ap (λ (s : State). s.history) r.served.state,
+              p.2,
+              subst (λ (k : History). g.lacks_pages ran.device params k (next_rows params (state_after params 1 (state_at g h first) given) (lines come))) (sym p.1)
+                  (subst (λ (s : List Row). g.lacks_pages ran.device params r.state.history s) (sym next_committed)
+                  (subst (λ (d : D). g.lacks_pages d params r.state.history (rows_committed r.state (input_of params line))) (sym disk) p.3)),
+            );
         reads = omega (arith, next, reads', so_far);
         reads_between = λ b. absurd (outside b);
         any_moment = λ e. subst (λ (d : D). OnlyBetween g params h (state_after params 1 (state_at g h first) (lines input)).history (g.device first.house) d) (sym disk)

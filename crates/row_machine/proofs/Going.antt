@@ -107,13 +107,13 @@ going_put g first now source source' sink sink' sink'' gathered gathered' reader
       state = r.state;
       at = r.at;
       served = record {
-          given = r.served.given;
-          cut = r.served.cut;
-          ends = r.served.ends;
-          nothing = r.served.nothing;
-          number = r.served.number;
-          state = r.served.state;
-          wrote = λ told. same (o.sink_calm.tells told) ∙ r.served.wrote told;
+        given = r.served.given;
+        cut = r.served.cut;
+        ends = r.served.ends;
+        nothing = r.served.nothing;
+        number = r.served.number;
+        state = r.served.state;
+        wrote = λ told. same (o.sink_calm.tells told) ∙ r.served.wrote told;
       };
       goes = r.goes;
       reads = r.reads;
@@ -156,7 +156,7 @@ going_on g laws first now now' source source' source'' sink sink' gathered gathe
   reached = λ told whole h may stands.
       let r = o.reached told whole h may stands in
       let may' : MayServe whole first.params (lines (to_come reader source'.bytes)) =
-          coming_may g laws whole sink.tells first.params h first now number source.bytes (to_come reader source'.bytes) reader.stopped sink.bytes (sink'.bytes ++ gathered) r may in
+      coming_may g laws whole sink.tells first.params h first now number source.bytes (to_come reader source'.bytes) reader.stopped sink.bytes (sink'.bytes ++ gathered) r may in
       reached_line g laws whole sink.tells first.params h first now now' number source.bytes (to_come reader source'.bytes) (to_come reader' source''.bytes) reader.stopped reader'.stopped sink.bytes sink'.bytes gathered gathered'
       r (nothing_to_come reader' source''.bytes)
       (subst (λ (p : Params). ServesLine g whole p number (to_come reader source'.bytes) (to_come reader' source''.bytes) reader'.stopped r.state.history now now' gathered gathered') o.params
@@ -264,10 +264,10 @@ going_ends g laws first now source source' source'' sink sink' gathered reader r
     let r = o.reached told whole h may stands in
     let told' = o.source_calm.tells told in
     let written = written_so g whole first.params h first now number source.bytes (to_come reader source'.bytes) source''.bytes reader.stopped sink sink' gathered tells' source''.tells written' ran.ending r o.sink_calm.tells o.more
-        (λ i still.
-        let p = input (ended_by_input ended ran closes i) told' still in
-        served_whole laws sink.tells first.params (state_at g h first) r.state number source.bytes (to_come reader source'.bytes) source''.bytes reader.stopped sink.bytes (sink'.bytes ++ gathered) r.served p.0 p.1)
-        part flushed in
+    (λ i still.
+    let p = input (ended_by_input ended ran closes i) told' still in
+    served_whole laws sink.tells first.params (state_at g h first) r.state number source.bytes (to_come reader source'.bytes) source''.bytes reader.stopped sink.bytes (sink'.bytes ++ gathered) r.served p.0 p.1)
+    part flushed in
     elim why [
       | inl b ↦ ends_between g laws whole sink.tells tells' source''.tells first.params h first now number source.bytes (to_come reader source'.bytes) source''.bytes reader.stopped sink.bytes (sink'.bytes ++ gathered) written' ran r
           (closes.device ∙ between b) (λ f. fine (closes_same ended ran closes Fine (λ e. cc) f) told')

@@ -104,8 +104,8 @@ module _ {H D : Type 0} (g : Ghosts H D) where
       → Leaves g params h h' before result
   leaves_either params h h' before result goes any lost settled = record {
     any_moment = record {
-        later = any.later;
-        each = λ t x le left. elim (any.each t x le left) [ inl old ↦ inl old | inr has ↦ inr (either x has) ];
+      later = any.later;
+      each = λ t x le left. elim (any.each t x le left) [ inl old ↦ inl old | inr has ↦ inr (either x has) ];
     };
     settled = settled;
     lost = λ s x left. either x (lost s x left);

@@ -50,7 +50,7 @@ module _ {H D : Type 0} (g : Ghosts H D) where
   reads_more params first now n given line before after entry number state so_far more =
       let one : lines_cost g.cost params (1 + length given) (state_after params 1 first given) (line ∷ []) ≡ line_cost g.cost params (state_after params 1 first given).history line + 0 = refl in
       let same : line_cost g.cost params now.history line ≡ line_cost g.cost params (state_after params 1 first given).history line =
-          ap (λ (s : State). line_cost g.cost params s.history line) state in
+      ap (λ (s : State). line_cost g.cost params s.history line) state in
       let split = lines_cost-append g.cost params 1 first given (line ∷ []) in
       omega (arith, one, same, split, so_far, more)
 
@@ -67,8 +67,12 @@ module _ {H D : Type 0} (g : Ghosts H D) where
       subst (λ (s : State). Serves g whole params r.state.history (step params n s line) (line_cost g.cost params r.state.history line) (g.device now.house) new gathered gathered') same l.serves in
       let goes : GoesOnFrom r.state.history (step params n r.state line).state.history = step_goes_on params n r.state line in
       let one : OneLine tells params n come come' stopped' r.state (step params n r.state line).state (written ++ gathered) (written ++ gathered') =
-      record { line = line; takes = l.takes; state = refl;
-      wrote = λ t. ap (λ (b : List ℕ). written ++ b) serves.replies ∙ sym (append_assoc written gathered (replied (step params n r.state line).reply)) } in
+      record {
+        line = line;
+        takes = l.takes;
+        state = refl;
+        wrote = λ t. ap (λ (b : List ℕ). written ++ b) serves.replies ∙ sym (append_assoc written gathered (replied (step params n r.state line).reply));
+      } in
       let served = served_line laws tells params (state_at g h first) r.state (step params n r.state line).state n input come come' stopped stopped' before
       (written ++ gathered) (written ++ gathered') r.served nothing one in
       record {

@@ -9,7 +9,7 @@ ghost use Rattle.bw_types.specs.Refusals.{first_refusal};
 ghost use Rattle.counts.specs.Count.{Rose};
 ghost use Rattle.row_machine.specs.DeskState.{OnlyFitting};
 
-use crate::ending::{Ran, Ending};
+use crate::ending::{Ending, Ran};
 use bw_types::{Params, Query, Row};
 use csv_rows::{Input, Reply, RowReader};
 use session_book::{Sessions, StageRow};
