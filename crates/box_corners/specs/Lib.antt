@@ -5,3 +5,5 @@ pub mod Meeting
 pub mod Expansion
 pub mod SumLaws
 pub mod MeetingLaws
+pub mod Entries
+pub mod EntryLaws

@@ -7,11 +7,10 @@ ghost use Rattle.box_corners.specs.Corners.{object_corner as corner_of_object, m
 use crate::subset::is_in_subset;
 use bw_types::{Object, Query, query_key};
 
-/// The object's corner of the subset (below 8): the high end in the subset, the low end elsewhere.
+/// The object's corner of the subset: the high end in the subset, the low end elsewhere.
 ///
-/// The numbers are stored ones, of all three dimensions.
+/// The numbers are stored ones, of all three dimensions. Bits of the subset past the third tell of none.
 pub fn object_corner(object: &Object, subset: u8) -> [u32; 3]
-    requires { subset < 8 }
     ensures { result ≡ corner_of_object object.now subset }
 {
     [
@@ -129,6 +128,7 @@ mod tests {
         };
         assert_eq!(rt; object_corner(&object, 0), [2, 3, 0]);
         assert_eq!(rt; object_corner(&object, 2), [2, 6, 0]);
+        assert_eq!(rt; object_corner(&object, 250), [2, 6, 0]);
         assert_eq!(rt;
             meet_corner(&query, 2, 0),
             Some([42949672959, 42949672959, 0])
@@ -163,6 +163,7 @@ mod tests {
         assert_eq!(rt; meet_corner(&query, 2, 2), None);
         assert_eq!(rt; sign(3, 7), 7);
         assert_eq!(rt; sign(2, 7), u128::MAX - 6);
+        assert_eq!(rt; sign(250, 7), u128::MAX - 6);
         Ok(())
     }
 }

@@ -2,6 +2,7 @@
 ghost use Rattle.box_corners.specs.Subsets.{ResidueKeepsSign, SignOfResidueSum, SignOfNothing};
 ghost use Rattle.box_corners.specs.Sums.{ResidueOfSumBelow, SumBelowOfSums, SumBelowOfNothing, SumBelowOfEqual};
 ghost use Rattle.box_corners.specs.Meeting.{WeightsMeetByCorners, BoxesMeetByCorners, ResiduesMeetByCorners, PointCountsAtCorner, NothingCountsWithoutCorner};
+ghost use Rattle.box_corners.specs.Entries.{DominanceAtCorner, NothingAtMissingCorner, EntriesMeetByCorners, SumsMeetByCorners};
 
 /// Boxes that keep the rules meet exactly where the signed count of corners is 1; else it is 0.
 pub fn boxes_meet_by_corners()
@@ -29,4 +30,18 @@ pub fn signed_sums_add_up()
 pub fn points_count_at_corners()
     ensures at_corner { PointCountsAtCorner }
     ensures without_corner { NothingCountsWithoutCorner }
+{}
+
+/// Over a list of weighted objects the signed totals of what counts at the corners come to the weight that
+/// meets the query, modulo `2^128`, and so do the signed dominance sums of the points at the corners.
+pub fn entries_meet_by_corners()
+    ensures entries { EntriesMeetByCorners }
+    ensures sums { SumsMeetByCorners }
+{}
+
+/// Over a list of weighted objects the dominance sum of their corners at the query's corner is what counts
+/// there, and nothing counts where the query has no corner.
+pub fn entries_count_at_corners()
+    ensures at_corner { DominanceAtCorner }
+    ensures without_corner { NothingAtMissingCorner }
 {}

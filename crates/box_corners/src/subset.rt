@@ -4,10 +4,11 @@ ghost use Rattle.box_corners.specs.Subsets.{is_in_subset as belongs, subset_size
 
 use bw_types::res_neg;
 
-/// The residue with the sign of the subset (below 8): the opposite residue where the subset has an odd
-/// number of dimensions, else the residue itself.
+/// The residue with the sign of the subset: the opposite residue where an odd number of the three dimensions
+/// belong to the subset, else the residue itself.
+///
+/// Bits of the subset past the third tell of no dimension, and are not counted.
 pub fn sign(subset: u8, value: u128) -> u128
-    requires { subset < 8 }
     ensures { result ≡ residue_signed_by subset value }
 {
     if size(subset) % 2 == 1 {
