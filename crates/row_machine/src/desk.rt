@@ -1,6 +1,6 @@
 //! The machine of rows and replies: a history and sixteen sessions, and the step on one line.
 
-ghost use Rattle.std.specs.Prelude.{[], IfErr, ◌≡◌, ◌+◌, ◌≤◌, ℕ, Bool, true, IsTrue, Some, None, unwrap_or};
+ghost use Rattle.std.specs.Prelude.{[], IfErr, ◌≡◌, ◌+◌, ◌≤◌, ℕ, Bool, true, false, IsTrue, Some, None, unwrap_or};
 ghost use Rattle.bw_types.specs.History.{History, last_version};
 ghost use Rattle.bw_types.specs.Fits.{IsInRange, row_fits, query_fits};
 ghost use Rattle.csv_rows.specs.Input.{InputFits, input};
@@ -79,7 +79,7 @@ impl<H: House> Desk<H> {
         ensures stops { (whole : Bool) (h : History) → MayTake whole (input self.params line.now) → H.stands whole (H.device self.house) self.params h →
             Stops ⟦<H as House>⟧ whole self.params h (step self.params number (record { history = h; staged = self.sessions }) line.now)
             (rows_committed (record { history = h; staged = self.sessions }) (input self.params line.now)) result }
-        ensures reads { (whole : Bool) (h : History) → H.stands whole (H.device self.house) self.params h →
+        ensures reads { (whole : Bool) (h : History) → MayTake false (input self.params line.now) → H.stands whole (H.device self.house) self.params h →
             H.reads (device_left ⟦<H as House>⟧ result) ≤ H.reads (H.device self.house) + input_cost H.cost self.params h (input self.params line.now) }
         ensures leaves { (h : History) → H.stands true (H.device self.house) self.params h →
             Leaves ⟦<H as House>⟧ self.params h (step self.params number (record { history = h; staged = self.sessions }) line.now).state.history (H.device self.house) result }
@@ -108,7 +108,7 @@ impl<H: House> Desk<H> {
         ensures stops { (whole : Bool) (h : History) → MayTake whole (Some input.now) → H.stands whole (H.device self.house) self.params h →
             Stops ⟦<H as House>⟧ whole self.params h (input_step self.params number (record { history = h; staged = self.sessions }) input.now)
             (rows_committed (record { history = h; staged = self.sessions }) (Some input.now)) result }
-        ensures reads { (whole : Bool) (h : History) → H.stands whole (H.device self.house) self.params h →
+        ensures reads { (whole : Bool) (h : History) → MayTake false (Some input.now) → H.stands whole (H.device self.house) self.params h →
             H.reads (device_left ⟦<H as House>⟧ result) ≤ H.reads (H.device self.house) + input_cost H.cost self.params h (Some input.now) }
         ensures leaves { (h : History) → H.stands true (H.device self.house) self.params h →
             Leaves ⟦<H as House>⟧ self.params h (input_step self.params number (record { history = h; staged = self.sessions }) input.now).state.history (H.device self.house) result }
@@ -188,7 +188,6 @@ impl<H: House> Desk<H> {
         ensures stops { (whole : Bool) (h : History) → whole ≡ true → H.stands whole (H.device self.house) self.params h →
             Stops ⟦<H as House>⟧ whole self.params h (commit_step (record { history = h; staged = self.sessions }) session (first_refusal self.params h (rows_of (record { history = h; staged = self.sessions }) session)))
             (rows_of (record { history = h; staged = self.sessions }) session) result }
-        ensures reads { H.reads (device_left ⟦<H as House>⟧ result) ≤ H.reads (H.device self.house) + 0 }
         ensures leaves { (h : History) → H.stands true (H.device self.house) self.params h →
             Leaves ⟦<H as House>⟧ self.params h (commit_step (record { history = h; staged = self.sessions }) session (first_refusal self.params h (rows_of (record { history = h; staged = self.sessions }) session))).state.history (H.device self.house) result }
         ensures faults { H.faults (H.device self.house) ≤ H.faults (device_left ⟦<H as House>⟧ result) }
