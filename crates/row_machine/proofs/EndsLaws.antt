@@ -1,5 +1,5 @@
 -- What is left when a run ends.
-use Rattle.std.proofs.Common.{◌≡◌, ℕ, ◌+◌, ◌≤◌, Bool, true, false, IsTrue, List, [], ◌∷◌, ◌++◌, length, Option, None, Some, refl, sym, ◌∙◌, ap, subst, append_assoc, arith}
+use Rattle.std.proofs.Common.{◌≡◌, ℕ, ◌+◌, ◌≤◌, Bool, false, IsTrue, List, [], ◌∷◌, ◌++◌, length, Option, sym, ◌∙◌, ap, subst, arith}
 use Rattle.bw_types.specs.History.{History}
 use Rattle.bw_types.specs.declared.params.Params.{Params}
 use Rattle.bw_types.specs.declared.row.Row.{Row}
@@ -11,14 +11,13 @@ use Rattle.warehouse.specs.declared.house.House.{Ghosts}
 use Rattle.row_machine.specs.declared.desk.Desk.{Desk}
 use Rattle.row_machine.specs.declared.ending.Ran.{Ran}
 use Rattle.row_machine.specs.declared.ending.Ending.{Ending}
-use Rattle.row_machine.specs.declared.ending.Ending.TheVariants.{Fine, ReadFault, WriteFault, NoMemory, InputLimit, DiskFault, Damaged, PageLimit}
-use Rattle.row_machine.specs.Housed.{GoesOnFrom, IsHouseEnding, IsVersion, MayTake, rows_committed, Settled, SettledBetween, OnlyBetween}
-use Rattle.row_machine.specs.Runs.{WritesMore, WritesPart}
+use Rattle.row_machine.specs.declared.ending.Ending.TheVariants.{Fine, DiskFault, Damaged, PageLimit}
+use Rattle.row_machine.specs.Housed.{GoesOnFrom, IsHouseEnding, IsVersion, MayTake, rows_committed, SettledBetween, OnlyBetween}
+use Rattle.row_machine.specs.Runs.{WritesPart}
 use Rattle.row_machine.specs.Serving.{state_at, Breaks, BreaksOff, Ends, IsBetweenLines, IsFlushed, IsInputEnding, MayServe, NextIsVersion, TakesWhole, line_cost, lines_cost, next_cost, next_rows}
 use Rattle.row_machine.proofs.Housing.{goes_on_same, goes_on_twice, after_goes_on, only_twice, only_wider, settled_between, settled_wider}
-use Rattle.row_machine.proofs.Lined.{first_may, not_both}
-use Rattle.row_machine.proofs.Parts.{part_of_all}
-use Rattle.row_machine.proofs.Served.{Served, LineLaws, lines_split}
+use Rattle.row_machine.proofs.Lined.{first_may}
+use Rattle.row_machine.proofs.Served.{LineLaws, lines_split}
 use Rattle.row_machine.proofs.Reached.{Reached, coming_may, state_is, to_all}
 
 goes_on_to : (a b b' : History) → b ≡ b' → GoesOnFrom a b → GoesOnFrom a b'

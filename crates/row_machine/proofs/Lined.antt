@@ -1,5 +1,5 @@
 -- A line that is taken off the input and served.
-use Rattle.std.proofs.Common.{◌≡◌, ℕ, ◌<◌, Bool, false, IsTrue, List, ◌∷◌, length, ◌⊎◌, inl, inr, Option, Result, Ok, Err, IfOk, IfErr, refl, sym, subst}
+use Rattle.std.proofs.Common.{◌≡◌, ℕ, ◌<◌, Bool, false, IsTrue, List, ◌∷◌, length, ◌⊎◌, inr, Option, Result, Ok, Err, IfOk, IfErr, sym, subst}
 use Rattle.bw_types.specs.History.{History}
 use Rattle.bw_types.specs.declared.params.Params.{Params}
 use Rattle.csv_rows.specs.Input.{input}

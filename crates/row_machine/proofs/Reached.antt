@@ -1,12 +1,12 @@
 -- How far a run has come between two lines.
-use Rattle.std.proofs.Common.{◌≡◌, ℕ, ◌+◌, ◌≤◌, Bool, true, false, IsTrue, List, [], ◌∷◌, ◌++◌, length, Option, None, Some, refl, sym, ◌∙◌, ap, subst, append_assoc, arith, add-zero}
+use Rattle.std.proofs.Common.{◌≡◌, ℕ, ◌+◌, ◌≤◌, Bool, true, false, List, [], ◌∷◌, ◌++◌, length, Option, None, Some, refl, sym, ◌∙◌, ap, subst, append_assoc, arith}
 use Rattle.bw_types.specs.History.{History}
 use Rattle.bw_types.specs.declared.params.Params.{Params}
 use Rattle.csv_rows.specs.Input.{input as input_of}
 use Rattle.csv_rows.specs.Lines.{lines}
 use Rattle.csv_rows.specs.declared.lines.Line.{Line}
 use Rattle.csv_rows.specs.declared.lines.Line.TheVariants.{End}
-use Rattle.csv_rows.specs.Machine.{State, step, replied, replies, state_after}
+use Rattle.csv_rows.specs.Machine.{State, step, replied, state_after}
 use Rattle.warehouse.specs.declared.house.House.{Ghosts}
 use Rattle.row_machine.specs.declared.desk.Desk.{Desk}
 use Rattle.row_machine.specs.Housed.{GoesOnFrom, IsAt, MayTake, Settled, OnlyBetween}

@@ -1,9 +1,7 @@
-use Rattle.std.proofs.Common.{◌≡◌, ℕ, ◌<◌, Bool, true, false, List, length, Some, refl, subst, sym, arith}
-use Rattle.bw_types.specs.History.{History}
-use Rattle.bw_types.specs.declared.params.Params.{Params}
+use Rattle.std.proofs.Common.{false, Some, refl, subst, sym, arith}
 use Rattle.csv_rows.specs.Input.{input}
 use Rattle.row_machine.specs.Housed.{MayTake, rows_committed}
-use Rattle.csv_rows.specs.Machine.{State, Step, step}
+use Rattle.csv_rows.specs.Machine.{Step}
 use Rattle.csv_rows.specs.declared.reply.Reply.TheVariants.{Bad}
 use Rattle.row_machine.specs.Outbox.{gathered}
 use Rattle.row_machine.specs.Serving.{state_at, ServesText, line_cost}

@@ -1,4 +1,4 @@
-use Rattle.std.proofs.Common.{Bool, true, subst}
+use Rattle.std.proofs.Common.{Bool, subst}
 use Rattle.row_machine.proofs.Housing.{step_goes_on}
 use Rattle.row_machine.proofs.Lined.{reply_within}
 use Rattle.row_machine.proofs.Serviced.{text_served, step_broke}
