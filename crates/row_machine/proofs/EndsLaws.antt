@@ -1,5 +1,5 @@
 -- What is left when a run ends.
-use Rattle.std.proofs.Common.{◌≡◌, ℕ, ◌+◌, ◌≤◌, Bool, true, IsTrue, List, [], ◌∷◌, ◌++◌, length, Option, None, Some, refl, sym, ◌∙◌, ap, subst, append_assoc, arith}
+use Rattle.std.proofs.Common.{◌≡◌, ℕ, ◌+◌, ◌≤◌, Bool, false, IsTrue, List, [], ◌∷◌, ◌++◌, length, Option, sym, ◌∙◌, ap, subst, arith}
 use Rattle.bw_types.specs.History.{History}
 use Rattle.bw_types.specs.declared.params.Params.{Params}
 use Rattle.bw_types.specs.declared.row.Row.{Row}
@@ -11,15 +11,14 @@ use Rattle.warehouse.specs.declared.house.House.{Ghosts}
 use Rattle.row_machine.specs.declared.desk.Desk.{Desk}
 use Rattle.row_machine.specs.declared.ending.Ran.{Ran}
 use Rattle.row_machine.specs.declared.ending.Ending.{Ending}
-use Rattle.row_machine.specs.declared.ending.Ending.TheVariants.{Fine, ReadFault, WriteFault, NoMemory, InputLimit, DiskFault, Damaged, PageLimit}
-use Rattle.row_machine.specs.Housed.{GoesOnFrom, IsHouseEnding, IsVersion, rows_committed, Settled, SettledBetween, OnlyBetween}
-use Rattle.row_machine.specs.Runs.{WritesMore, WritesPart}
-use Rattle.row_machine.specs.Serving.{state_at, Breaks, BreaksOff, Ends, IsBetweenLines, IsFlushed, IsInputEnding, NextIsVersion, TakesWhole, line_cost, lines_cost, next_cost, next_rows}
+use Rattle.row_machine.specs.declared.ending.Ending.TheVariants.{Fine, DiskFault, Damaged, PageLimit}
+use Rattle.row_machine.specs.Housed.{GoesOnFrom, IsHouseEnding, IsVersion, MayTake, rows_committed, SettledBetween, OnlyBetween}
+use Rattle.row_machine.specs.Runs.{WritesPart}
+use Rattle.row_machine.specs.Serving.{state_at, Breaks, BreaksOff, Ends, IsBetweenLines, IsFlushed, IsInputEnding, MayServe, NextIsVersion, TakesWhole, line_cost, lines_cost, next_cost, next_rows}
 use Rattle.row_machine.proofs.Housing.{goes_on_same, goes_on_twice, after_goes_on, only_twice, only_wider, settled_between, settled_wider}
-use Rattle.row_machine.proofs.Lined.{not_both}
-use Rattle.row_machine.proofs.Parts.{part_of_all}
-use Rattle.row_machine.proofs.Served.{Served, LineLaws, lines_split}
-use Rattle.row_machine.proofs.Reached.{Reached, state_is, to_all}
+use Rattle.row_machine.proofs.Lined.{first_may}
+use Rattle.row_machine.proofs.Served.{LineLaws, lines_split}
+use Rattle.row_machine.proofs.Reached.{Reached, coming_may, state_is, to_all}
 
 goes_on_to : (a b b' : History) → b ≡ b' → GoesOnFrom a b → GoesOnFrom a b'
 goes_on_to a b b' e f = subst (λ (k : History). GoesOnFrom a k) e f
@@ -49,8 +48,8 @@ module _ {H D : Type 0} (g : Ghosts H D) (laws : LineLaws) (whole tells tells' s
       let all = to_all g laws tells params (state_at g h first) r.state n input come stopped before virtual r.served in
       let within : GoesOnFrom r.state.history (state_after params 1 (state_at g h first) (lines input)).history =
       goes_on_to _ _ _ (ap (λ (s : State). s.history) (sym all)) (after_goes_on params (1 + length given) r.state (lines come)) in
-      let reads : g.reads ran.device ≤ g.reads (g.device first.house) + lines_cost g.cost params 1 (state_at g h first) given =
-      subst (λ (d : D). g.reads d ≤ g.reads (g.device first.house) + lines_cost g.cost params 1 (state_at g h first) given) (sym disk) r.reads in
+      let reads : MayServe false params (lines input) → g.reads ran.device ≤ g.reads (g.device first.house) + lines_cost g.cost params 1 (state_at g h first) given =
+      λ reading. subst (λ (d : D). g.reads d ≤ g.reads (g.device first.house) + lines_cost g.cost params 1 (state_at g h first) given) (sym disk) (r.reads reading) in
       record {
         served = given;
         rest = lines come;
@@ -66,7 +65,7 @@ module _ {H D : Type 0} (g : Ghosts H D) (laws : LineLaws) (whole tells tells' s
         stands = λ other. subst (λ (d : D). g.stands whole d params r.state.history) (sym disk) r.at.stands;
         undamaged = λ page e. outside (subst (λ (s : Ending). IsHouseEnding s) (sym e) tt);
         page_limit = λ allotted e. absurd (outside (subst (λ (s : Ending). IsHouseEnding s) (sym e) tt));
-        reads = omega (arith, reads);
+        reads = λ reading. let now = reads reading in omega (arith, now);
         reads_between = λ b. reads;
         any_moment = λ e. subst (λ (d : D). OnlyBetween g params h (state_after params 1 (state_at g h first) (lines input)).history (g.device first.house) d) (sym disk) (only_wider g params _ _ _ _ _ within (r.any_moment e));
         settled = λ e s. subst (λ (d : D). SettledBetween g params r.state.history (state_after params 1 (state_at g h first) (lines input)).history d) (sym disk) (settled_between g params _ _ _ _ (goes_on_same _) within (r.settled e s));
@@ -84,8 +83,8 @@ module _ {H D : Type 0} (g : Ghosts H D) (laws : LineLaws) (whole tells tells' s
       let given = lines r.served.given in
       let line = b.line in
       let same : state_at g r.state.history now ≡ r.state = state_is g r.state now r.at.staged in
-      let breaks : Breaks g whole params r.state.history (step params n r.state line) (rows_committed r.state (input_of params line)) (line_cost g.cost params r.state.history line) (g.device now.house) ended =
-      subst (λ (s : State). Breaks g whole params r.state.history (step params n s line) (rows_committed s (input_of params line)) (line_cost g.cost params r.state.history line) (g.device now.house) ended) same b.breaks in
+      let breaks : Breaks g whole params r.state.history (step params n r.state line) (rows_committed r.state (input_of params line)) (MayTake false (input_of params line)) (line_cost g.cost params r.state.history line) (g.device now.house) ended =
+      subst (λ (s : State). Breaks g whole params r.state.history (step params n s line) (rows_committed s (input_of params line)) (MayTake false (input_of params line)) (line_cost g.cost params r.state.history line) (g.device now.house) ended) same b.breaks in
       let number : n ≡ 1 + length given = r.served.number in
       let coming : lines come ≡ line ∷ lines b.after = b.takes.all_lines in
       let all : state_after params 1 (state_at g h first) (lines input) ≡ state_after params (n + 1) (step params n r.state line).state (lines b.after) =
@@ -99,10 +98,10 @@ module _ {H D : Type 0} (g : Ghosts H D) (laws : LineLaws) (whole tells tells' s
       let next_committed : next_rows params (state_after params 1 (state_at g h first) given) (lines come) ≡ rows_committed r.state (input_of params line) =
       ap (next_rows params (state_after params 1 (state_at g h first) given)) coming
       ∙ ap (λ (s : State). rows_committed s (input_of params line)) (sym r.served.state) in
-      let reads : g.reads ended.device ≤ g.reads (g.device now.house) + line_cost g.cost params r.state.history line = breaks.reads in
-      let reads' : g.reads ran.device ≤ g.reads (g.device now.house) + line_cost g.cost params r.state.history line =
-      subst (λ (d : D). g.reads d ≤ g.reads (g.device now.house) + line_cost g.cost params r.state.history line) (sym disk) reads in
-      let so_far : g.reads (g.device now.house) ≤ g.reads (g.device first.house) + lines_cost g.cost params 1 (state_at g h first) given = r.reads in
+      let reads : MayServe false params (lines input) → g.reads ran.device ≤ g.reads (g.device now.house) + line_cost g.cost params r.state.history line =
+      λ reading. subst (λ (d : D). g.reads d ≤ g.reads (g.device now.house) + line_cost g.cost params r.state.history line) (sym disk)
+      (breaks.reads (first_may false params (lines come) line (lines b.after) coming
+      (coming_may laws false tells params (state_at g h first) r.state n input come stopped before virtual r.served reading))) in
       record {
         served = given;
         rest = lines come;
@@ -126,7 +125,7 @@ module _ {H D : Type 0} (g : Ghosts H D) (laws : LineLaws) (whole tells tells' s
                   (subst (λ (s : List Row). g.lacks_pages ran.device params r.state.history s) (sym next_committed)
                   (subst (λ (d : D). g.lacks_pages d params r.state.history (rows_committed r.state (input_of params line))) (sym disk) p.3)),
             );
-        reads = omega (arith, next, reads', so_far);
+        reads = λ reading. let last = reads reading in let so_far = r.reads reading in omega (arith, next, last, so_far);
         reads_between = λ b. absurd (outside b);
         any_moment = λ e. subst (λ (d : D). OnlyBetween g params h (state_after params 1 (state_at g h first) (lines input)).history (g.device first.house) d) (sym disk)
             (only_wider g params _ _ _ _ _ on (only_twice g params _ _ _ _ _ _ r.goes (goes_on_twice _ _ _ breaks.begins breaks.within) (r.any_moment e) (breaks.any_moment e)));

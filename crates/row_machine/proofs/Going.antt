@@ -1,5 +1,5 @@
 -- The invariant of the loop over lines.
-use Rattle.std.proofs.Common.{◌≡◌, ℕ, ◌+◌, ◌<◌, ◌≤◌, Bool, true, IsTrue, List, [], ◌++◌, length, ◌⊎◌, inl, inr, Option, None, Some, sym, ◌∙◌, ap, refl, arith, subst}
+use Rattle.std.proofs.Common.{◌≡◌, ℕ, ◌+◌, ◌≤◌, Bool, IsTrue, List, [], ◌++◌, length, ◌⊎◌, inl, inr, Option, None, Some, sym, ◌∙◌, ap, refl, arith, subst}
 use Rattle.std.proofs.lemmas.List.{append-nil}
 use Rattle.bw_types.specs.declared.params.Params.{Params}
 use Rattle.bw_types.specs.History.{History}
@@ -20,9 +20,8 @@ use Rattle.csv_rows.specs.Lines.{lines, PassesNoLineFeed}
 use Rattle.csv_rows.specs.Machine.{replies}
 use Rattle.row_machine.proofs.Lined.{not_both}
 use Rattle.row_machine.proofs.Parts.{more_twice, nothing_more, part_of_all}
-use Rattle.row_machine.proofs.Replies.{MayServe-later}
-use Rattle.row_machine.proofs.Served.{LineLaws, lines_split, served_whole}
-use Rattle.row_machine.proofs.Reached.{Reached, reached_nothing, reached_line}
+use Rattle.row_machine.proofs.Served.{LineLaws, served_whole}
+use Rattle.row_machine.proofs.Reached.{Reached, coming_may, reached_nothing, reached_line}
 use Rattle.row_machine.proofs.EndsLaws.{Written, ends_between, ends_within}
 
 -- what is known of a port at a moment: whether it tells, its bytes and its faults
@@ -121,14 +120,6 @@ going_put g first now source source' sink sink' sink'' gathered gathered' reader
       settled = r.settled;
     }
 
--- the lines to come may be served
-coming_may : {H D : Type 0} (g : Ghosts H D) (laws : LineLaws) (whole tells : Bool) (params : Params) (h : History) (first now : Desk H D g) (n : ℕ) (input come : List ℕ) (stopped : Option Line) (before virtual : List ℕ)
-    → Reached g whole tells params h first now n input come stopped before virtual → MayServe whole params (lines input) → MayServe whole params (lines come)
-coming_may g laws whole tells params h first now n input come stopped before virtual r may =
-    MayServe-later whole params (lines r.served.given) (lines come)
-    (subst (λ (ls : List (List ℕ)). MayServe whole params ls)
-    (lines_split laws tells params (state_at g h first) r.state n input come stopped before virtual r.served) may)
-
 -- one line more
 pub going_on : {H D : Type 0} (g : Ghosts H D) (laws : LineLaws) (first now now' : Desk H D g) (source source' source'' sink sink' : Port) (gathered gathered' : List ℕ) (reader reader' : ReaderState) (number : ℕ)
     → Going g first now source source' sink sink' gathered reader number
@@ -156,7 +147,7 @@ going_on g laws first now now' source source' source'' sink sink' gathered gathe
   reached = λ told whole h may stands.
       let r = o.reached told whole h may stands in
       let may' : MayServe whole first.params (lines (to_come reader source'.bytes)) =
-      coming_may g laws whole sink.tells first.params h first now number source.bytes (to_come reader source'.bytes) reader.stopped sink.bytes (sink'.bytes ++ gathered) r may in
+      coming_may laws whole sink.tells first.params (state_at g h first) r.state number source.bytes (to_come reader source'.bytes) reader.stopped sink.bytes (sink'.bytes ++ gathered) r.served may in
       reached_line g laws whole sink.tells first.params h first now now' number source.bytes (to_come reader source'.bytes) (to_come reader' source''.bytes) reader.stopped reader'.stopped sink.bytes sink'.bytes gathered gathered'
       r (nothing_to_come reader' source''.bytes)
       (subst (λ (p : Params). ServesLine g whole p number (to_come reader source'.bytes) (to_come reader' source''.bytes) reader'.stopped r.state.history now now' gathered gathered') o.params
@@ -276,7 +267,7 @@ going_ends g laws first now source source' source'' sink sink' gathered reader r
           (subst (λ (p : Params). BreaksOff g whole p number (to_come reader source'.bytes) r.state.history now ended) o.params
           (breaks w told' whole r.state.history
           (subst (λ (p : Params). MayServe whole p (lines (to_come reader source'.bytes))) (sym o.params)
-          (coming_may g laws whole sink.tells first.params h first now number source.bytes (to_come reader source'.bytes) reader.stopped sink.bytes (sink'.bytes ++ gathered) r may))
+          (coming_may laws whole sink.tells first.params (state_at g h first) r.state number source.bytes (to_come reader source'.bytes) reader.stopped sink.bytes (sink'.bytes ++ gathered) r.served may))
           (subst (λ (p : Params). g.stands whole (g.device now.house) p r.state.history) (sym o.params) r.at.stands)))
           closes.device (λ e. closes_same ended ran closes DiskFault (λ f. cc) e) (λ e. disk_stays ended ran closes e)
           (λ b. between_both ended ran closes w b)

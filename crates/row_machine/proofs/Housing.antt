@@ -1,5 +1,5 @@
 -- What a line does to what a crash may leave.
-use Rattle.std.proofs.Common.{Option, None, Some, Bool, true, false, nat_lt, nat_le, length, unwrap_or, if◌then◌else◌, ◌∷◌, ◌≡◌, ℕ, ◌≤◌, List, [], ◌++◌, ◌+◌, ◌⊎◌, inl, inr, Result, Ok, Err, refl, sym, ◌∙◌, ap, subst, append_assoc, arith}
+use Rattle.std.proofs.Common.{Option, None, Some, Bool, true, false, nat_lt, nat_le, length, unwrap_or, ◌∷◌, ◌≡◌, ℕ, ◌≤◌, List, [], ◌++◌, ◌+◌, ◌⊎◌, inl, inr, Result, Ok, Err, refl, sym, ◌∙◌, ap, subst, append_assoc, arith}
 use Rattle.std.proofs.lemmas.List.{append-nil}
 use Rattle.bw_types.specs.History.{History}
 use Rattle.bw_types.specs.declared.params.Params.{Params}
@@ -11,7 +11,7 @@ use Rattle.bw_types.specs.declared.row.Row.{Row}
 use Rattle.csv_rows.specs.Input.{input}
 use Rattle.csv_rows.specs.declared.input.Input.{Input}
 use Rattle.csv_rows.specs.declared.input.Input.TheVariants.{Stage, Commit, Forget, Ask}
-use Rattle.csv_rows.specs.Machine.{State, step, line_step, input_step, stage_step, commit_step, ask_step, rows_of, state_after, most_staged}
+use Rattle.csv_rows.specs.Machine.{State, step, line_step, stage_step, commit_step, ask_step, rows_of, state_after, most_staged}
 use Rattle.warehouse.specs.Committed.{after_commit}
 use Rattle.warehouse.specs.Crashes.{OnlyLeaves}
 use Rattle.warehouse.specs.declared.house.House.{Ghosts}

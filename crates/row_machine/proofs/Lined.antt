@@ -1,5 +1,5 @@
 -- A line that is taken off the input and served.
-use Rattle.std.proofs.Common.{◌≡◌, ℕ, ◌<◌, Bool, IsTrue, List, ◌∷◌, length, ◌⊎◌, inl, inr, Option, Result, Ok, Err, IfOk, IfErr, refl, sym, subst}
+use Rattle.std.proofs.Common.{◌≡◌, ℕ, ◌<◌, Bool, false, IsTrue, List, ◌∷◌, length, ◌⊎◌, inr, Option, Result, Ok, Err, IfOk, IfErr, sym, subst}
 use Rattle.bw_types.specs.History.{History}
 use Rattle.bw_types.specs.declared.params.Params.{Params}
 use Rattle.csv_rows.specs.Input.{input}
@@ -54,14 +54,14 @@ module _ {A D : Type 0} where
   never_limit P (Err ran) w = λ taken e. absurd (within_not ran.ending (InputLimit taken) w e)
 
 -- the first of the lines may be taken
-first_may : (whole : Bool) (params : Params) (all : List (List ℕ)) (line : List ℕ) (rest : List (List ℕ)) → all ≡ line ∷ rest
+pub first_may : (whole : Bool) (params : Params) (all : List (List ℕ)) (line : List ℕ) (rest : List (List ℕ)) → all ≡ line ∷ rest
     → MayServe whole params all → MayTake whole (input params line)
 first_may whole params all line rest e may = (subst (λ (ls : List (List ℕ)). MayServe whole params ls) e may).0
 
 module _ {H D : Type 0} (g : Ghosts H D) (source : Bool) (params : Params) (n : ℕ) (before after : List ℕ) (stopped : Option Line) (old : Desk H D g) (gathered gathered' : List ℕ) where
   pub text_line : (text line : List ℕ) (result : Result (Desk H D g) (Ran D)) → text ≡ line → (IsTrue source → TakesLine before line after stopped)
       → ((whole : Bool) (h : History) → MayTake whole (input params text) → g.stands whole (g.device old.house) params h
-      → ServesText g whole params h (step params n (state_at g h old) text) (rows_committed (state_at g h old) (input params text)) (line_cost g.cost params h text) (g.device old.house) gathered gathered' result)
+      → ServesText g whole params h (step params n (state_at g h old) text) (rows_committed (state_at g h old) (input params text)) (MayTake false (input params text)) (line_cost g.cost params h text) (g.device old.house) gathered gathered' result)
       → IfOk result (λ new. IsTrue source → (whole : Bool) (h : History) → MayServe whole params (lines before) → g.stands whole (g.device old.house) params h
       → ServesLine g whole params n before after stopped h old new gathered gathered')
   text_line text line (Ok new) e takes serves = λ told whole h may stands.
@@ -71,7 +71,7 @@ module _ {H D : Type 0} (g : Ghosts H D) (source : Bool) (params : Params) (n : 
 
   pub text_breaks : (text line : List ℕ) (result : Result (Desk H D g) (Ran D)) → text ≡ line → (IsTrue source → TakesLine before line after stopped)
       → ((whole : Bool) (h : History) → MayTake whole (input params text) → g.stands whole (g.device old.house) params h
-      → ServesText g whole params h (step params n (state_at g h old) text) (rows_committed (state_at g h old) (input params text)) (line_cost g.cost params h text) (g.device old.house) gathered gathered' result)
+      → ServesText g whole params h (step params n (state_at g h old) text) (rows_committed (state_at g h old) (input params text)) (MayTake false (input params text)) (line_cost g.cost params h text) (g.device old.house) gathered gathered' result)
       → IfErr result (λ ran. IsHouseEnding ran.ending → IsTrue source → (whole : Bool) (h : History) → MayServe whole params (lines before) → g.stands whole (g.device old.house) params h
       → BreaksOff g whole params n before h old ran)
   text_breaks text line (Ok new) e takes serves = tt
@@ -81,7 +81,7 @@ module _ {H D : Type 0} (g : Ghosts H D) (source : Bool) (params : Params) (n : 
 
   pub long_line : (most : ℕ) (result : Result (Desk H D g) (Ran D)) → (IsTrue source → TakesLongLine most before after stopped)
       → ((whole : Bool) (h : History) (line : List ℕ) → most < length line → g.stands whole (g.device old.house) params h
-      → ServesText g whole params h (step params n (state_at g h old) line) (rows_committed (state_at g h old) (input params line)) (line_cost g.cost params h line) (g.device old.house) gathered gathered' result)
+      → ServesText g whole params h (step params n (state_at g h old) line) (rows_committed (state_at g h old) (input params line)) (MayTake false (input params line)) (line_cost g.cost params h line) (g.device old.house) gathered gathered' result)
       → IfOk result (λ new. IsTrue source → (whole : Bool) (h : History) → MayServe whole params (lines before) → g.stands whole (g.device old.house) params h
       → ServesLine g whole params n before after stopped h old new gathered gathered')
   long_line most (Ok new) takes serves = λ told whole h may stands.
@@ -90,7 +90,7 @@ module _ {H D : Type 0} (g : Ghosts H D) (source : Bool) (params : Params) (n : 
 
   pub long_breaks : (most : ℕ) (result : Result (Desk H D g) (Ran D)) → (IsTrue source → TakesLongLine most before after stopped)
       → ((whole : Bool) (h : History) (line : List ℕ) → most < length line → g.stands whole (g.device old.house) params h
-      → ServesText g whole params h (step params n (state_at g h old) line) (rows_committed (state_at g h old) (input params line)) (line_cost g.cost params h line) (g.device old.house) gathered gathered' result)
+      → ServesText g whole params h (step params n (state_at g h old) line) (rows_committed (state_at g h old) (input params line)) (MayTake false (input params line)) (line_cost g.cost params h line) (g.device old.house) gathered gathered' result)
       → IfErr result (λ ran. IsHouseEnding ran.ending → IsTrue source → (whole : Bool) (h : History) → MayServe whole params (lines before) → g.stands whole (g.device old.house) params h
       → BreaksOff g whole params n before h old ran)
   long_breaks most (Ok new) takes serves = tt

@@ -1,9 +1,9 @@
 -- A line that is longer than a line may be.
-use Rattle.std.proofs.Common.{◌≡◌, ℕ, ◌<◌, Bool, true, false, nat_le, List, length, None, Some, refl, ◌∙◌, ap}
+use Rattle.std.proofs.Common.{◌≡◌, ℕ, ◌<◌, false, nat_le, List, length, None, Some, refl, ap}
 use Rattle.std.proofs.lemmas.Bool.{lt-leb}
 use Rattle.bw_types.specs.declared.params.Params.{Params}
 use Rattle.csv_rows.specs.Input.{input, longest_line}
-use Rattle.csv_rows.specs.Machine.{State, Step, step, line_step}
+use Rattle.csv_rows.specs.Machine.{State, step, line_step}
 use Rattle.csv_rows.specs.declared.reply.Reply.TheVariants.{Bad}
 
 -- it spells nothing

@@ -1,18 +1,27 @@
 -- How far a run has come between two lines.
-use Rattle.std.proofs.Common.{◌≡◌, ℕ, ◌+◌, ◌≤◌, Bool, true, IsTrue, List, [], ◌∷◌, ◌++◌, length, Option, None, Some, refl, sym, ◌∙◌, ap, subst, append_assoc, arith, add-zero}
+use Rattle.std.proofs.Common.{◌≡◌, ℕ, ◌+◌, ◌≤◌, Bool, true, false, List, [], ◌∷◌, ◌++◌, length, Option, None, Some, refl, sym, ◌∙◌, ap, subst, append_assoc, arith}
 use Rattle.bw_types.specs.History.{History}
 use Rattle.bw_types.specs.declared.params.Params.{Params}
+use Rattle.csv_rows.specs.Input.{input as input_of}
 use Rattle.csv_rows.specs.Lines.{lines}
 use Rattle.csv_rows.specs.declared.lines.Line.{Line}
 use Rattle.csv_rows.specs.declared.lines.Line.TheVariants.{End}
-use Rattle.csv_rows.specs.Machine.{State, step, replied, replies, state_after}
+use Rattle.csv_rows.specs.Machine.{State, step, replied, state_after}
 use Rattle.warehouse.specs.declared.house.House.{Ghosts}
 use Rattle.row_machine.specs.declared.desk.Desk.{Desk}
-use Rattle.row_machine.specs.Housed.{GoesOnFrom, IsAt, Settled, OnlyBetween}
+use Rattle.row_machine.specs.Housed.{GoesOnFrom, IsAt, MayTake, Settled, OnlyBetween}
 use Rattle.row_machine.specs.Serving.{state_at, Serves, ServesLine, MayServe, line_cost, lines_cost}
-use Rattle.row_machine.proofs.Replies.{state_after-append, lines_cost-append}
+use Rattle.row_machine.proofs.Replies.{state_after-append, lines_cost-append, MayServe-later}
+use Rattle.row_machine.proofs.Lined.{first_may}
 use Rattle.row_machine.proofs.Housing.{goes_on_same, goes_on_twice, step_goes_on, only_same, only_twice}
 use Rattle.row_machine.proofs.Served.{Served, OneLine, LineLaws, served_nothing, served_line, lines_split}
+
+-- the lines to come may be served where all lines may
+pub coming_may : (laws : LineLaws) (whole tells : Bool) (params : Params) (first now : State) (n : ℕ) (input come : List ℕ) (stopped : Option Line) (before written : List ℕ)
+    → Served tells params first now n input come stopped before written → MayServe whole params (lines input) → MayServe whole params (lines come)
+coming_may laws whole tells params first now n input come stopped before written served may =
+    MayServe-later whole params (lines served.given) (lines come)
+    (subst (λ (ls : List (List ℕ)). MayServe whole params ls) (lines_split laws tells params first now n input come stopped before written served) may)
 
 module _ {H D : Type 0} (g : Ghosts H D) where
   -- From the history h of the first desk some lines were served, which left the desk now. The replies to them are those
@@ -22,7 +31,7 @@ module _ {H D : Type 0} (g : Ghosts H D) where
     pub at : IsAt g whole params state now
     pub served : Served tells params (state_at g h first) state n input come stopped before replied_so_far
     pub goes : GoesOnFrom h state.history
-    pub reads : g.reads (g.device now.house) ≤ g.reads (g.device first.house) + lines_cost g.cost params 1 (state_at g h first) (lines served.given)
+    pub reads : MayServe false params (lines input) → g.reads (g.device now.house) ≤ g.reads (g.device first.house) + lines_cost g.cost params 1 (state_at g h first) (lines served.given)
     pub any_moment : whole ≡ true → OnlyBetween g params h state.history (g.device first.house) (g.device now.house)
     pub settled : whole ≡ true → Settled g params h (g.device first.house) → Settled g params state.history (g.device now.house)
 
@@ -33,7 +42,7 @@ module _ {H D : Type 0} (g : Ghosts H D) where
     at = record { stands = stands; staged = refl };
     served = served_nothing tells params (state_at g h first) input before;
     goes = goes_on_same h;
-    reads = omega arith;
+    reads = λ reading. omega arith;
     any_moment = λ e. only_same g params h h _ _ refl;
     settled = λ e s. s;
   }
@@ -63,8 +72,8 @@ module _ {H D : Type 0} (g : Ghosts H D) where
   reached_line laws whole tells params h first now new n input come come' stopped stopped' before written gathered gathered' r nothing l =
       let line = l.line in
       let same : state_at g r.state.history now ≡ r.state = state_is r.state now r.at.staged in
-      let serves : Serves g whole params r.state.history (step params n r.state line) (line_cost g.cost params r.state.history line) (g.device now.house) new gathered gathered' =
-      subst (λ (s : State). Serves g whole params r.state.history (step params n s line) (line_cost g.cost params r.state.history line) (g.device now.house) new gathered gathered') same l.serves in
+      let serves : Serves g whole params r.state.history (step params n r.state line) (MayTake false (input_of params line)) (line_cost g.cost params r.state.history line) (g.device now.house) new gathered gathered' =
+      subst (λ (s : State). Serves g whole params r.state.history (step params n s line) (MayTake false (input_of params line)) (line_cost g.cost params r.state.history line) (g.device now.house) new gathered gathered') same l.serves in
       let goes : GoesOnFrom r.state.history (step params n r.state line).state.history = step_goes_on params n r.state line in
       let one : OneLine tells params n come come' stopped' r.state (step params n r.state line).state (written ++ gathered) (written ++ gathered') =
       record {
@@ -80,8 +89,10 @@ module _ {H D : Type 0} (g : Ghosts H D) where
         at = serves.at;
         served = served.0;
         goes = goes_on_twice _ _ _ r.goes goes;
-        reads = subst (λ (ls : List (List ℕ)). g.reads (g.device new.house) ≤ g.reads (g.device first.house) + lines_cost g.cost params 1 (state_at g h first) ls) (sym served.1)
-            (reads_more params (state_at g h first) r.state n (lines r.served.given) line _ _ _ r.served.number r.served.state r.reads serves.reads);
+        reads = λ reading. subst (λ (ls : List (List ℕ)). g.reads (g.device new.house) ≤ g.reads (g.device first.house) + lines_cost g.cost params 1 (state_at g h first) ls) (sym served.1)
+            (reads_more params (state_at g h first) r.state n (lines r.served.given) line _ _ _ r.served.number r.served.state (r.reads reading)
+            (serves.reads (first_may false params (lines come) line (lines come') l.takes.all_lines
+            (coming_may laws false tells params (state_at g h first) r.state n input come stopped before (written ++ gathered) r.served reading))));
         any_moment = λ e. only_twice g params _ _ _ _ _ _ r.goes goes (r.any_moment e) (serves.any_moment e);
         settled = λ e s. serves.settled e (r.settled e s);
       }

@@ -1,5 +1,5 @@
 -- How far an input is served: the lines that were taken off it are replied, and the others are to come.
-use Rattle.std.proofs.Common.{◌≡◌, ℕ, suc, ◌+◌, Bool, true, IsTrue, List, [], ◌∷◌, ◌++◌, length, ◌⊎◌, inl, inr, Option, None, Some, sym, ◌∙◌, ap, refl, append_assoc, arith, length-append}
+use Rattle.std.proofs.Common.{◌≡◌, ℕ, ◌+◌, Bool, true, IsTrue, List, [], ◌∷◌, ◌++◌, length, ◌⊎◌, inl, inr, Option, None, Some, sym, ◌∙◌, ap, refl, append_assoc, arith, length-append}
 use Rattle.std.proofs.lemmas.List.{append-nil}
 use Rattle.bw_types.specs.declared.params.Params.{Params}
 use Rattle.csv_rows.specs.Lines.{lines, is_whole, whole_part, HasNoLineFeed, TakesLine, PassesNoLineFeed}

@@ -1,5 +1,5 @@
 -- A line that the machine takes and whose reply is gathered.
-use Rattle.std.proofs.Common.{◌≡◌, ℕ, ◌+◌, ◌≤◌, Bool, true, List, ◌++◌, ◌⊎◌, Result, Ok, Err, OnOk, IfOk, IfErr, refl, sym, ◌∙◌, ap, subst}
+use Rattle.std.proofs.Common.{◌≡◌, ℕ, ◌+◌, ◌≤◌, Bool, true, List, ◌++◌, Result, Ok, Err, OnOk, IfOk, IfErr, refl, sym, ◌∙◌, ap, subst}
 use Rattle.bw_types.specs.History.{History}
 use Rattle.bw_types.specs.declared.params.Params.{Params}
 use Rattle.bw_types.specs.declared.row.Row.{Row}
@@ -11,22 +11,22 @@ use Rattle.row_machine.specs.declared.ending.Ran.{Ran}
 use Rattle.row_machine.specs.declared.ending.Ending.{Ending}
 use Rattle.row_machine.specs.declared.ending.Ending.TheVariants.{Fine, ReadFault, WriteFault, NoMemory, InputLimit, DiskFault, Damaged, PageLimit}
 use Rattle.row_machine.specs.Housed.{GoesOnFrom, IsAt, Went, Stops, StopsFor, Settled, SettledBetween, OnlyBetween, Leaves}
-use Rattle.row_machine.specs.Serving.{Serves, Breaks, ServesText}
+use Rattle.row_machine.specs.Serving.{Breaks, ServesText}
 use Rattle.row_machine.proofs.Housing.{goes_on_same, settled_between}
 
-module _ {H D : Type 0} (g : Ghosts H D) (whole : Bool) (params : Params) (h : History) (t : Step) (rows : List Row) (cost : ℕ) (before : D) where
+module _ {H D : Type 0} (g : Ghosts H D) (whole : Bool) (params : Params) (h : History) (t : Step) (rows : List Row) (reading : Type 0) (cost : ℕ) (before : D) where
   -- the step was made, and its reply is gathered, or there was no memory for it
   pub text_served : (taken : Taken H D g) (gathered gathered' : List ℕ) (result : Result (Desk H D g) (Ran D))
       → Went g whole params t (Ok taken) → (whole ≡ true → Leaves g params h t.state.history before (Ok taken)) → GoesOnFrom h t.state.history
-      → g.reads (g.device taken.desk.house) ≤ g.reads before + cost
+      → (reading → g.reads (g.device taken.desk.house) ≤ g.reads before + cost)
       → IfOk result (λ new. new ≡ taken.desk)
       → OnOk result (gathered' ≡ gathered ++ replied taken.reply)
       → IfErr result (λ ran. (ran.device ≡ g.device taken.desk.house) × (ran.ending ≡ NoMemory))
-      → ServesText g whole params h t rows cost before gathered gathered' result
+      → ServesText g whole params h t rows reading cost before gathered gathered' result
   text_served taken gathered gathered' (Ok desk) went leaves goes reads same gathers ended = record {
     at = subst (λ (d : Desk H D g). IsAt g whole params t.state d) (sym same) went.0;
     replies = gathers ∙ ap (λ r. gathered ++ replied r) went.1;
-    reads = subst (λ (d : Desk H D g). g.reads (g.device d.house) ≤ g.reads before + cost) (sym same) reads;
+    reads = λ r. subst (λ (d : Desk H D g). g.reads (g.device d.house) ≤ g.reads before + cost) (sym same) (reads r);
     any_moment = λ e. subst (λ (d : Desk H D g). OnlyBetween g params h t.state.history before (g.device d.house)) (sym same) (leaves e).any_moment;
     settled = λ e s. subst (λ (d : Desk H D g). Settled g params t.state.history (g.device d.house)) (sym same) ((leaves e).settled s);
   }
@@ -37,7 +37,7 @@ module _ {H D : Type 0} (g : Ghosts H D) (whole : Bool) (params : Params) (h : H
     stands = λ other. subst (λ (d : D). g.stands whole d params t.state.history) (sym ended.0) went.0.stands;
     undamaged = λ page e. let no : NoMemory ≡ Damaged page = sym ended.1 ∙ e in cc;
     page_limit = λ n e. absurd (let no : NoMemory ≡ PageLimit n = sym ended.1 ∙ e in cc);
-    reads = subst (λ (d : D). g.reads d ≤ g.reads before + cost) (sym ended.0) reads;
+    reads = λ r. subst (λ (d : D). g.reads d ≤ g.reads before + cost) (sym ended.0) (reads r);
     any_moment = λ e. subst (λ (d : D). OnlyBetween g params h t.state.history before d) (sym ended.0) (leaves e).any_moment;
     settled = λ e s. subst (λ (d : D). SettledBetween g params t.state.history t.state.history d) (sym ended.0)
         (settled_between g params t.state.history t.state.history t.state.history _ (goes_on_same t.state.history) (goes_on_same t.state.history) ((leaves e).settled s));
@@ -56,7 +56,7 @@ module _ {H D : Type 0} (g : Ghosts H D) (whole : Bool) (params : Params) (h : H
 
   -- the run ended in the step
   pub step_broke : (ran : Ran D) → Stops g whole params h t rows (Err ran) → (whole ≡ true → Leaves g params h t.state.history before (Err ran)) → GoesOnFrom h t.state.history
-      → g.reads ran.device ≤ g.reads before + cost → Breaks g whole params h t rows cost before ran
+      → (reading → g.reads ran.device ≤ g.reads before + cost) → Breaks g whole params h t rows reading cost before ran
   step_broke ran stops leaves goes reads = record {
     sure = h;
     begins = goes_on_same h;

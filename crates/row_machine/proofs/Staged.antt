@@ -1,5 +1,5 @@
 -- What is staged keeps fitting: tests of every row in every session.
-use Rattle.std.proofs.Common.{◌≡◌, ℕ, zero, suc, Bool, true, false, ◌&&◌, List, [], ◌∷◌, ◌++◌, slice_index_or, slice_set, refl, rules, arith}
+use Rattle.std.proofs.Common.{◌≡◌, ℕ, zero, suc, Bool, true, false, ◌&&◌, List, [], ◌∷◌, ◌++◌, slice_index_or, slice_set, refl}
 use Rattle.std.proofs.Common.{Result, Ok, Err, OnOk, OnErr, ap, ◌∙◌}
 use Rattle.std.specs.List.{list_all}
 use Rattle.bw_types.specs.Fits.{row_fits}

@@ -1,5 +1,5 @@
 -- What a line does to a desk over any house, and to the device below it.
-use Rattle.std.specs.Prelude.{◌≡◌, ◌⊎◌, ℕ, ◌+◌, ◌≤◌, ⊤, Bool, true, false, List, [], ◌++◌, Option, Some, None, Result, Ok, Err, unwrap_or, nat_le, if◌then◌else◌}
+use Rattle.std.specs.Prelude.{◌≡◌, ℕ, ◌+◌, ◌≤◌, ⊤, Bool, true, false, List, [], ◌++◌, Option, Some, None, Result, Ok, Err, IfErr, unwrap_or, nat_le, if◌then◌else◌}
 use Rattle.bw_types.specs.History.{History, last_version}
 use Rattle.bw_types.specs.declared.params.Params.{Params}
 use Rattle.bw_types.specs.declared.query.Query.{Query}
@@ -140,3 +140,16 @@ module _ {H D : Type 0} (g : Ghosts H D) where
   abbrev pub DiskCause : D → Result (Taken H D g) (Ran D) → Type 0
   DiskCause before (Ok taken) = ⊤
   DiskCause before (Err ran) = ran.ending ≡ DiskFault → Rose (g.faults before) (g.faults ran.device)
+
+  -- What a line did. From each history that the device stands for the machine is to make this step, which commits these
+  -- rows, and where the line is none that commits it may ask for so many reads. On a device that is whole for queries alone
+  -- that is said only of lines that may be taken there.
+  pub record Takes (ps : Params) (before : D) (may : Bool → Type 0) (t : History → Step) (rows : History → List Row) (cost : History → ℕ) (result : Result (Taken H D g) (Ran D)) : Type 0 where
+    pub params : KeepsParams ps result
+    pub went : (whole : Bool) (h : History) → may whole → g.stands whole before ps h → Went whole ps (t h) result
+    pub stops : (whole : Bool) (h : History) → may whole → g.stands whole before ps h → Stops whole ps h (t h) (rows h) result
+    pub reads : (whole : Bool) (h : History) → may false → g.stands whole before ps h → g.reads (device_left result) ≤ g.reads before + cost h
+    pub leaves : (h : History) → g.stands true before ps h → Leaves ps h (t h).state.history before result
+    pub faults : g.faults before ≤ g.faults (device_left result)
+    pub own : IfErr result (λ ran. IsHouseEnding ran.ending)
+    pub disk : DiskCause before result

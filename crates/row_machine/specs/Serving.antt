@@ -1,5 +1,5 @@
 -- What serving lines does to the input, the machine, its device and the output.
-use Rattle.std.specs.Prelude.{◌≡◌, ◌⊎◌, ℕ, ◌+◌, ◌<◌, ◌≤◌, ⊤, Bool, true, IsTrue, List, [], ◌∷◌, ◌++◌, length, Option, Some, IfSome, Result, Ok, Err}
+use Rattle.std.specs.Prelude.{◌≡◌, ℕ, ◌+◌, ◌<◌, ◌≤◌, ⊤, Bool, true, false, IsTrue, List, [], ◌∷◌, ◌++◌, length, Option, Some, IfSome, Result, Ok, Err}
 use Rattle.bw_types.specs.History.{History}
 use Rattle.bw_types.specs.declared.params.Params.{Params}
 use Rattle.bw_types.specs.declared.query.Query.{Query}
@@ -110,17 +110,17 @@ module _ {H D : Type 0} (g : Ghosts H D) where
   device_after (Ok desk) = g.device desk.house
   device_after (Err ran) = ran.device
 
-  -- From the history h the machine made this step, and its reply was gathered.
-  pub record Serves (whole : Bool) (params : Params) (h : History) (t : Step) (cost : ℕ) (before : D) (new : Desk H D g) (gathered gathered' : List ℕ) : Type 0 where
+  -- From the history h the machine made this step, and its reply was gathered. Where the line only reads, the reads are counted.
+  pub record Serves (whole : Bool) (params : Params) (h : History) (t : Step) (reading : Type 0) (cost : ℕ) (before : D) (new : Desk H D g) (gathered gathered' : List ℕ) : Type 0 where
     pub at : IsAt g whole params t.state new
     pub replies : gathered' ≡ gathered ++ replied t.reply
-    pub reads : g.reads (g.device new.house) ≤ g.reads before + cost
+    pub reads : reading → g.reads (g.device new.house) ≤ g.reads before + cost
     pub any_moment : whole ≡ true → OnlyBetween g params h t.state.history before (g.device new.house)
     pub settled : whole ≡ true → Settled g params h before → Settled g params t.state.history (g.device new.house)
 
   -- From the history h the machine was to make this step, which commits these rows, and the run ended in it. The history that is sure is that
   -- before the step or that after it, and what a crash may leave lies between the sure one and that after it.
-  pub record Breaks (whole : Bool) (params : Params) (h : History) (t : Step) (rows : List Row) (cost : ℕ) (before : D) (ran : Ran D) : Type 0 where
+  pub record Breaks (whole : Bool) (params : Params) (h : History) (t : Step) (rows : List Row) (reading : Type 0) (cost : ℕ) (before : D) (ran : Ran D) : Type 0 where
     pub sure : History
     pub begins : GoesOnFrom h sure
     pub within : GoesOnFrom sure t.state.history
@@ -128,20 +128,20 @@ module _ {H D : Type 0} (g : Ghosts H D) where
     pub undamaged : (page : ℕ) → ran.ending ≡ Damaged page → ⊥
     pub page_limit : (allotted : ℕ) → ran.ending ≡ PageLimit allotted
         → IsVersion t.reply × (sure ≡ h) × (allotted ≡ params.pages) × g.lacks_pages ran.device params h rows
-    pub reads : g.reads ran.device ≤ g.reads before + cost
+    pub reads : reading → g.reads ran.device ≤ g.reads before + cost
     pub any_moment : whole ≡ true → OnlyBetween g params h t.state.history before ran.device
     pub settled : whole ≡ true → Settled g params h before → SettledBetween g params sure t.state.history ran.device
 
   -- The line is served, or the run ends in it.
-  abbrev pub ServesText : Bool → Params → History → Step → List Row → ℕ → D → List ℕ → List ℕ → Result (Desk H D g) (Ran D) → Type 0
-  ServesText whole params h t rows cost before gathered gathered' (Ok desk) = Serves whole params h t cost before desk gathered gathered'
-  ServesText whole params h t rows cost before gathered gathered' (Err ran) = Breaks whole params h t rows cost before ran
+  abbrev pub ServesText : Bool → Params → History → Step → List Row → Type 0 → ℕ → D → List ℕ → List ℕ → Result (Desk H D g) (Ran D) → Type 0
+  ServesText whole params h t rows reading cost before gathered gathered' (Ok desk) = Serves whole params h t reading cost before desk gathered gathered'
+  ServesText whole params h t rows reading cost before gathered gathered' (Err ran) = Breaks whole params h t rows reading cost before ran
 
   -- The next line, which has the number n, is taken off the input and served.
   pub record ServesLine (whole : Bool) (params : Params) (n : ℕ) (before after : List ℕ) (stopped : Option Line) (h : History) (old new : Desk H D g) (gathered gathered' : List ℕ) : Type 0 where
     pub line : List ℕ
     pub takes : TakesLine before line after stopped
-    pub serves : Serves whole params h (step params n (state_at h old) line) (line_cost g.cost params h line) (g.device old.house) new gathered gathered'
+    pub serves : Serves whole params h (step params n (state_at h old) line) (MayTake false (input params line)) (line_cost g.cost params h line) (g.device old.house) new gathered gathered'
 
   -- The next line, which has the number n, is taken off the input, and the run ends in it.
   pub record BreaksOff (whole : Bool) (params : Params) (n : ℕ) (before : List ℕ) (h : History) (old : Desk H D g) (ran : Ran D) : Type 0 where
@@ -149,7 +149,7 @@ module _ {H D : Type 0} (g : Ghosts H D) where
     pub after : List ℕ
     pub stopped : Option Line
     pub takes : TakesLine before line after stopped
-    pub breaks : Breaks whole params h (step params n (state_at h old) line) (rows_committed (state_at h old) (input params line)) (line_cost g.cost params h line) (g.device old.house) ran
+    pub breaks : Breaks whole params h (step params n (state_at h old) line) (rows_committed (state_at h old) (input params line)) (MayTake false (input params line)) (line_cost g.cost params h line) (g.device old.house) ran
 
   -- What is left when a run over an input ends. Some of its lines were served whole, and what was written are replies
   -- to them, from the first on. The history that is sure has all that these lines have committed; the device stands for it, unless
@@ -171,7 +171,7 @@ module _ {H D : Type 0} (g : Ghosts H D) where
     pub page_limit : (allotted : ℕ) → ran.ending ≡ PageLimit allotted
         → NextIsVersion params (1 + length served) (state_after params 1 begin served) rest × (sure ≡ (state_after params 1 begin served).history)
         × (allotted ≡ params.pages) × g.lacks_pages ran.device params sure (next_rows params (state_after params 1 begin served) rest)
-    pub reads : g.reads ran.device ≤ g.reads before + (lines_cost g.cost params 1 begin served + next_cost g.cost params (state_after params 1 begin served) rest)
-    pub reads_between : IsBetweenLines ran.ending → g.reads ran.device ≤ g.reads before + lines_cost g.cost params 1 begin served
+    pub reads : MayServe false params (lines input) → g.reads ran.device ≤ g.reads before + (lines_cost g.cost params 1 begin served + next_cost g.cost params (state_after params 1 begin served) rest)
+    pub reads_between : IsBetweenLines ran.ending → MayServe false params (lines input) → g.reads ran.device ≤ g.reads before + lines_cost g.cost params 1 begin served
     pub any_moment : whole ≡ true → OnlyBetween g params begin.history (state_after params 1 begin (lines input)).history before ran.device
     pub settled : whole ≡ true → Settled g params begin.history before → SettledBetween g params sure (state_after params 1 begin (lines input)).history ran.device

@@ -1,6 +1,6 @@
 //! The machine of rows and replies: a history and sixteen sessions, and the step on one line.
 
-ghost use Rattle.std.specs.Prelude.{[], IfErr, ◌≡◌, ◌+◌, ◌≤◌, ℕ, Bool, true, IsTrue, Some, None, unwrap_or};
+ghost use Rattle.std.specs.Prelude.{[], ◌≡◌, ◌≤◌, ⊤, IsTrue, Some, None, unwrap_or};
 ghost use Rattle.bw_types.specs.History.{History, last_version};
 ghost use Rattle.bw_types.specs.Fits.{IsInRange, row_fits, query_fits};
 ghost use Rattle.csv_rows.specs.Input.{InputFits, input};
@@ -36,7 +36,7 @@ pub struct Taken<H: House> {
 
 impl<H: House> Desk<H> {
     ghost use Rattle.csv_rows.specs.Machine.{begun};
-    ghost use Rattle.row_machine.specs.Housed.{IsHouseEnding, MayTake, rows_committed, input_cost, device_left, Went, Stops, Leaves, KeepsParams, DiskCause};
+    ghost use Rattle.row_machine.specs.Housed.{MayTake, Takes, input_cost, rows_committed};
 
     /// The house, and nothing staged.
     pub fn new(alloc: Global, house: H) -> Desk<H>
@@ -73,19 +73,9 @@ impl<H: House> Desk<H> {
         ahead: &[u8],
     ) -> Result<Taken<H>, Ran<H::Device>>
         requires { IsInRange self.params }
-        ensures params { KeepsParams ⟦<H as House>⟧ self.params result }
-        ensures went { (whole : Bool) (h : History) → MayTake whole (input self.params line.now) → H.stands whole (H.device self.house) self.params h →
-            Went ⟦<H as House>⟧ whole self.params (step self.params number (record { history = h; staged = self.sessions }) line.now) result }
-        ensures stops { (whole : Bool) (h : History) → MayTake whole (input self.params line.now) → H.stands whole (H.device self.house) self.params h →
-            Stops ⟦<H as House>⟧ whole self.params h (step self.params number (record { history = h; staged = self.sessions }) line.now)
-            (rows_committed (record { history = h; staged = self.sessions }) (input self.params line.now)) result }
-        ensures reads { (whole : Bool) (h : History) → H.stands whole (H.device self.house) self.params h →
-            H.reads (device_left ⟦<H as House>⟧ result) ≤ H.reads (H.device self.house) + input_cost H.cost self.params h (input self.params line.now) }
-        ensures leaves { (h : History) → H.stands true (H.device self.house) self.params h →
-            Leaves ⟦<H as House>⟧ self.params h (step self.params number (record { history = h; staged = self.sessions }) line.now).state.history (H.device self.house) result }
-        ensures faults { H.faults (H.device self.house) ≤ H.faults (device_left ⟦<H as House>⟧ result) }
-        ensures own { IfErr result (λ ran. IsHouseEnding ran.ending) }
-        ensures disk { DiskCause ⟦<H as House>⟧ (H.device self.house) result }
+        ensures { Takes ⟦<H as House>⟧ self.params (H.device self.house) (λ whole. MayTake whole (input self.params line.now))
+            (λ h. step self.params number (record { history = h; staged = self.sessions }) line.now)
+            (λ h. rows_committed (record { history = h; staged = self.sessions }) (input self.params line.now)) (λ h. input_cost H.cost self.params h (input self.params line.now)) result }
     {
         let mut desk = self;
         let params = desk.params;
@@ -102,19 +92,9 @@ impl<H: House> Desk<H> {
     // The step on what a line spells.
     fn take_input(self, number: u64, input: &Input) -> Result<Taken<H>, Ran<H::Device>>
         requires { InputFits self.params input.now }
-        ensures params { KeepsParams ⟦<H as House>⟧ self.params result }
-        ensures went { (whole : Bool) (h : History) → MayTake whole (Some input.now) → H.stands whole (H.device self.house) self.params h →
-            Went ⟦<H as House>⟧ whole self.params (input_step self.params number (record { history = h; staged = self.sessions }) input.now) result }
-        ensures stops { (whole : Bool) (h : History) → MayTake whole (Some input.now) → H.stands whole (H.device self.house) self.params h →
-            Stops ⟦<H as House>⟧ whole self.params h (input_step self.params number (record { history = h; staged = self.sessions }) input.now)
-            (rows_committed (record { history = h; staged = self.sessions }) (Some input.now)) result }
-        ensures reads { (whole : Bool) (h : History) → H.stands whole (H.device self.house) self.params h →
-            H.reads (device_left ⟦<H as House>⟧ result) ≤ H.reads (H.device self.house) + input_cost H.cost self.params h (Some input.now) }
-        ensures leaves { (h : History) → H.stands true (H.device self.house) self.params h →
-            Leaves ⟦<H as House>⟧ self.params h (input_step self.params number (record { history = h; staged = self.sessions }) input.now).state.history (H.device self.house) result }
-        ensures faults { H.faults (H.device self.house) ≤ H.faults (device_left ⟦<H as House>⟧ result) }
-        ensures own { IfErr result (λ ran. IsHouseEnding ran.ending) }
-        ensures disk { DiskCause ⟦<H as House>⟧ (H.device self.house) result }
+        ensures { Takes ⟦<H as House>⟧ self.params (H.device self.house) (λ whole. MayTake whole (Some input.now))
+            (λ h. input_step self.params number (record { history = h; staged = self.sessions }) input.now)
+            (λ h. rows_committed (record { history = h; staged = self.sessions }) (Some input.now)) (λ h. input_cost H.cost self.params h (Some input.now)) result }
     {
         match *input {
             Input::Stage { session, row } => self.stage(number, session, &row),
@@ -129,18 +109,9 @@ impl<H: House> Desk<H> {
         requires some { 1 ≤ session }
         requires sixteen { session ≤ 16 }
         requires fits { IsTrue (row_fits self.params row.now) }
-        ensures params { KeepsParams ⟦<H as House>⟧ self.params result }
-        ensures went { (whole : Bool) (h : History) → H.stands whole (H.device self.house) self.params h →
-            Went ⟦<H as House>⟧ whole self.params (stage_step number (record { history = h; staged = self.sessions }) session row.now) result }
-        ensures stops { (whole : Bool) (h : History) → H.stands whole (H.device self.house) self.params h →
-            Stops ⟦<H as House>⟧ whole self.params h (stage_step number (record { history = h; staged = self.sessions }) session row.now) [] result }
-        ensures reads { (whole : Bool) (h : History) → H.stands whole (H.device self.house) self.params h →
-            H.reads (device_left ⟦<H as House>⟧ result) ≤ H.reads (H.device self.house) + 0 }
-        ensures leaves { (h : History) → H.stands true (H.device self.house) self.params h →
-            Leaves ⟦<H as House>⟧ self.params h (stage_step number (record { history = h; staged = self.sessions }) session row.now).state.history (H.device self.house) result }
-        ensures faults { H.faults (H.device self.house) ≤ H.faults (device_left ⟦<H as House>⟧ result) }
-        ensures own { IfErr result (λ ran. IsHouseEnding ran.ending) }
-        ensures disk { DiskCause ⟦<H as House>⟧ (H.device self.house) result }
+        ensures { Takes ⟦<H as House>⟧ self.params (H.device self.house) (λ whole. ⊤)
+            (λ h. stage_step number (record { history = h; staged = self.sessions }) session row.now)
+            (λ h. []) (λ h. 0) result }
     {
         let mut desk = self;
         match desk.sessions.stage(session, row) {
@@ -157,18 +128,9 @@ impl<H: House> Desk<H> {
     fn forget(self, number: u64, session: u8) -> Result<Taken<H>, Ran<H::Device>>
         requires some { 1 ≤ session }
         requires sixteen { session ≤ 16 }
-        ensures params { KeepsParams ⟦<H as House>⟧ self.params result }
-        ensures went { (whole : Bool) (h : History) → H.stands whole (H.device self.house) self.params h →
-            Went ⟦<H as House>⟧ whole self.params (input_step self.params number (record { history = h; staged = self.sessions }) (Input.Forget session)) result }
-        ensures stops { (whole : Bool) (h : History) → H.stands whole (H.device self.house) self.params h →
-            Stops ⟦<H as House>⟧ whole self.params h (input_step self.params number (record { history = h; staged = self.sessions }) (Input.Forget session)) [] result }
-        ensures reads { (whole : Bool) (h : History) → H.stands whole (H.device self.house) self.params h →
-            H.reads (device_left ⟦<H as House>⟧ result) ≤ H.reads (H.device self.house) + 0 }
-        ensures leaves { (h : History) → H.stands true (H.device self.house) self.params h →
-            Leaves ⟦<H as House>⟧ self.params h (input_step self.params number (record { history = h; staged = self.sessions }) (Input.Forget session)).state.history (H.device self.house) result }
-        ensures faults { H.faults (H.device self.house) ≤ H.faults (device_left ⟦<H as House>⟧ result) }
-        ensures own { IfErr result (λ ran. IsHouseEnding ran.ending) }
-        ensures disk { DiskCause ⟦<H as House>⟧ (H.device self.house) result }
+        ensures { Takes ⟦<H as House>⟧ self.params (H.device self.house) (λ whole. ⊤)
+            (λ h. input_step self.params number (record { history = h; staged = self.sessions }) (Input.Forget session))
+            (λ h. []) (λ h. 0) result }
     {
         let mut desk = self;
         desk.sessions.clear(session);
@@ -182,18 +144,9 @@ impl<H: House> Desk<H> {
     fn commit(self, number: u64, session: u8) -> Result<Taken<H>, Ran<H::Device>>
         requires some { 1 ≤ session }
         requires sixteen { session ≤ 16 }
-        ensures params { KeepsParams ⟦<H as House>⟧ self.params result }
-        ensures went { (whole : Bool) (h : History) → whole ≡ true → H.stands whole (H.device self.house) self.params h →
-            Went ⟦<H as House>⟧ whole self.params (commit_step (record { history = h; staged = self.sessions }) session (first_refusal self.params h (rows_of (record { history = h; staged = self.sessions }) session))) result }
-        ensures stops { (whole : Bool) (h : History) → whole ≡ true → H.stands whole (H.device self.house) self.params h →
-            Stops ⟦<H as House>⟧ whole self.params h (commit_step (record { history = h; staged = self.sessions }) session (first_refusal self.params h (rows_of (record { history = h; staged = self.sessions }) session)))
-            (rows_of (record { history = h; staged = self.sessions }) session) result }
-        ensures reads { H.reads (device_left ⟦<H as House>⟧ result) ≤ H.reads (H.device self.house) + 0 }
-        ensures leaves { (h : History) → H.stands true (H.device self.house) self.params h →
-            Leaves ⟦<H as House>⟧ self.params h (commit_step (record { history = h; staged = self.sessions }) session (first_refusal self.params h (rows_of (record { history = h; staged = self.sessions }) session))).state.history (H.device self.house) result }
-        ensures faults { H.faults (H.device self.house) ≤ H.faults (device_left ⟦<H as House>⟧ result) }
-        ensures own { IfErr result (λ ran. IsHouseEnding ran.ending) }
-        ensures disk { DiskCause ⟦<H as House>⟧ (H.device self.house) result }
+        ensures { Takes ⟦<H as House>⟧ self.params (H.device self.house) (λ whole. IsTrue whole)
+            (λ h. commit_step (record { history = h; staged = self.sessions }) session (first_refusal self.params h (rows_of (record { history = h; staged = self.sessions }) session)))
+            (λ h. rows_of (record { history = h; staged = self.sessions }) session) (λ h. 0) result }
     {
         let Desk {
             params,
@@ -255,18 +208,9 @@ impl<H: House> Desk<H> {
         query: &Query,
     ) -> Result<Taken<H>, Ran<H::Device>>
         requires { IsTrue (query_fits self.params query.now) }
-        ensures params { KeepsParams ⟦<H as House>⟧ self.params result }
-        ensures went { (whole : Bool) (h : History) → H.stands whole (H.device self.house) self.params h →
-            Went ⟦<H as House>⟧ whole self.params (ask_step self.params number (record { history = h; staged = self.sessions }) (unwrap_or version (last_version h)) query.now) result }
-        ensures stops { (whole : Bool) (h : History) → H.stands whole (H.device self.house) self.params h →
-            Stops ⟦<H as House>⟧ whole self.params h (ask_step self.params number (record { history = h; staged = self.sessions }) (unwrap_or version (last_version h)) query.now) [] result }
-        ensures reads { (whole : Bool) (h : History) → H.stands whole (H.device self.house) self.params h →
-            H.reads (device_left ⟦<H as House>⟧ result) ≤ H.reads (H.device self.house) + input_cost H.cost self.params h (Some (Input.Ask version query.now)) }
-        ensures leaves { (h : History) → H.stands true (H.device self.house) self.params h →
-            Leaves ⟦<H as House>⟧ self.params h (ask_step self.params number (record { history = h; staged = self.sessions }) (unwrap_or version (last_version h)) query.now).state.history (H.device self.house) result }
-        ensures faults { H.faults (H.device self.house) ≤ H.faults (device_left ⟦<H as House>⟧ result) }
-        ensures own { IfErr result (λ ran. IsHouseEnding ran.ending) }
-        ensures disk { DiskCause ⟦<H as House>⟧ (H.device self.house) result }
+        ensures { Takes ⟦<H as House>⟧ self.params (H.device self.house) (λ whole. ⊤)
+            (λ h. ask_step self.params number (record { history = h; staged = self.sessions }) (unwrap_or version (last_version h)) query.now)
+            (λ h. []) (λ h. input_cost H.cost self.params h (Some (Input.Ask version query.now))) result }
     {
         let mut desk = self;
         let version = version.unwrap_or(desk.house.last());

@@ -55,7 +55,7 @@ fn serve_text<H: House>(
     ensures params { IfOk result (λ new. new.params ≡ desk.params) }
     ensures serves { (whole : Bool) (h : History) → MayTake whole (input desk.params line.now) → H.stands whole (H.device desk.house) desk.params h →
         ServesText ⟦<H as House>⟧ whole desk.params h (step desk.params number (state_at ⟦<H as House>⟧ h desk) line.now)
-        (rows_committed (state_at ⟦<H as House>⟧ h desk) (input desk.params line.now)) (line_cost H.cost desk.params h line.now) (H.device desk.house) (gathered outbox.old) (gathered outbox.new) result }
+        (rows_committed (state_at ⟦<H as House>⟧ h desk) (input desk.params line.now)) (MayTake false (input desk.params line.now)) (line_cost H.cost desk.params h line.now) (H.device desk.house) (gathered outbox.old) (gathered outbox.new) result }
     ensures within { IfErr result (λ ran. IsHouseEnding ran.ending) }
     ensures unsaid { OnErr result (gathered outbox.new ≡ gathered outbox.old) }
     ensures faults { H.faults (H.device desk.house) ≤ H.faults (device_after ⟦<H as House>⟧ result) }
@@ -77,7 +77,7 @@ fn serve_long<H: House>(
     ensures params { IfOk result (λ new. new.params ≡ desk.params) }
     ensures serves { (whole : Bool) (h : History) (line : List ℕ) → longest_line < length line → H.stands whole (H.device desk.house) desk.params h →
         ServesText ⟦<H as House>⟧ whole desk.params h (step desk.params number (state_at ⟦<H as House>⟧ h desk) line)
-        (rows_committed (state_at ⟦<H as House>⟧ h desk) (input desk.params line)) (line_cost H.cost desk.params h line) (H.device desk.house) (gathered outbox.old) (gathered outbox.new) result }
+        (rows_committed (state_at ⟦<H as House>⟧ h desk) (input desk.params line)) (MayTake false (input desk.params line)) (line_cost H.cost desk.params h line) (H.device desk.house) (gathered outbox.old) (gathered outbox.new) result }
     ensures within { IfErr result (λ ran. IsHouseEnding ran.ending) }
     ensures unsaid { OnErr result (gathered outbox.new ≡ gathered outbox.old) }
     ensures faults { H.faults (H.device desk.house) ≤ H.faults (device_after ⟦<H as House>⟧ result) }

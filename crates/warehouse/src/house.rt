@@ -110,7 +110,6 @@ pub trait House: Drop {
             (allotted ≡ (params self).pages) × lacks_pages (device house) (params self) h rows.now) }
         ensures moments_kept { IfKept result (λ house. moments (device house) ≡ moments (device self)) }
 
-        ensures reads { reads (device_out device result) ≤ reads (device self) }
         ensures disk { IfDisk result (Rose (faults (device self)) (faults (device_out device result))) }
         ensures faults { faults (device self) ≤ faults (device_out device result) };
 

@@ -1,4 +1,4 @@
-use Rattle.std.proofs.Common.{◌≡◌, ◌∙◌, ℕ, true, List, [], ◌∷◌, ap, ◌++◌}
+use Rattle.std.proofs.Common.{◌∙◌, ℕ, true, List, [], ◌∷◌, ap}
 use Rattle.bw_types.specs.declared.params.Params.{Params}
 use Rattle.row_machine.specs.Serving.{MayServe}
 use Rattle.csv_rows.specs.Machine.{State, begun, replies, state_after}

@@ -1,7 +1,7 @@
-use Rattle.std.proofs.Common.{ℕ, ◌-◌, ◌+◌}
+use Rattle.std.proofs.Common.{◌-◌, ◌+◌}
 use Rattle.row_machine.specs.declared.serving.TheConstants.{INPUT_LIMIT}
 use Rattle.row_machine.specs.Outbox.{gathered}
-use Rattle.row_machine.proofs.Going.{Going, Port}
+use Rattle.row_machine.proofs.Going.{Going}
 use Rattle.row_machine.proofs.serving.serve.Given as goal
 
 abbrev pub invariant-lines : goal.invariant-lines

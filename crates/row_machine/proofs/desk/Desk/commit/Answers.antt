@@ -1,5 +1,4 @@
-use Rattle.std.proofs.Common.{true, ◌≡◌, ◌∙◌, None, Some, ap, sym, subst, List}
-use Rattle.bw_types.specs.History.{History}
+use Rattle.std.proofs.Common.{rules, true, ◌∙◌, sym, subst}
 use Rattle.bw_types.specs.declared.params.Params.{Params}
 use Rattle.row_machine.specs.declared.ending.Ending.TheVariants.{DiskFault}
 use Rattle.row_machine.proofs.Housing.{leaves_lost}
@@ -12,9 +11,18 @@ invariant_of-desk g c = record { same = c.in-Done.ensures.params_done ∙ c.args
 pub invariant_of-desk-in-Refused : goal.invariant_of-desk-in-Refused
 invariant_of-desk-in-Refused g c = record { same = c.in-Refused.ensures.params_kept ∙ c.args.self.same; fitting = clear_keeps c.args.self.params _ _ _ c.clear-in-Refused.ensures c.args.self.fitting }
 
-pub returns-in-Disk-clause-leaves : goal.returns-in-Disk-clause-leaves
-returns-in-Disk-clause-leaves g c = λ h stands.
-    leaves_lost g.H.House c.args.self.params (g.H.House.params c.args.self.house) (record { history = h; staged = c.args.self.sessions }) c.args.session c.rows.result.now
-    (g.H.House.device c.args.self.house) (record { ending = DiskFault; device = c.in-Disk.device }) c.args.self.same c.rows.ensures.rows
-    (c.in-Disk.ensures.any_moment h (subst (λ (p : Params). g.H.House.stands true (g.H.House.device c.args.self.house) p h) (sym c.args.self.same) stands))
-    (c.in-Disk.ensures.lost h (subst (λ (p : Params). g.H.House.stands true (g.H.House.device c.args.self.house) p h) (sym c.args.self.same) stands))
+pub returns-in-Disk : goal.returns-in-Disk
+returns-in-Disk g c = record {
+  params = search rules;
+  went = search rules;
+  stops = search rules;
+  reads = λ whole h may. absurd cc;
+  leaves = λ h stands.
+      leaves_lost g.H.House c.args.self.params (g.H.House.params c.args.self.house) (record { history = h; staged = c.args.self.sessions }) c.args.session c.rows.result.now
+      (g.H.House.device c.args.self.house) (record { ending = DiskFault; device = c.in-Disk.device }) c.args.self.same c.rows.ensures.rows
+      (c.in-Disk.ensures.any_moment h (subst (λ (p : Params). g.H.House.stands true (g.H.House.device c.args.self.house) p h) (sym c.args.self.same) stands))
+      (c.in-Disk.ensures.lost h (subst (λ (p : Params). g.H.House.stands true (g.H.House.device c.args.self.house) p h) (sym c.args.self.same) stands));
+  faults = search rules;
+  own = search rules;
+  disk = search rules;
+}

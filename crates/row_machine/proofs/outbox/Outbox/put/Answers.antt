@@ -1,4 +1,4 @@
-use Rattle.std.proofs.Common.{ℕ, List, subst, sym}
+use Rattle.std.proofs.Common.{ℕ, List, subst}
 use Rattle.row_machine.specs.Runs.{WritesPart}
 use Rattle.row_machine.proofs.Parts.{writes_front}
 use Rattle.row_machine.proofs.outbox.Outbox.put.Goals as goal
