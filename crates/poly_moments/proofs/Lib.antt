@@ -1,3 +1,5 @@
-mod Powers
+mod Bounds
 mod Digits
 mod Capped
+mod Steps
+mod Signed
