@@ -3,3 +3,6 @@ mod Digits
 mod Capped
 mod Steps
 mod Signed
+mod Whole
+mod ListSums
+mod OneDimension
