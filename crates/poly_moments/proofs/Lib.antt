@@ -6,3 +6,5 @@ mod Signed
 mod Whole
 mod ListSums
 mod OneDimension
+mod SubsetSums
+mod ObjectLaw

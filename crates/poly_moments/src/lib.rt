@@ -6,6 +6,7 @@
 #![tactic(auto)]
 
 mod exponents;
+pub mod integrals;
 mod planes;
 mod powers;
 mod reaches;
