@@ -8,3 +8,4 @@ mod ListSums
 mod OneDimension
 mod SubsetSums
 mod ObjectLaw
+mod ResidueSums
