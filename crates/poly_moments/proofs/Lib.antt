@@ -9,3 +9,4 @@ mod OneDimension
 mod SubsetSums
 mod ObjectLaw
 mod ResidueSums
+mod ListLaw
