@@ -144,12 +144,16 @@ reached_between p low high qlow qhigh o q =
   where
     both_are : {x y : ℤ} → reached p low high qhigh ≡ x → reached p low high qlow ≡ y → reached p low high qhigh -ℤ reached p low high qlow ≡ x -ℤ y
     both_are {x} {y} a b = ap (λ z. z -ℤ reached p low high qlow) a ∙ ap (λ z. x -ℤ z) b
+
     ends : {a b : ℕ} → greater low qlow ≡ a → lesser high qhigh ≡ b → between p (greater low qlow) (lesser high qhigh) ≡ between p a b
     ends {a} {b} e f = ap (λ n. between p n (lesser high qhigh)) e ∙ ap (λ n. between p a n) f
+
     less_nothing : (x : ℤ) → x -ℤ pos 0 ≡ x
     less_nothing x = omega (arith, ints)
+
     less_common : (x y z : ℤ) → x -ℤ z -ℤ (y -ℤ z) ≡ x -ℤ y
     less_common x y z = omega (arith, ints)
+
     less_itself : (x : ℤ) → x -ℤ x ≡ pos 0
     less_itself x = omega (arith, ints)
 
@@ -165,10 +169,13 @@ moment_between e o low high qlow qhigh =
     choose : (c : ℕ → ℤ) (a b : ℕ) (t : Bool) → (if t then c a else c b) ≡ c (if t then a else b)
     choose c a b true = refl
     choose c a b false = refl
+
     choice : (c : ℕ → ℤ) (a b : ℕ) → int_lt (c b) (c a) ≡ nat_lt b a → int_max (c a) (c b) ≡ c (greater a b)
     choice c a b h = ap (λ t. if t then c a else c b) h ∙ choose c a b (nat_lt b a)
+
     other_choice : (c : ℕ → ℤ) (a b : ℕ) → int_lt (c b) (c a) ≡ nat_lt b a → int_min (c a) (c b) ≡ c (lesser a b)
     other_choice c a b h = ap (λ t. if t then c b else c a) h ∙ choose c b a (nat_lt b a)
+
     at_numbers : (a b : ℕ) → moment e (pos a -ℤ pos o) (pos b -ℤ pos o) ≡ between (λ n. primitive e (pos n -ℤ pos o)) a b
     at_numbers a b =
         ap (λ t. if t then pos (6 / (e + 1)) *ℤ (int_pow (pos b -ℤ pos o) (e + 1) -ℤ int_pow (pos a -ℤ pos o) (e + 1)) else pos 0) (coordinates_below a b o)

@@ -17,6 +17,7 @@ sum_times a b k = ℤ_ind (λ x. (x +ℤ b) *ℤ k ≡ x *ℤ k +ℤ b *ℤ k) b
   where
     base : (pos 0 +ℤ b) *ℤ k ≡ pos 0 *ℤ k +ℤ b *ℤ k
     base = ap (λ x. x *ℤ k) (+ℤ_idl b) ∙ sym (ap (λ z. z +ℤ b *ℤ k) (zero-*ℤ k) ∙ +ℤ_idl (b *ℤ k))
+
     above : (n : ℕ) → (pos n +ℤ b) *ℤ k ≡ pos n *ℤ k +ℤ b *ℤ k → (pos n +ℤ pos 1 +ℤ b) *ℤ k ≡ (pos n +ℤ pos 1) *ℤ k +ℤ b *ℤ k
     above n h =
         let order : pos n +ℤ pos 1 +ℤ b ≡ (pos n +ℤ b) +ℤ pos 1 = omega (arith, ints) in
@@ -26,6 +27,7 @@ sum_times a b k = ℤ_ind (λ x. (x +ℤ b) *ℤ k ≡ x *ℤ k +ℤ b *ℤ k) b
       where
         swap : (x y z : ℤ) → x +ℤ y +ℤ z ≡ x +ℤ z +ℤ y
         swap x y z = omega (arith, ints)
+
     below : (n : ℕ) → (neg_ℤ (pos n) +ℤ b) *ℤ k ≡ neg_ℤ (pos n) *ℤ k +ℤ b *ℤ k → (neg_ℤ (pos n) +ℤ neg_ℤ (pos 1) +ℤ b) *ℤ k ≡ (neg_ℤ (pos n) +ℤ neg_ℤ (pos 1)) *ℤ k +ℤ b *ℤ k
     below n h =
         let order : neg_ℤ (pos n) +ℤ neg_ℤ (pos 1) +ℤ b ≡ (neg_ℤ (pos n) +ℤ b) +ℤ neg_ℤ (pos 1) = omega (arith, ints) in
@@ -63,9 +65,11 @@ times_assoc a b k = ℤ_ind (λ x. x *ℤ b *ℤ k ≡ x *ℤ (b *ℤ k)) base a
   where
     base : pos 0 *ℤ b *ℤ k ≡ pos 0 *ℤ (b *ℤ k)
     base = ap (λ z. z *ℤ k) (zero-*ℤ b) ∙ zero-*ℤ k ∙ sym (zero-*ℤ (b *ℤ k))
+
     above : (n : ℕ) → pos n *ℤ b *ℤ k ≡ pos n *ℤ (b *ℤ k) → (pos n +ℤ pos 1) *ℤ b *ℤ k ≡ (pos n +ℤ pos 1) *ℤ (b *ℤ k)
     above n h =
         ap (λ z. z *ℤ k) (one_more_times (pos n) b) ∙ sum_times (pos n *ℤ b) b k ∙ ap (λ z. z +ℤ b *ℤ k) h ∙ sym (one_more_times (pos n) (b *ℤ k))
+
     below : (n : ℕ) → neg_ℤ (pos n) *ℤ b *ℤ k ≡ neg_ℤ (pos n) *ℤ (b *ℤ k) → (neg_ℤ (pos n) +ℤ neg_ℤ (pos 1)) *ℤ b *ℤ k ≡ (neg_ℤ (pos n) +ℤ neg_ℤ (pos 1)) *ℤ (b *ℤ k)
     below n h =
         ap (λ z. z *ℤ k) (one_less_times (neg_ℤ (pos n)) b) ∙ difference_times (neg_ℤ (pos n) *ℤ b) b k ∙ ap (λ z. z -ℤ b *ℤ k) h ∙ sym (one_less_times (neg_ℤ (pos n)) (b *ℤ k))

@@ -1,6 +1,6 @@
 //! The planes of value functions: the weights of an object's corners in them, and the value that summed planes
 //! have at a corner of a query.
-ghost use Rattle.std.specs.Prelude.{◌≡◌, ◌<◌, ◌^◌, [], Some, IsSome, IsTrue, length};
+ghost use Rattle.std.specs.Prelude.{◌≡◌, ◌<◌, ◌≤◌, ◌^◌, [], Some, IsSome, IsTrue, length};
 ghost use Rattle.std.specs.List.{slice_index_or};
 ghost use Rattle.bw_types.specs.Residues.{residue};
 ghost use Rattle.bw_types.specs.Fits.{IsInRange, object_fits, coefficient_count};
@@ -11,6 +11,18 @@ use crate::exponents::exponent;
 use crate::powers::{factor, power};
 use box_corners::{object_corner, sign};
 use bw_types::{Object, Params, coefficient_count, res_add, res_mul, res_of};
+
+/// How many planes there are: `(degree + 2)^dims`, or none without a degree.
+pub fn plane_count(params: &Params) -> usize
+    requires { IsInRange params.now }
+    ensures count { result ≡ plane_count params.now }
+    ensures at_most { result ≤ 64 }
+{
+    match params.degree {
+        None => 0,
+        Some(degree) => (usize::from(degree) + 2).pow(u32::from(params.dims)),
+    }
+}
 
 /// The weight modulo `2^128` of the object's corner of the subset in the plane: a coefficient of the polynomial
 /// by which the corner counts in integrals.
@@ -29,7 +41,10 @@ pub fn plane_weight(object: &Object, params: &Params, subset: u8, plane: u8) -> 
         return 0;
     };
     let corner = object_corner(object, subset);
-    sign(subset, corner_sum(object, params, degree, &corner, usize::from(plane)))
+    sign(
+        subset,
+        corner_sum(object, params, degree, &corner, usize::from(plane)),
+    )
 }
 
 /// The value modulo `2^128` of the polynomial whose coefficients are the planes, at the point of stored numbers.
@@ -62,13 +77,25 @@ fn corner_sum(object: &Object, params: &Params, degree: u8, corner: &[u32; 3], p
     let mut total: u128 = 0;
     for k in 0..coefficient_count(params) {
         let coefficient = res_of(i128::from(object.coeffs[k]));
-        total = res_add(total, res_mul(coefficient, corner_coefficient(params, degree, corner, plane, k)));
+        total = res_add(
+            total,
+            res_mul(
+                coefficient,
+                corner_coefficient(params, degree, corner, plane, k),
+            ),
+        );
     }
     total
 }
 
 // The coefficient of the plane's monomial in the polynomial of one term of a value function at a corner.
-fn corner_coefficient(params: &Params, degree: u8, corner: &[u32; 3], plane: usize, k: usize) -> u128
+fn corner_coefficient(
+    params: &Params,
+    degree: u8,
+    corner: &[u32; 3],
+    plane: usize,
+    k: usize,
+) -> u128
     requires in_range { IsInRange params.now }
     requires degree { params.now.degree ≡ Some degree }
     requires plane { plane < plane_count params.now }
