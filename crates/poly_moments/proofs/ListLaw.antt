@@ -1,24 +1,23 @@
 -- The integrals of a list of objects by the dominance sums of their planes' points.
-use Rattle.std.proofs.Common.{List, [], ◌∷◌, map, length, get_or, take, ◌≡◌, ℕ, zero, suc, ◌+◌, ◌*◌, ◌%◌, ◌^◌, ◌<◌, ◌≤◌, Bool, true, false, ◌&&◌, nat_le, if◌then◌else◌, ℤ, pos, neg_ℤ, ◌+ℤ◌, ◌*ℤ◌, slice_index_or, Option, Some, None, IsSome, arith, refl, ◌∙◌, ap, sym, lit<}
-use Rattle.std.specs.List.{All, zip, range_with_len, sum_by, flat_map}
+use Rattle.std.proofs.Common.{List, [], ◌∷◌, map, take, ◌≡◌, ℕ, zero, suc, ◌+◌, ◌*◌, ◌^◌, ◌<◌, ◌≤◌, Bool, true, false, ◌&&◌, nat_le, if◌then◌else◌, ℤ, pos, ◌*ℤ◌, slice_index_or, Option, Some, None, IsSome, arith, refl, ◌∙◌, ap, sym}
+use Rattle.std.specs.List.{zip, range_with_len, sum_by}
 use Rattle.std.specs.Option.{option_map_or}
 use Rattle.std.proofs.Math.Nat.{mul-le-mul_left}
 use Rattle.std.proofs.lemmas.Bool.{false≢true}
 use Rattle.bw_types.specs.Tally.{int_sum_by, each_below}
-use Rattle.bw_types.specs.Fits.{IsInRange, ends_fit, object_fits}
+use Rattle.bw_types.specs.Fits.{IsInRange, ends_fit}
 use Rattle.bw_types.specs.Keys.{point_key, query_key}
-use Rattle.bw_types.specs.Residues.{residue, opposite_residue}
+use Rattle.bw_types.specs.Residues.{residue}
 use Rattle.bw_types.specs.ResidueLaws.{residue_of_natural}
-use Rattle.bw_types.specs.Dominance.{keys_at_most, is_dominated, dominated_weight, dominance_sum}
+use Rattle.bw_types.specs.Dominance.{keys_at_most, is_dominated, dominance_sum}
 use Rattle.bw_types.specs.Integral.{integral_over}
 use Rattle.bw_types.specs.declared.params.Params.{Params}
-use Rattle.bw_types.specs.declared.object.Object.{Object}
 use Rattle.bw_types.specs.declared.point.Point.{Point}
 use Rattle.bw_types.specs.declared.query.Query.{Query}
-use Rattle.box_corners.specs.Subsets.{is_in_subset, signed_by, residue_signed_by}
+use Rattle.box_corners.specs.Subsets.{signed_by, residue_signed_by}
 use Rattle.box_corners.specs.Sums.{int_sum_below, residue_sum_below}
 use Rattle.box_corners.specs.SumLaws.{residue_keeps_sign, residue_of_sum_below, sum_below_of_equal}
-use Rattle.box_corners.specs.Corners.{of_first_dimensions, object_end, query_end, corner_keys, integral_corner}
+use Rattle.box_corners.specs.Corners.{of_first_dimensions, object_end, query_end, integral_corner}
 use Rattle.box_corners.specs.Expansion.{key_keeps_bound}
 use Rattle.poly_moments.specs.Planes.{plane_count, plane_weight, plane_exponents, corner_weight, monomial, planes_value}
 use Rattle.poly_moments.specs.Integrals.{query_corner, corner_is_below, plane_at_corner, value_at_corner}

@@ -1,6 +1,6 @@
 -- Sums of whole numbers over lists, and products over the first numbers: how they exchange and distribute.
-use Rattle.std.proofs.Common.{List, [], ◌∷◌, ◌++◌, map, length, ◌≡◌, ℕ, zero, suc, ◌+◌, ◌<◌, ◌≤◌, Bool, true, false, ◌&&◌, if◌then◌else◌, ℤ, pos, neg_ℤ, ◌+ℤ◌, ◌-ℤ◌, ◌*ℤ◌, slice_index, arith, refl, ◌∙◌, ap, sym, add-one}
-use Rattle.std.proofs.Math.IntN.{*ℤ_comm, zero-*ℤ, *ℤ-zero, +ℤ_idl, *ℤ-one}
+use Rattle.std.proofs.Common.{List, [], ◌∷◌, ◌++◌, map, ◌≡◌, ℕ, zero, suc, ◌+◌, ◌<◌, ◌≤◌, Bool, true, false, ◌&&◌, if◌then◌else◌, ℤ, pos, ◌+ℤ◌, ◌*ℤ◌, slice_index, arith, refl, ◌∙◌, ap, sym}
+use Rattle.std.proofs.Math.IntN.{*ℤ_comm, zero-*ℤ, *ℤ-zero, +ℤ_idl}
 use Rattle.std.proofs.lemmas.Int.{ints}
 use Rattle.std.specs.List.{flat_map, range_with_len, zip}
 use Rattle.bw_types.specs.Tally.{int_product_below, int_sum_by, each_below}

@@ -1,11 +1,11 @@
 -- The integral of one object by its planes.
-use Rattle.std.proofs.Common.{List, [], ◌∷◌, ◌≡◌, ℕ, zero, suc, ◌+◌, ◌^◌, ◌<◌, ◌≤◌, Bool, true, false, ◌&&◌, nat_le, if◌then◌else◌, ℤ, pos, neg_ℤ, ◌+ℤ◌, ◌-ℤ◌, ◌*ℤ◌, slice_index, Some, arith, refl, ◌∙◌, ap, sym}
+use Rattle.std.proofs.Common.{List, ◌≡◌, ℕ, zero, suc, ◌+◌, ◌^◌, ◌<◌, ◌≤◌, Bool, true, false, ◌&&◌, nat_le, if◌then◌else◌, ℤ, pos, ◌-ℤ◌, ◌*ℤ◌, slice_index, arith, refl, ◌∙◌, ap, sym}
 use Rattle.std.specs.List.{zip, range_with_len}
 use Rattle.std.specs.Int.{int_pow}
 use Rattle.std.specs.Option.{option_map_or}
 use Rattle.std.proofs.lemmas.Bool.{and_parts, leb-true}
-use Rattle.bw_types.specs.Tally.{each_below, int_product_below, int_sum_by}
-use Rattle.bw_types.specs.Fits.{IsInRange, ends_fit, object_fits, coordinate, greatest_number}
+use Rattle.bw_types.specs.Tally.{int_product_below, int_sum_by}
+use Rattle.bw_types.specs.Fits.{ends_fit, coordinate, greatest_number}
 use Rattle.bw_types.specs.Integral.{exponent_lists, moment, common_low, common_high, common_moment, integral_of_degree}
 use Rattle.bw_types.specs.declared.params.Params.{Params}
 use Rattle.bw_types.specs.declared.object.Object.{Object}
@@ -13,12 +13,12 @@ use Rattle.bw_types.specs.declared.query.Query.{Query}
 use Rattle.box_corners.specs.Subsets.{is_in_subset, signed_by}
 use Rattle.box_corners.specs.Sums.{int_sum_below}
 use Rattle.box_corners.specs.Corners.{of_dimensions, object_end, object_corner, query_end}
-use Rattle.poly_moments.specs.Planes.{primitive, coefficient, corner_coefficient, corner_sum, corner_weight, plane_exponents, monomial}
-use Rattle.poly_moments.specs.Integrals.{query_corner, corner_is_below, plane_at_corner, value_at_corner, ObjectIntegralByPlanes}
+use Rattle.poly_moments.specs.Planes.{primitive, coefficient, corner_coefficient, corner_sum, plane_exponents, monomial}
+use Rattle.poly_moments.specs.Integrals.{query_corner, corner_is_below, value_at_corner, ObjectIntegralByPlanes}
 use Rattle.poly_moments.proofs.Whole.{times_assoc}
 use Rattle.poly_moments.proofs.Digits.{at_one}
 use Rattle.poly_moments.proofs.ListSums.{sum-equal, sum-times, times-sum, sum-exchange, sum-zip, product-equal, product-products, product-tested, distribute, exponents-small}
-use Rattle.poly_moments.proofs.OneDimension.{polynomial, reached, reached_between, moment_between}
+use Rattle.poly_moments.proofs.OneDimension.{polynomial, reached_between, moment_between}
 use Rattle.poly_moments.proofs.SubsetSums.{below-equal, below-times, times-below, below-exchange, signed-sum, times-signed, taken-times, taken-sum, times-taken, signed_products}
 
 -- an end of a corner is that of its dimension

@@ -1,12 +1,12 @@
 -- Sums whose terms have the same residues.
-use Rattle.std.proofs.Common.{List, [], ◌∷◌, ◌++◌, map, length, get_or, ◌≡◌, ℕ, zero, suc, ◌+◌, ◌*◌, ◌%◌, ◌^◌, ◌<◌, ◌≤◌, Bool, true, false, ◌&&◌, nat_le, if◌then◌else◌, ℤ, pos, neg_ℤ, ◌+ℤ◌, ◌*ℤ◌, arith, refl, ◌∙◌, ap, sym, lit<}
-use Rattle.std.proofs.Math.IntN.{one, zero-*ℤ, *ℤ-zero, *ℤ_comm, *ℤ-one, +ℤ_idl}
+use Rattle.std.proofs.Common.{List, [], ◌∷◌, map, length, get_or, ◌≡◌, ℕ, zero, suc, ◌+◌, ◌*◌, ◌%◌, ◌^◌, ◌<◌, Bool, true, false, ◌&&◌, if◌then◌else◌, ℤ, pos, neg_ℤ, ◌+ℤ◌, ◌*ℤ◌, arith, refl, ◌∙◌, ap, sym}
+use Rattle.std.proofs.Math.IntN.{one, zero-*ℤ, *ℤ-zero, *ℤ_comm, *ℤ-one}
 use Rattle.std.proofs.lemmas.Int.{ints}
 use Rattle.std.proofs.lemmas.List.Sums.{sum_by-cons}
 use Rattle.std.specs.List.{All, zip, range_with_len, sum_by}
 use Rattle.bw_types.specs.Tally.{int_sum_by}
 use Rattle.bw_types.specs.Residues.{residue, opposite_residue}
-use Rattle.bw_types.specs.ResidueLaws.{residue_of_sum, residue_of_product, residue_of_natural, residue_of_small, residue_of_opposite, residue_is_below}
+use Rattle.bw_types.specs.ResidueLaws.{residue_of_sum, residue_of_product, residue_of_small, residue_of_opposite, residue_is_below}
 use Rattle.box_corners.specs.Sums.{int_sum_below}
 use Rattle.poly_moments.proofs.Whole.{opposite_times}
 use Rattle.poly_moments.proofs.ListSums.{EachOf}

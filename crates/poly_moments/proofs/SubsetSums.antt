@@ -1,13 +1,13 @@
 -- Signed sums over the subsets of the dimensions: how they exchange with other sums, and that one of products, with a
 -- factor for each dimension, is the product of the factors' differences.
-use Rattle.std.proofs.Common.{List, [], ◌∷◌, ◌≡◌, ℕ, zero, suc, ◌+◌, ◌^◌, ◌<◌, ◌≤◌, Bool, true, false, if◌then◌else◌, ℤ, pos, neg_ℤ, ◌+ℤ◌, ◌-ℤ◌, ◌*ℤ◌, arith, refl, ◌∙◌, ap, sym}
-use Rattle.std.proofs.Math.IntN.{zero-*ℤ, *ℤ-zero, +ℤ_idl}
+use Rattle.std.proofs.Common.{List, [], ◌∷◌, ◌≡◌, ℕ, zero, suc, ◌^◌, ◌≤◌, Bool, true, false, if◌then◌else◌, ℤ, pos, neg_ℤ, ◌+ℤ◌, ◌-ℤ◌, ◌*ℤ◌, arith, refl, ◌∙◌, ap, sym}
+use Rattle.std.proofs.Math.IntN.{zero-*ℤ, *ℤ-zero}
 use Rattle.std.proofs.lemmas.Int.{ints}
 use Rattle.bw_types.specs.Tally.{int_product_below, int_sum_by}
 use Rattle.box_corners.specs.Subsets.{is_in_subset, is_odd_subset, signed_by}
 use Rattle.box_corners.specs.Sums.{int_sum_below}
 use Rattle.poly_moments.proofs.Whole.{times_sum, sum_times, times_opposite, opposite_times, times_difference, difference_times}
-use Rattle.poly_moments.proofs.ListSums.{sum-equal, sum-zeros, sum-sums}
+use Rattle.poly_moments.proofs.ListSums.{sum-zeros, sum-sums}
 
 pub below-equal : (n : ℕ) (f g : ℕ → ℤ) → ((k : ℕ) → f k ≡ g k) → int_sum_below n f ≡ int_sum_below n g
 below-equal zero f g e = refl

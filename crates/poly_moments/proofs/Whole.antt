@@ -1,9 +1,7 @@
 -- Whole numbers: the laws of products, and of sums of products over lists.
-use Rattle.std.proofs.Common.{List, [], ◌∷◌, ◌++◌, map, length, ◌≡◌, ℕ, zero, suc, ◌+◌, ◌<◌, ◌≤◌, Bool, true, false, if◌then◌else◌, ℤ, pos, neg_ℤ, ◌+ℤ◌, ◌-ℤ◌, ◌*ℤ◌, arith, refl, ◌∙◌, ap, sym}
-use Rattle.std.proofs.Math.IntN.{ℤ_ind, suc_ℤ-*ℤ, pred_ℤ-*ℤ, *ℤ_comm, zero-*ℤ, *ℤ-zero, +ℤ_idl, +ℤ_one, -ℤ_one}
+use Rattle.std.proofs.Common.{◌≡◌, ℕ, ℤ, pos, neg_ℤ, ◌+ℤ◌, ◌-ℤ◌, ◌*ℤ◌, arith, ◌∙◌, ap, sym}
+use Rattle.std.proofs.Math.IntN.{ℤ_ind, suc_ℤ-*ℤ, pred_ℤ-*ℤ, *ℤ_comm, zero-*ℤ, +ℤ_idl, +ℤ_one, -ℤ_one}
 use Rattle.std.proofs.lemmas.Int.{ints}
-use Rattle.std.specs.List.{flat_map, range_with_len, zip}
-use Rattle.bw_types.specs.Tally.{int_product_below, int_sum_by, each_below}
 
 -- ---- products
 one_more_times : (m k : ℤ) → (m +ℤ pos 1) *ℤ k ≡ m *ℤ k +ℤ k

@@ -1,4 +1,4 @@
-use Rattle.std.proofs.Common.{rules, ◌≡◌, ◌≤◌, pos, ◌-ℤ◌, ℕ, ◌+◌, ◌-◌, ◌*◌, ◌%◌, ◌^◌, ◌<◌, length, get_or, Bool, true, false, List, [], ◌∷◌, ℤ, ◌+ℤ◌, ◌*ℤ◌, arith, refl, sym, ap, ◌∙◌, lit<, slice_index, slice_index_or, take, w64, FitsSigned, to_z, of_z}
+use Rattle.std.proofs.Common.{rules, ◌≡◌, ◌≤◌, pos, ℕ, ◌+◌, ◌^◌, ◌<◌, length, get_or, List, [], ℤ, ◌*ℤ◌, arith, sym, ap, ◌∙◌, lit<, slice_index_or, w64, FitsSigned}
 use Rattle.std.specs.List.{zip}
 use Rattle.std.specs.Int.{w128}
 use Rattle.std.proofs.lemmas.Int.{to_z-of_z}

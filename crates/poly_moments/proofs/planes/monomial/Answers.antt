@@ -1,4 +1,4 @@
-use Rattle.std.proofs.Common.{rules, ◌≡◌, ◌≤◌, pos, ◌-ℤ◌, ℕ, ◌+◌, ◌-◌, ◌*◌, ◌%◌, ◌^◌, ◌<◌, length, get_or, Bool, true, false, List, [], ◌∷◌, ℤ, ◌+ℤ◌, ◌*ℤ◌, arith, refl, sym, ap, ◌∙◌, lit<, slice_index, slice_index_or, take, w64, FitsSigned, to_z, of_z}
+use Rattle.std.proofs.Common.{◌≡◌, ℕ, List, [], sym, lit<, slice_index, slice_index_or}
 use Rattle.std.specs.Int.{int_pow}
 use Rattle.bw_types.specs.ResidueLaws.{residue_of_small}
 use Rattle.bw_types.specs.Fits.{coordinate}

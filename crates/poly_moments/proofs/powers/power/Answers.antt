@@ -1,4 +1,4 @@
-use Rattle.std.proofs.Common.{rules, ◌≡◌, ◌≤◌, pos, ◌-ℤ◌, ℕ, ◌+◌, ◌-◌, ◌*◌, ◌%◌, ◌^◌, ◌<◌, length, get_or, Bool, true, false, List, [], ◌∷◌, ℤ, ◌+ℤ◌, ◌*ℤ◌, arith, refl, sym, ap, ◌∙◌, lit<, slice_index, slice_index_or, take, w64, FitsSigned, to_z, of_z}
+use Rattle.std.proofs.Common.{rules, pos, ◌-ℤ◌, arith}
 use Rattle.poly_moments.proofs.Bounds.{power_of_result_fits, difference_small}
 use Rattle.poly_moments.proofs.powers.power.Goals as goal
 
