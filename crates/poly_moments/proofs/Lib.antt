@@ -1,3 +1,12 @@
-mod Powers
+mod Bounds
 mod Digits
 mod Capped
+mod Steps
+mod Signed
+mod Whole
+mod ListSums
+mod OneDimension
+mod SubsetSums
+mod ObjectLaw
+mod ResidueSums
+mod ListLaw

@@ -2,7 +2,7 @@
 use Rattle.std.proofs.Common.{◌+◌, ◌-◌, arith}
 use Rattle.std.proofs.Math.Nat.{one-le-pow}
 use Rattle.poly_moments.proofs.Digits.{digit_is}
-use Rattle.poly_moments.proofs.Powers.{small_power}
+use Rattle.poly_moments.proofs.Bounds.{small_power}
 use Rattle.poly_moments.proofs.exponents.exponent.Goals as goal
 
 pub pow-requires : goal.pow-requires

@@ -1,6 +1,6 @@
 -- Each power is at most 2^96, and at most 6 times two of them fit.
 use Rattle.std.proofs.Common.{arith}
-use Rattle.poly_moments.proofs.Powers.{power_fits, reach_fits, quotient_small}
+use Rattle.poly_moments.proofs.Bounds.{power_fits, reach_fits, quotient_small}
 use Rattle.poly_moments.proofs.reaches.reach.Goals as goal
 
 pub pow-requires : goal.pow-requires

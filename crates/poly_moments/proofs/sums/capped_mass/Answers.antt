@@ -17,7 +17,7 @@ loop-k-preserved c =
     let term = λ (p : ℤ × List ℕ). nat_abs p.0 * box_reach params c.args.object.now p.1 in
     let degree : c.args.degree ≤ 2 = rw c.requires.degree at c.requires.in_range.degree in
     let counted : c.coefficient_count-k-end.result ≡ (c.args.degree + 1) ^ params.dims = rw c.requires.degree at c.coefficient_count-k-end.ensures.count in
-    let some : c.loop-k.k < length lists = omega (arith, length-exponent_lists params.dims c.args.degree c.requires.in_range.dims degree) in
+    let some : c.loop-k.k < length lists = omega (arith, length-exponent_lists params.dims c.args.degree c.requires.in_range.dims (omega arith)) in
     let all : c.loop-k.k < length coeffs = omega arith in
     let within : c.loop-k.k < length (zip coeffs lists) = rw (length-zip coeffs lists) (omega arith) in
     let at = get_or-zip coeffs lists c.loop-k.k (pos 0, []) all some in
@@ -36,6 +36,6 @@ returns c =
     let degree : c.args.degree ≤ 2 = rw c.requires.degree at c.requires.in_range.degree in
     let counted : c.coefficient_count-k-end.result ≡ (c.args.degree + 1) ^ params.dims = rw c.requires.degree at c.coefficient_count-k-end.ensures.count in
     let past : length (zip coeffs lists) ≤ c.loop-k.k =
-    rw (length-zip coeffs lists) (omega (arith, length-exponent_lists params.dims c.args.degree c.requires.in_range.dims degree)) in
+    rw (length-zip coeffs lists) (omega (arith, length-exponent_lists params.dims c.args.degree c.requires.in_range.dims (omega arith))) in
     let term = λ (p : ℤ × List ℕ). nat_abs p.0 * box_reach params c.args.object.now p.1 in
     c.loop-k.invariant ∙ ap (λ xs. min (sum_by term xs) (2 ^ 128 - 1)) (take_all c.loop-k.k (zip coeffs lists) past)
