@@ -41,6 +41,8 @@ impl<S: Stage + Drop> Pages for Failing<S> {
 
     ghost limit = { λ f. S.limit f.stage };
 
+    ghost chain = { λ f. S.chain f.stage };
+
     ghost free_in_order = { λ f. S.free_in_order f.stage };
 
     ghost Base = { S.Base };
