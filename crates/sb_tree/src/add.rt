@@ -53,6 +53,9 @@ pub fn sb_add<S: Stage>(
     ensures count { OnOk result (tree.new.count ≡ tree.old.count + 1) }
     // What a page may spell before, it may spell afterwards, whatever the pages hold.
     ensures rules { OnOk result (IsTrue (plain_tree_fits tree.old) → IsTrue (plain_tree_fits tree.new)) }
+    // So it is with a root whose count is not told.
+    ensures root { OnOk result ((tree.old.levels ≢ 0 → 3 ≤ tree.old.root)
+        → (1 ≤ tree.new.levels) × (tree.new.levels ≤ 16) × (3 ≤ tree.new.root)) }
     ensures typed { IsTreeTyped tree.new }
     ensures beside { (tree.new.changes ≡ tree.old.changes) × (tree.new.last ≡ tree.old.last) }
     ensures unchanged { OnErr result (tree.new ≡ tree.old) }
