@@ -48,12 +48,14 @@ pub fn run<S: Source, K: Sink>(
     ensures whole_lines { (params : Params) → built_command (map string_bytes words.now) ≡ Some (Command.Scratch params) →
         ((result ≡ Status.ReadFault) ⊎ ((taken : ℕ) × (result ≡ Status.InputLimit taken))) →
         IsTrue (S.tells source.old) → IsTrue (S.tells source.new) → IsTrue (K.tells sink.old) →
-        WritesWholeLines params (S.left source.old) (S.left source.new) (K.written sink.old) (K.written sink.new) }
+        IsTrue (K.tells sink.new) × WritesWholeLines params (S.left source.old) (S.left source.new) (K.written sink.old) (K.written sink.new) }
 
     // The cause of each status.
     ensures read_fault { result ≡ Status.ReadFault → Rose (S.faults source.old) (S.faults source.new) }
     ensures write_fault { result ≡ Status.WriteFault → Rose (K.faults sink.old) (K.faults sink.new) }
     ensures disk_fault { result ≢ Status.DiskFault }
+    ensures damaged { (page : ℕ) → IsTrue (S.tells source.old) → result ≢ Status.Damaged page }
+    ensures page_limit { (allotted : ℕ) → IsTrue (S.tells source.old) → result ≢ Status.PageLimit allotted }
     ensures input_limit { (taken : ℕ) → result ≡ Status.InputLimit taken → (taken ≡ 2 ^ 40)
         × (IsTrue (S.tells source.old) → length (S.left source.old) ≡ 2 ^ 40 + length (S.left source.new)) }
 
@@ -87,7 +89,7 @@ fn scratch<S: Source, K: Sink>(
         WritesPart (K.written sink.old) (K.written sink.new) (text params.now [] (S.left source.old)) }
     ensures whole_lines { ((result ≡ Status.ReadFault) ⊎ ((taken : ℕ) × (result ≡ Status.InputLimit taken))) →
         IsTrue (S.tells source.old) → IsTrue (S.tells source.new) → IsTrue (K.tells sink.old) →
-        WritesWholeLines params.now (S.left source.old) (S.left source.new) (K.written sink.old) (K.written sink.new) }
+        IsTrue (K.tells sink.new) × WritesWholeLines params.now (S.left source.old) (S.left source.new) (K.written sink.old) (K.written sink.new) }
     ensures read_fault { result ≡ Status.ReadFault → Rose (S.faults source.old) (S.faults source.new) }
     ensures write_fault { result ≡ Status.WriteFault → Rose (K.faults sink.old) (K.faults sink.new) }
     ensures disk_fault { result ≢ Status.DiskFault }

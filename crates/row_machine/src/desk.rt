@@ -41,6 +41,7 @@ impl<H: House> Desk<H> {
     /// The house, and nothing staged.
     pub fn new(alloc: Global, house: H) -> Desk<H>
         ensures params { result.params ≡ H.params house }
+        ensures range { IsInRange result.params }
         ensures house { result.house ≡ house }
         ensures sessions { result.sessions ≡ (begun []).staged }
     {

@@ -1,11 +1,12 @@
 //! A house: it keeps a history, on a device or in memory.
-ghost use Rattle.std.specs.Prelude.{◌≡◌, ◌⊎◌, ◌+◌, ◌≤◌, ℕ, Bool, true, List, length, Ok, Err, IsTrue, IfOk, MatchResult};
+ghost use Rattle.std.specs.Prelude.{◌≡◌, ◌⊎◌, ◌+◌, ◌≤◌, ℕ, Bool, true, List, length, Some, Ok, Err, IsTrue, IfOk, MatchResult};
 ghost use Rattle.std.specs.List.{list_all};
 ghost use Rattle.bw_types.specs.Fits.{IsInRange, row_fits, query_fits};
 ghost use Rattle.bw_types.specs.History.{History, last_version};
 ghost use Rattle.bw_types.specs.Refusals.{first_refusal};
 ghost use Rattle.bw_types.specs.declared.params.Params.{Params};
 ghost use Rattle.bw_types.specs.declared.query.Query.{Query};
+ghost use Rattle.bw_types.specs.declared.refusal.Refusal.{Refusal};
 ghost use Rattle.bw_types.specs.declared.row.Row.{Row};
 ghost use Rattle.counts.specs.Count.{Rose};
 ghost use Rattle.warehouse.specs.Committed.{Answers, IfDone, IfKept, IfDisk, IfPageLimit, IsCommitCause, after_commit, device_out, with_batch};
@@ -106,8 +107,11 @@ pub trait House: Drop {
             ((x : Image) → now (moments (device self)) x → keeps x (params self) h) →
             (x : Image) → now (moments (device_out device result)) x →
             keeps x (params self) h ⊎ keeps x (params self) (after_commit (first_refusal (params self) h rows.now) h rows.now) }
+        ensures at_limit { IfPageLimit result (λ house allotted. allotted ≡ (params self).pages) }
         ensures page_limit { (h : History) → stands true (device self) (params self) h → IfPageLimit result (λ house allotted.
-            (allotted ≡ (params self).pages) × lacks_pages (device house) (params self) h rows.now) }
+            lacks_pages (device house) (params self) h rows.now) }
+        ensures refused { (h : History) (refusal : Refusal) → stands true (device self) (params self) h
+            → first_refusal (params self) h rows.now ≡ Some refusal → moments (device_out device result) ≡ moments (device self) }
         ensures moments_kept { IfKept result (λ house. moments (device house) ≡ moments (device self)) }
 
         ensures disk { IfDisk result (Rose (faults (device self)) (faults (device_out device result))) }

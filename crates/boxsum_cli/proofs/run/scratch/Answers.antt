@@ -30,9 +30,11 @@ returns-clause-whole_lines g c = λ why told left_told tells.
     (g.S.Source.left c.args.source.now) (g.S.Source.left c.serve.new.source) _ c.serve.result (g.K.Sink.written c.args.sink.now) (g.K.Sink.written c.serve.new.sink)
     c.new-desk.result.params c.args.params.now c.new-desk.result.sessions (c.new-desk.ensures.params ∙ ap (λ h. h.params) c.new.ensures) c.new-desk.ensures.sessions
     (c.serve.ensures.ends told true [] (c.machine_laws.ensures.may c.new-desk.result.params (lines (g.S.Source.left c.args.source.now))) (ap (λ h. h.history) (c.new-desk.ensures.house ∙ c.new.ensures))) in
-    let still = c.serve.ensures.tells (input_flushes c.serve.result.ending ended) tells in
-    whole_text _ (g.K.Sink.tells c.args.sink.now) (g.K.Sink.tells c.serve.new.sink) (g.S.Source.tells c.serve.new.source)
-    (g.S.Source.left c.args.source.now) (g.S.Source.left c.serve.new.source) c.new-desk.result.house c.serve.result (g.K.Sink.written c.args.sink.now) (g.K.Sink.written c.serve.new.sink) c.args.params.now tells still (c.ends_laws.ensures.input _ _ _ _ _ _ _ _ _ _ _ _ e ended left_told)
+    let still = c.serve.ensures.tells (input_flushes c.serve.result.ending ended) tells in (
+      still,
+      whole_text _ (g.K.Sink.tells c.args.sink.now) (g.K.Sink.tells c.serve.new.sink) (g.S.Source.tells c.serve.new.source)
+          (g.S.Source.left c.args.source.now) (g.S.Source.left c.serve.new.source) c.new-desk.result.house c.serve.result (g.K.Sink.written c.args.sink.now) (g.K.Sink.written c.serve.new.sink) c.args.params.now tells still (c.ends_laws.ensures.input _ _ _ _ _ _ _ _ _ _ _ _ e ended left_told),
+    )
 
 pub returns-clause-sound : goal.returns-clause-sound
 returns-clause-sound g c = λ told.
