@@ -9,4 +9,4 @@ mod reading;
 
 pub use place::PlaceFor;
 pub use putting::{make_page, put_page};
-pub use reading::{read_in_place, read_level, read_page, view_in_place};
+pub use reading::{read_in_place, read_level, read_page, view_in_place, view_page};

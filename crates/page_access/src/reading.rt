@@ -31,6 +31,32 @@ pub fn read_page<T: Spelled, P: Pages>(pages: &mut P, page: u64) -> Result<T, Pa
     }
 }
 
+/// The view of the value that the page spells: the page's bytes are put into these, and the value is
+/// read there.
+///
+/// `Damaged` carries this page. It comes exactly where the page is not in the map or spells no such
+/// value, save where the device failed first.
+pub fn view_page<'a, T: Spelled, P: Pages>(
+    pages: &mut P,
+    page: u64,
+    bytes: &'a mut Page,
+) -> Result<View<'a, T>, PageFault>
+    ensures spells { IfOk result (λ value. Spells T.Spelled value (T.spelling value)) }
+    ensures found { IfOk result (λ value. IsTrue (P.tells pages.old) → P.map pages.old page ≡ Some (T.spelling value)) }
+    // No other value is spelled there.
+    ensures only { IfOk result (λ value. IsTrue (P.tells pages.old) → (other : T) (bytes : List ℕ)
+        → P.map pages.old page ≡ Some bytes → Spells T.Spelled other bytes → value ≡ other) }
+    ensures damaged { (p : ℕ) → result ≡ Err (PageFault.Damaged p)
+        → (p ≡ page) × (IsTrue (P.tells pages.old) → SpellsNone T.Spelled (P.map pages.old) page) }
+    ensures reads { OnlyReads P.Pages 1 pages.old pages.new result }
+{
+    pages.get(page, bytes)?;
+    let Some(view) = View::<T>::on(bytes) else {
+        return Err(PageFault::Damaged(page));
+    };
+    Ok(view)
+}
+
 /// The value of this level that the page spells.
 ///
 /// `Damaged` carries this page. It comes exactly where the page is not in the map or spells no such
@@ -74,10 +100,7 @@ pub fn view_in_place<'a, T: TreePage, L: PlaceFor<T>, P: Pages>(
         → HoldsNoNode (FitsPlace T.Spelled T.level_in L.admits) (P.map pages.old) level place page) }
     ensures reads { OnlyReads P.Pages 1 pages.old pages.new result }
 {
-    pages.get(page, bytes)?;
-    let Some(view) = View::<T>::on(bytes) else {
-        return Err(PageFault::Damaged(page));
-    };
+    let view: View<T> = view_page(pages, page, bytes)?;
     if view.level() != level {
         return Err(PageFault::Damaged(page));
     }

@@ -13,6 +13,7 @@ pub mod Lists
 pub mod Modular
 pub mod Nodes
 pub mod Order
+pub mod Outside
 pub mod Paths
 pub mod Proper
 pub mod Sound

@@ -1,6 +1,7 @@
 -- What is stored of a node, in one page or in two.
-use Rattle.std.specs.Prelude.{◌≡◌, ℕ, ◌<◌, ◌≤◌, ◌^◌, ◌==◌, false, IsTrue, List, length, drop, Option, Some, None}
+use Rattle.std.specs.Prelude.{◌≡◌, ℕ, ◌<◌, ◌≤◌, ◌^◌, ◌==◌, false, IsTrue, List, length, drop, Option, Some, None, IsSome}
 use Rattle.page_ports.specs.Pages.{PageMap}
+use Rattle.page_ports.specs.Frame.{names_page}
 use Rattle.page_layout.specs.Children.{child_fits}
 use Rattle.page_layout.specs.Entries.{AreInOrder}
 use Rattle.page_layout.specs.SbNode.{sb_node_page}
@@ -38,3 +39,7 @@ abbrev pub IsSecondOf : List SbEntry → Option Second → Type 0
 IsSecondOf entries None = Unit {0}
 IsSecondOf entries (Some second) =
     (3 ≤ second.page) × (second.page < 2 ^ 64) × (second.low ≡ first_low (drop 32 entries) 0) × (length entries ≡ 65)
+
+-- The pages of the map that the list does not name are as they were.
+abbrev pub OthersStay : List ℕ → PageMap → PageMap → Type 0
+OthersStay pages before after = (page : ℕ) → names_page pages page ≡ false → IsSome (before page) → after page ≡ before page

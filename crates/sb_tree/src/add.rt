@@ -11,7 +11,7 @@ ghost use Rattle.sb_tree.specs.Edits.{first_entries, leaf_entry as spec_leaf_ent
 ghost use Rattle.sb_tree.specs.Raised.{IsRaised, SecondFits, WasFull};
 ghost use Rattle.sb_tree.specs.Stands.{IsBalanced, SbStands, StandsBelow};
 ghost use Rattle.sb_tree.specs.Steps.{pages_below, tree_pages};
-ghost use Rattle.sb_tree.specs.Stored.{page_of};
+ghost use Rattle.sb_tree.specs.Stored.{OthersStay, page_of};
 
 use crate::edit::{add_beside, take_in};
 use crate::entries::{begun_count, child_before, inner_place};
@@ -48,9 +48,14 @@ pub fn sb_add<S: Stage>(
         → SbStands (S.map stage.old) tree.old points
         → Replaces (tree_pages (S.map stage.old) tree.old) (tree_pages (S.map stage.new) tree.new)
         (S.map stage.old) (S.map stage.new)) }
+    // Whatever the pages hold, those outside the tree stay as they are.
+    ensures apart { OnOk result (IsTrue (S.tells stage.old) → OthersStay (tree_pages (S.map stage.old) tree.old) (S.map stage.old) (S.map stage.new)) }
     ensures count { OnOk result (tree.new.count ≡ tree.old.count + 1) }
     // What a page may spell before, it may spell afterwards, whatever the pages hold.
     ensures rules { OnOk result (IsTrue (plain_tree_fits tree.old) → IsTrue (plain_tree_fits tree.new)) }
+    // So it is with a root whose count is not told.
+    ensures root { OnOk result ((tree.old.levels ≢ 0 → 3 ≤ tree.old.root)
+        → (1 ≤ tree.new.levels) × (tree.new.levels ≤ 16) × (3 ≤ tree.new.root)) }
     ensures typed { IsTreeTyped tree.new }
     ensures beside { (tree.new.changes ≡ tree.old.changes) × (tree.new.last ≡ tree.old.last) }
     ensures unchanged { OnErr result (tree.new ≡ tree.old) }
@@ -116,6 +121,7 @@ fn add_below<S: Stage>(
     ensures raised { IfOk result (λ second. IsTrue (S.tells stage.old) → (least : ℕ)
         → StandsBelow level (S.map stage.old) page place.low place.high least → NamesNoneTwice (pages_below level (S.map stage.old) page)
         → IsRaised level (S.map stage.old) (S.map stage.new) page place.low place.high least place.sought value second) }
+    ensures apart { IfOk result (λ second. IsTrue (S.tells stage.old) → OthersStay (pages_below level (S.map stage.old) page) (S.map stage.old) (S.map stage.new)) }
     ensures second { IfOk result (λ second. SecondFits place.low place.high second) }
     ensures full { IfOk result (λ second. IsTrue (S.tells stage.old) → WasFull second (IsFullBelow level (S.map stage.old) page place.sought)) }
     ensures level { OnOk result (level ≤ 16) }

@@ -1,4 +1,4 @@
-use Rattle.std.proofs.Common.{◌-◌, inl, inr, List, Err, rules, arith, subst, ap, ◌∙◌, refl}
+use Rattle.std.proofs.Common.{◌-◌, inl, inr, List, Err, rules, arith, subst, sym, ap, ◌∙◌, refl}
 use Rattle.std.proofs.lemmas.Result.{err_from_is_err_and, IfOk-weaker}
 use Rattle.page_ports.specs.Pages.{PageMap}
 use Rattle.page_ports.specs.declared.page.StageFault.TheVariants.{Damaged}
@@ -11,6 +11,7 @@ use Rattle.sb_tree.specs.Stored.{IsSecondOf}
 use Rattle.sb_tree.proofs.Exits.{exit_error}
 use Rattle.sb_tree.proofs.Values.{damaged_further, leads_at_cut, some_at_cut}
 use Rattle.sb_tree.proofs.Nodes.{entries_on-spelled}
+use Rattle.sb_tree.proofs.Outside.{index_others, stored_others}
 use Rattle.sb_tree.proofs.Adding.{leaf_fits, leaf_storable, second_fits, leaf_full, leaf_result, inner_bounds, index_fits, index_storable, index_full, index_result}
 use Rattle.sb_tree.proofs.add.+add_below.Goals as goal
 
@@ -115,3 +116,15 @@ returns-clause-full g t c =
     c.in_ok-node.ensures.node.fits.rules.few c.add_beside.ensures is_second
     (c.child_before-child.ensures _ c.begun_count-begun.ensures ∙ ap (λ (es : List SbEntry). child_at es c.args.place.sought) c.as_slice-entries.ensures.value) c.inner_place-inner.ensures.sought
     (subst (λ (m : PageMap). WasFull c.in_ok-second.second (IsFullBelow (c.args.level - 1) m c.child_before-child.result c.inner_place-inner.result.sought)) c.read_in_place.ensures.reads.read.map (c.in_ok-second.ensures.full (search rules)))) c.store-2.ensures.second
+
+pub returns-clause-apart : goal.returns-clause-apart
+returns-clause-apart g t c =
+    let some = some_at_cut c.args.level c.args.place c.in_ok-node.node c.as_slice-entries.result.now c.begun_count-begun.result _ c.as_slice-entries.ensures.value
+    c.in_ok-node.ensures.node c.if-level-eq1.false c.begun_count-begun.ensures in
+    let on = entries_on-spelled (g.S.Pages.map c.args.stage.now) c.args.page c.in_ok-node.node c.in_ok-node.ensures.node.fits.typed c.in_ok-node.ensures.node.fits.rules in
+    IfOk-weaker c.store-2.result _ _ (λ second stored tells.
+    index_others c.args.level c.args.page c.child_before-child.result c.begun_count-begun.result c.args.place.sought (g.S.Pages.map c.args.stage.now) (g.S.Pages.map c.read_in_place.new.pages)
+    (g.S.Pages.map c.add_below.new.stage) (g.S.Pages.map c.store-2.new.stage) c.as_slice-entries.result.now (omega (arith, c.requires.level, c.if-level-eq1.false))
+    (on (c.in_ok-node.ensures.found tells) ∙ sym c.as_slice-entries.ensures.value) c.begun_count-begun.ensures some (c.child_before-child.ensures _ c.begun_count-begun.ensures)
+    c.read_in_place.ensures.reads.read.map (c.in_ok-second.ensures.apart (search rules))
+    (stored_others _ c.args.page _ (g.S.Pages.map c.add_below.new.stage) (g.S.Pages.map c.store-2.new.stage) second (stored (search rules)))) c.store-2.ensures.stored
