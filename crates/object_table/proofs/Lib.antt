@@ -1,4 +1,5 @@
 pub mod Ascending
+pub mod Clearing
 pub mod Exits
 pub mod Firsts
 pub mod Frames

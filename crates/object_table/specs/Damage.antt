@@ -1,15 +1,17 @@
 -- What a call on an object table may find damaged.
-use Rattle.std.specs.Prelude.{◌≡◌, ℕ, ◌⊎◌, ◌<◌, ◌≤◌, List, ◌∷◌, ◌++◌}
+use Rattle.std.specs.Prelude.{◌≡◌, ℕ, ◌⊎◌, ◌<◌, ◌≤◌, List, ◌∷◌, ◌++◌, map, Contains}
 use Rattle.std.specs.List.{All}
 use Rattle.bw_types.specs.declared.tree.Tree.{Tree}
 use Rattle.page_ports.specs.Pages.{PageMap}
 use Rattle.page_layout.specs.Damage.{IsDamagedBelow, NothingBeside}
+use Rattle.page_layout.specs.Footprint.{IsNamedTwice}
 use Rattle.page_layout.specs.declared.life_node.LifeNode.{LifeNode}
 use Rattle.page_layout.specs.declared.life_node.LifeEntry.{LifeEntry}
 use Rattle.object_table.specs.declared.form.Form.{Form}
 use Rattle.object_table.specs.declared.place.Place.{Place}
 use Rattle.object_table.specs.Keys.{key, low_key, key_end}
 use Rattle.object_table.specs.Nodes.{FitsLevel, objects_in, entries_in}
+use Rattle.object_table.specs.Lives.{table_pages}
 use Rattle.object_table.specs.Stands.{first_low}
 
 -- The node keeps to the place: its keys and lows lie within it; in an index node one of the lows is at or
@@ -68,3 +70,15 @@ IsDamagedOnPath form pages table sought damaged =
 abbrev pub IsDamagedOnWalk : Form → PageMap → Tree → ℕ → ℕ → Type 0
 IsDamagedOnWalk form pages table sought damaged =
     IsDamagedBelow (FitsPlace form) LeadsOn NothingBeside pages table.levels (root_place sought) table.root damaged
+
+-- The page is one of those from this page of the level down that holds no node of its level.
+abbrev pub IsDamagedFrom : Form → PageMap → ℕ → ℕ → ℕ → Type 0
+IsDamagedFrom form pages level page damaged =
+    IsDamagedBelow {N = LifeNode} {P = Unit {0}} (λ level _ node bytes. FitsLevel form level node bytes)
+    (λ _ node child _. Contains (map (λ (e : LifeEntry). e.child) (entries_in node)) child) NothingBeside pages level tt page damaged
+
+-- What freeing a table may call damaged: a page that holds no node of its level, or one that is named twice, so
+-- that it is gone when it is reached again.
+abbrev pub IsDamagedForFree : Form → PageMap → Tree → ℕ → Type 0
+IsDamagedForFree form pages table damaged =
+    IsDamagedFrom form pages table.levels table.root damaged ⊎ IsNamedTwice (table_pages form pages table) damaged

@@ -10,14 +10,18 @@
 
 mod finding;
 mod form;
+mod freeing;
 mod key;
 mod laws;
 mod node;
 mod path;
 mod place;
+#[cfg(test)]
+mod tests;
 mod walking;
 
 pub use finding::{find, find_old};
 pub use form::Form;
+pub use freeing::free_old;
 pub use laws::table_laws;
 pub use walking::{walk, walk_old};

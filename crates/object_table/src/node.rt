@@ -37,7 +37,8 @@ pub fn read_node<P: Pages>(
     Ok(node)
 }
 
-fn read_form<P: Pages>(
+/// The node of this level that the page spells; `Damaged` is as at `read_node`.
+pub fn read_form<P: Pages>(
     pages: &mut P,
     form: Form,
     page: u64,
