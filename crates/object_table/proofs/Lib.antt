@@ -1,0 +1,12 @@
+pub mod Ascending
+pub mod Clearing
+pub mod Exits
+pub mod Firsts
+pub mod Frames
+pub mod LastLives
+pub mod Nodes
+pub mod Order
+pub mod Reading
+pub mod Searching
+pub mod Sound
+pub mod Within

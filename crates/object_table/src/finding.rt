@@ -1,0 +1,117 @@
+//! Looking an id up.
+ghost use Rattle.std.specs.Prelude.{◌≡◌, ◌≢◌, ◌-◌, ◌==◌, ℕ, List, reverse, Err, IsTrue, IfOk};
+ghost use Rattle.std.specs.List.{find as list_find};
+ghost use Rattle.bw_types.specs.declared.dated.Dated.{Dated};
+ghost use Rattle.page_layout.specs.Damage.{IsDamagedBelow, NothingBeside};
+ghost use Rattle.page_ports.specs.Calls.{OnlyReads};
+ghost use Rattle.object_table.specs.declared.form.Form.TheVariants.{ByLives, ByIds};
+ghost use Rattle.object_table.specs.Damage.{FitsPlace, LeadsTo, IsDamagedOnPath};
+ghost use Rattle.object_table.specs.Keys.{greatest_key};
+ghost use Rattle.object_table.specs.Lives.{last_life, lives_below};
+ghost use Rattle.object_table.specs.Stands.{StandsBelow, TableStands};
+
+use crate::form::Form;
+use crate::key::key_of;
+use crate::node::read_node;
+use crate::path::{begun_count, step_to};
+use crate::place::{Place, root_place};
+use bw_types::{Dated, Tree};
+use page_layout::LifeNode;
+use page_ports::{PageFault, Pages};
+
+/// The last life of the id in a table by lives, or `None` exactly where it has none. It gets at most as
+/// many pages as the table has levels.
+///
+/// `Disk` comes only where the count of faults rose. `Damaged` carries the first page on the way down
+/// that is missing, is no node of its level, or does not keep to the keys for which it is reached.
+pub fn find<P: Pages>(pages: &mut P, table: &Tree, id: u64) -> Result<Option<Dated>, PageFault>
+    ensures last { IfOk result (λ found. IsTrue (P.tells pages.old) → (lives : List Dated)
+        → TableStands ByLives (P.map pages.old) table.now lives → found ≡ last_life id lives) }
+    ensures damaged { (page : ℕ) → result ≡ Err (PageFault.Damaged page) → IsTrue (P.tells pages.old)
+        → IsDamagedOnPath ByLives (P.map pages.old) table.now (greatest_key id) page }
+    ensures sound { (lives : List Dated) (page : ℕ) → IsTrue (P.tells pages.old)
+        → TableStands ByLives (P.map pages.old) table.now lives → result ≢ Err (PageFault.Damaged page) }
+    ensures reads { OnlyReads P.Pages table.now.levels pages.old pages.new result }
+{
+    find_in(pages, Form::ByLives, table, id)
+}
+
+/// The life of the id in a table by ids, or `None` exactly where it has none. It gets at most as many
+/// pages as the table has levels, and is refused as `find` is.
+pub fn find_old<P: Pages>(pages: &mut P, table: &Tree, id: u64) -> Result<Option<Dated>, PageFault>
+    ensures last { IfOk result (λ found. IsTrue (P.tells pages.old) → (lives : List Dated)
+        → TableStands ByIds (P.map pages.old) table.now lives → found ≡ last_life id lives) }
+    ensures damaged { (page : ℕ) → result ≡ Err (PageFault.Damaged page) → IsTrue (P.tells pages.old)
+        → IsDamagedOnPath ByIds (P.map pages.old) table.now (greatest_key id) page }
+    ensures sound { (lives : List Dated) (page : ℕ) → IsTrue (P.tells pages.old)
+        → TableStands ByIds (P.map pages.old) table.now lives → result ≢ Err (PageFault.Damaged page) }
+    ensures reads { OnlyReads P.Pages table.now.levels pages.old pages.new result }
+{
+    find_in(pages, Form::ByIds, table, id)
+}
+
+fn find_in<P: Pages>(
+    pages: &mut P,
+    form: Form,
+    table: &Tree,
+    id: u64,
+) -> Result<Option<Dated>, PageFault>
+    ensures last { IfOk result (λ found. IsTrue (P.tells pages.old) → (lives : List Dated)
+        → TableStands form (P.map pages.old) table.now lives → found ≡ last_life id lives) }
+    ensures damaged { (page : ℕ) → result ≡ Err (PageFault.Damaged page) → IsTrue (P.tells pages.old)
+        → IsDamagedOnPath form (P.map pages.old) table.now (greatest_key id) page }
+    ensures sound { (lives : List Dated) (page : ℕ) → IsTrue (P.tells pages.old)
+        → TableStands form (P.map pages.old) table.now lives → result ≢ Err (PageFault.Damaged page) }
+    ensures reads { OnlyReads P.Pages table.now.levels pages.old pages.new result }
+{
+    if table.levels == 0 {
+        return Ok(None);
+    }
+    let place = root_place(key_of(id, u32::MAX));
+    let found = find_below(pages, form, table.root, table.levels, place, id)?;
+    Ok(found)
+}
+
+// The last life of the id in the leaves from the page down; the greatest key of the id is sought.
+fn find_below<P: Pages>(
+    pages: &mut P,
+    form: Form,
+    page: u64,
+    level: u8,
+    place: Place,
+    id: u64,
+) -> Result<Option<Dated>, PageFault>
+    ensures last { IfOk result (λ found. IsTrue (P.tells pages.old) → (least : ℕ) → place.sought ≡ greatest_key id
+        → StandsBelow form level (P.map pages.old) page place.low place.high least
+        → found ≡ last_life id (lives_below form level (P.map pages.old) page)) }
+    ensures damaged { (damaged : ℕ) → result ≡ Err (PageFault.Damaged damaged) → IsTrue (P.tells pages.old)
+        → IsDamagedBelow (FitsPlace form) LeadsTo NothingBeside (P.map pages.old) level place page damaged }
+    ensures reads { OnlyReads P.Pages level pages.old pages.new result }
+{
+    if level == 0 {
+        return Ok(None);
+    }
+    match read_node(pages, form, page, level, place)? {
+        LifeNode::Leaf { objects } => Ok(last_of(objects.as_slice(), id)),
+        LifeNode::Index { level: _, entries } => {
+            let entries = entries.as_slice();
+            let begun = begun_count(entries, place.sought);
+            let step = step_to(entries, begun - 1, place, place.sought);
+            let found = find_below(pages, form, step.child, level - 1, step.place, id)?;
+            Ok(found)
+        }
+    }
+}
+
+// The last of the objects that has the id.
+fn last_of(objects: &[Dated], id: u64) -> Option<Dated>
+    ensures { result ≡ last_life id objects.now }
+{
+    let mut last = None;
+    for d in objects {
+        if d.object.id == id {
+            last = Some(*d);
+        }
+    }
+    last
+}

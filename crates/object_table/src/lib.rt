@@ -1,0 +1,27 @@
+//! The object table: every life of every object, in pages.
+//!
+//! A table stands for a list of objects with their dates, one for each life of an id, ascending by id
+//! and then life. It is a B+-tree, read down one path, so looking an id up costs as many pages as the
+//! table has levels.
+//!
+//! There are two forms: by lives, and an earlier one by ids, in which each id has its first life alone.
+//! The calls work over any `Pages` and `Stage`, on any content: what they find broken they name.
+#![tactic(auto)]
+
+mod finding;
+mod form;
+mod freeing;
+mod key;
+mod laws;
+mod node;
+mod path;
+mod place;
+#[cfg(test)]
+mod tests;
+mod walking;
+
+pub use finding::{find, find_old};
+pub use form::Form;
+pub use freeing::free_old;
+pub use laws::table_laws;
+pub use walking::{walk, walk_old};

@@ -1,0 +1,167 @@
+//! Walking through a table in order.
+ghost use Rattle.std.specs.Prelude.{◌≡◌, ◌≢◌, ◌+◌, ◌-◌, ◌*◌, ◌≤◌, ℕ, List, ◌∷◌, Option, Some, None, Ok, Err, IsTrue, IfOk};
+ghost use Rattle.bw_types.specs.declared.dated.Dated.{Dated};
+ghost use Rattle.page_layout.specs.Damage.{IsDamagedBelow, NothingBeside};
+ghost use Rattle.page_ports.specs.Calls.{OnlyReads};
+ghost use Rattle.object_table.specs.declared.form.Form.TheVariants.{ByLives, ByIds};
+ghost use Rattle.object_table.specs.Damage.{FitsPlace, LeadsTo, LeadsOn, IsDamagedOnWalk};
+ghost use Rattle.object_table.specs.Lives.{first_from, lives_below, from_life, from_id};
+ghost use Rattle.object_table.specs.Stands.{StandsBelow, TableStands};
+
+use crate::form::Form;
+use crate::key::{key, key_of};
+use crate::node::read_node;
+use crate::path::{begun_count, step_past, step_to};
+use crate::place::{Place, root_place};
+use bw_types::{Dated, Tree};
+use page_layout::LifeNode;
+use page_ports::{PageFault, Pages};
+
+/// The object after this id and life in a table by lives, or the first of all; `None` exactly where there
+/// is none. It gets at most twice as many pages as the table has levels, less one.
+///
+/// `Disk` comes only where the count of faults rose. `Damaged` carries the first page on the way that is
+/// missing, is no node of its level, or does not keep to the keys for which it is reached.
+pub fn walk<P: Pages>(
+    pages: &mut P,
+    table: &Tree,
+    after: Option<(u64, u32)>,
+) -> Result<Option<Dated>, PageFault>
+    ensures next { IfOk result (λ found. IsTrue (P.tells pages.old) → (lives : List Dated)
+        → TableStands ByLives (P.map pages.old) table.now lives → found ≡ first_from (from_life after) lives) }
+    ensures damaged { (page : ℕ) → result ≡ Err (PageFault.Damaged page) → IsTrue (P.tells pages.old)
+        → IsDamagedOnWalk ByLives (P.map pages.old) table.now (from_life after) page }
+    ensures sound { (lives : List Dated) (page : ℕ) → IsTrue (P.tells pages.old)
+        → TableStands ByLives (P.map pages.old) table.now lives → result ≢ Err (PageFault.Damaged page) }
+    ensures reads { OnlyReads P.Pages (2 * table.now.levels - 1) pages.old pages.new result }
+{
+    let sought = match after {
+        Some((id, life)) => key_of(id, life) + 1,
+        None => 0,
+    };
+    walk_in(pages, Form::ByLives, table, sought)
+}
+
+/// The object after this id in a table by ids, or the first of all; `None` exactly where there is none. It
+/// gets at most twice as many pages as the table has levels, less one, and is refused as `walk` is.
+pub fn walk_old<P: Pages>(
+    pages: &mut P,
+    table: &Tree,
+    after: Option<u64>,
+) -> Result<Option<Dated>, PageFault>
+    ensures next { IfOk result (λ found. IsTrue (P.tells pages.old) → (lives : List Dated)
+        → TableStands ByIds (P.map pages.old) table.now lives → found ≡ first_from (from_id after) lives) }
+    ensures damaged { (page : ℕ) → result ≡ Err (PageFault.Damaged page) → IsTrue (P.tells pages.old)
+        → IsDamagedOnWalk ByIds (P.map pages.old) table.now (from_id after) page }
+    ensures sound { (lives : List Dated) (page : ℕ) → IsTrue (P.tells pages.old)
+        → TableStands ByIds (P.map pages.old) table.now lives → result ≢ Err (PageFault.Damaged page) }
+    ensures reads { OnlyReads P.Pages (2 * table.now.levels - 1) pages.old pages.new result }
+{
+    let sought = match after {
+        Some(id) => key_of(id, u32::MAX) + 1,
+        None => 0,
+    };
+    walk_in(pages, Form::ByIds, table, sought)
+}
+
+fn walk_in<P: Pages>(
+    pages: &mut P,
+    form: Form,
+    table: &Tree,
+    sought: u128,
+) -> Result<Option<Dated>, PageFault>
+    ensures next { IfOk result (λ found. IsTrue (P.tells pages.old) → (lives : List Dated)
+        → TableStands form (P.map pages.old) table.now lives → found ≡ first_from sought lives) }
+    ensures damaged { (page : ℕ) → result ≡ Err (PageFault.Damaged page) → IsTrue (P.tells pages.old)
+        → IsDamagedOnWalk form (P.map pages.old) table.now sought page }
+    ensures sound { (lives : List Dated) (page : ℕ) → IsTrue (P.tells pages.old)
+        → TableStands form (P.map pages.old) table.now lives → result ≢ Err (PageFault.Damaged page) }
+    ensures reads { OnlyReads P.Pages (2 * table.now.levels - 1) pages.old pages.new result }
+{
+    if table.levels == 0 {
+        return Ok(None);
+    }
+    let place = root_place(sought);
+    let found = walk_below(pages, form, table.root, table.levels, place)?;
+    Ok(found)
+}
+
+// The first object from the key sought on in the leaves from the page down.
+fn walk_below<P: Pages>(
+    pages: &mut P,
+    form: Form,
+    page: u64,
+    level: u8,
+    place: Place,
+) -> Result<Option<Dated>, PageFault>
+    ensures next { IfOk result (λ found. IsTrue (P.tells pages.old) → (least : ℕ)
+        → StandsBelow form level (P.map pages.old) page place.low place.high least
+        → found ≡ first_from place.sought (lives_below form level (P.map pages.old) page)) }
+    ensures damaged { (damaged : ℕ) → result ≡ Err (PageFault.Damaged damaged) → IsTrue (P.tells pages.old)
+        → IsDamagedBelow (FitsPlace form) LeadsOn NothingBeside (P.map pages.old) level place page damaged }
+    // Where nothing was found, only the path was read.
+    ensures path { result ≡ Ok None → P.gets pages.new ≤ P.gets pages.old + level }
+    ensures reads { OnlyReads P.Pages (2 * level - 1) pages.old pages.new result }
+{
+    if level == 0 {
+        return Ok(None);
+    }
+    match read_node(pages, form, page, level, place)? {
+        LifeNode::Leaf { objects } => Ok(first_of(objects.as_slice(), place.sought)),
+        LifeNode::Index { level: _, entries } => {
+            let entries = entries.as_slice();
+            let begun = begun_count(entries, place.sought);
+            let step = step_to(entries, begun - 1, place, place.sought);
+            let found = walk_below(pages, form, step.child, level - 1, step.place)?;
+            if found.is_some() {
+                return Ok(found);
+            }
+            if begun >= entries.len() {
+                return Ok(None);
+            }
+            let next = step_past(entries, begun, place);
+            let first = first_below(pages, form, next.child, level - 1, next.place)?;
+            Ok(Some(first))
+        }
+    }
+}
+
+// The first object in the leaves from the page down, which is reached for the keys from the least on.
+fn first_below<P: Pages>(
+    pages: &mut P,
+    form: Form,
+    page: u64,
+    level: u8,
+    place: Place,
+) -> Result<Dated, PageFault>
+    requires { 1 ≤ level }
+    ensures first { IfOk result (λ found. IsTrue (P.tells pages.old) → (least : ℕ) → place.sought ≡ place.low
+        → StandsBelow form level (P.map pages.old) page place.low place.high least
+        → (rest : List Dated) × (lives_below form level (P.map pages.old) page ≡ found ∷ rest)) }
+    ensures damaged { (damaged : ℕ) → result ≡ Err (PageFault.Damaged damaged) → IsTrue (P.tells pages.old)
+        → IsDamagedBelow (FitsPlace form) LeadsOn NothingBeside (P.map pages.old) level place page damaged }
+    ensures reads { OnlyReads P.Pages level pages.old pages.new result }
+{
+    match read_node(pages, form, page, level, place)? {
+        LifeNode::Leaf { objects } => Ok(objects.as_slice()[0]),
+        LifeNode::Index { level: _, entries } => {
+            let entries = entries.as_slice();
+            let begun = begun_count(entries, place.sought);
+            let step = step_to(entries, begun - 1, place, place.sought);
+            let found = first_below(pages, form, step.child, level - 1, step.place)?;
+            Ok(found)
+        }
+    }
+}
+
+// The first of the objects from the key sought on.
+fn first_of(objects: &[Dated], sought: u128) -> Option<Dated>
+    ensures { result ≡ first_from sought objects.now }
+{
+    for d in objects {
+        if key(d) >= sought {
+            return Some(*d);
+        }
+    }
+    None
+}
