@@ -1,13 +1,12 @@
 -- What the crates above know of object tables, beside the contracts of the calls.
-use Rattle.std.specs.Prelude.{◌≡◌, ℕ, ◌<◌, ◌≤◌, List, [], ◌∷◌, length, Some, None, Contains}
-use Rattle.std.specs.List.{All}
+use Rattle.std.specs.Prelude.{◌≡◌, List, [], length}
 use Rattle.bw_types.specs.declared.dated.Dated.{Dated}
 use Rattle.bw_types.specs.declared.tree.Tree.{Tree}
 use Rattle.page_ports.specs.Pages.{PageMap}
 use Rattle.page_ports.specs.Frame.{AgreeOn, AreInMap}
 use Rattle.object_table.specs.declared.form.Form.{Form}
-use Rattle.object_table.specs.Keys.{key}
-use Rattle.object_table.specs.Lives.{table_pages, last_life}
+use Rattle.object_table.specs.Keys.{key, AscendBy}
+use Rattle.object_table.specs.Lives.{table_pages}
 use Rattle.object_table.specs.Stands.{TableStands, IsEmptyTable}
 
 -- Whether a table stands, and its footprint, depend on the pages of its footprint alone.
@@ -26,8 +25,7 @@ StandsForOneList = (form : Form) (pages : PageMap) (table : Tree) (lives others 
 
 -- each object stands above those before it, by id and then life
 abbrev pub Ascend : List Dated → Type 0
-Ascend [] = Unit {0}
-Ascend (d ∷ lives) = All (λ e. key d < key e) lives × Ascend lives
+Ascend lives = AscendBy key lives
 
 -- The objects of a table ascend by id and then life.
 abbrev pub LivesAscend : Type 0

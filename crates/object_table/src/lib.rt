@@ -8,6 +8,8 @@
 //! The calls work over any `Pages` and `Stage`, on any content: what they find broken they name.
 #![tactic(auto)]
 
+mod copying;
+mod entering;
 mod finding;
 mod form;
 mod freeing;
@@ -16,10 +18,13 @@ mod laws;
 mod node;
 mod path;
 mod place;
+mod storing;
+mod taking;
 #[cfg(test)]
 mod tests;
 mod walking;
 
+pub use entering::enter;
 pub use finding::{find, find_old};
 pub use form::Form;
 pub use freeing::free_old;
