@@ -85,7 +85,7 @@ same_leaf form a b page low high least e s =
       filled = subst (λ (ds : List Dated). least ≤ length ds) objects s.filled;
     }
 
-same_index : (form : Form) (a b : PageMap) (level page low high least : ℕ) → b page ≡ a page → IndexStands form a level page low high least → IndexStands form b level page low high least
+pub same_index : (form : Form) (a b : PageMap) (level page low high least : ℕ) → b page ≡ a page → IndexStands form a level page low high least → IndexStands form b level page low high least
 same_index form a b level page low high least e s =
     let entries = sym (same_entries form a b page e) in
     record {

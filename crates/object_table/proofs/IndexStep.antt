@@ -24,7 +24,7 @@ use Rattle.object_table.specs.Lives.{pages_below}
 use Rattle.object_table.specs.Nodes.{FitsLevel, node_on, entries_in, entries_on}
 use Rattle.object_table.specs.Stands.{first_low, fewest, StandsBelow}
 use Rattle.object_table.specs.Steps.{IsCut, IsStepTo}
-use Rattle.object_table.specs.Stored.{IsStored, IsSecondOf, OthersStay, entry_name, index_of}
+use Rattle.object_table.specs.Stored.{IsStored, IsSecondOf, IsWhole, OthersStay, entry_name, index_of}
 use Rattle.object_table.proofs.BelowIndex.{EntriesEntered, entries_with, entered_below, proper_with, ends_with, from_with, begins_with, length_with, whole_entered, halves_entered, half_keeps}
 use Rattle.object_table.proofs.Clearing.{own_pages}
 use Rattle.object_table.proofs.Footprints.{page_kept, apart_from_missing, eqb_swap, once_left, once_right}
@@ -351,3 +351,6 @@ second_is o s low high is fits = subst (λ (q : Option LifeEntry). SecondFits lo
 pub full_is : (o : Option LifeEntry) (s : LifeEntry) (level : ℕ) (m0 m1 : PageMap) (page sought : ℕ) → o ≡ Some s → m1 ≡ m0 → WasFull o (IsFullBelow level m1 page sought) → IsFullBelow level m0 page sought
 full_is o s level m0 m1 page sought is same full =
     subst (λ (m : PageMap). IsFullBelow level m page sought) same (subst (λ (q : Option LifeEntry). WasFull q (IsFullBelow level m1 page sought)) is full)
+
+pub whole_others : (node : LifeNode) (page : ℕ) (m n : PageMap) → IsWhole node m n page → OthersStay (page ∷ []) m n
+whole_others node page m n s = λ p outside there. s.1 p (or_parts (page == p) false outside).0

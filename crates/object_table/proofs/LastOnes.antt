@@ -18,7 +18,7 @@ use Rattle.object_table.proofs.Ascending.{root_ascend}
 use Rattle.object_table.proofs.Searching.{All-head, All-tail, last_life-append, last_life-one, last_life-other}
 use Rattle.object_table.proofs.Within.{lives_within}
 
-some_first : (x y : Dated) → Some x ≡ Some y → x ≡ y
+pub some_first : (x y : Dated) → Some x ≡ Some y → x ≡ y
 some_first x y e = cc
 
 no_some : {y : Dated} → ◌≡◌ {A = Option Dated} None (Some y) → ⊥

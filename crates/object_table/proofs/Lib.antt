@@ -13,6 +13,7 @@ pub mod Landing
 pub mod LastLives
 pub mod LastOnes
 pub mod Low
+pub mod MarkSteps
 pub mod Nodes
 pub mod Order
 pub mod Ordered
@@ -24,4 +25,5 @@ pub mod Sound
 pub mod SoundAsked
 pub mod Standing
 pub mod Stepping
+pub mod Withdrawals
 pub mod Within

@@ -35,6 +35,18 @@ is_last_life id lives d = option_map_or (λ last. key last == key d) (last_life 
 abbrev pub with_withdrawal : ℕ → ℕ → ℕ → List Dated → List Dated
 with_withdrawal id version event lives = map (λ d. if is_last_life id lives d then withdrawn_at version event d else d) lives
 
+-- The last life of the id was withdrawn, and nothing else changed.
+pub record IsMarked (old new : List Dated) (id version event : ℕ) : Type 0 where
+  pub before : List Dated
+  pub life : Dated
+  pub after : List Dated
+  pub was : old ≡ before ++ (life ∷ after)
+  pub is : new ≡ before ++ (withdrawn_at version event life ∷ after)
+  pub own : life.object.id ≡ id
+  pub others : All (λ d. (d.object.id == id) ≡ false) after
+  pub lives_on : life.withdrawn ≡ 0
+  pub earlier : life.added < version
+
 -- The id has a last life, which is not withdrawn and was added before the version.
 pub record CanWithdraw (id version : ℕ) (lives : List Dated) : Type 0 where
   pub last : Dated

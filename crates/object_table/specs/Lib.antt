@@ -4,6 +4,7 @@ pub mod Entered
 pub mod Keys
 pub mod Laws
 pub mod Lives
+pub mod Marked
 pub mod Nodes
 pub mod Stands
 pub mod Steps

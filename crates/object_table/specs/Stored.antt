@@ -1,7 +1,7 @@
 -- What is stored of a node, in one page or in two.
 use Rattle.std.specs.Prelude.{◌≡◌, ℕ, ◌+◌, ◌<◌, ◌≤◌, ◌^◌, ◌==◌, false, Bool, IsTrue, List, ◌∷◌, length, take, drop, Option, Some, None, IsSome}
 use Rattle.bw_types.specs.declared.dated.Dated.{Dated}
-use Rattle.object_table.specs.Edits.{IsPutIn}
+use Rattle.object_table.specs.Edits.{IsMarked, IsPutIn}
 use Rattle.page_ports.specs.Pages.{PageMap}
 use Rattle.page_ports.specs.Frame.{names_page}
 use Rattle.page_layout.specs.LifeNode.{life_node_page}
@@ -64,3 +64,9 @@ pub record IsPutInLeaf (objects : List Dated) (d : Dated) (tells : Bool) (before
   pub put : IsPutIn objects new d
   pub second_is : IsSecondOf object_name 14 7 new second
   pub stored : IsTrue tells → IsStored leaf_of object_name 14 7 new before after page second
+
+-- The last life of the id was withdrawn among the objects of the leaf, and they are stored.
+pub record IsMarkedInLeaf (objects : List Dated) (id version event : ℕ) (tells : Bool) (before after : PageMap) (page : ℕ) : Type 0 where
+  pub new : List Dated
+  pub marked : IsMarked objects new id version event
+  pub stored : IsTrue tells → IsWhole (leaf_of new) before after page

@@ -26,8 +26,8 @@ pub fn take_in(objects: &mut ArrayVec<Dated, 15>, dated: &Dated) -> bool
     true
 }
 
-// How many of the objects stand at or before the key.
-fn begun_objects(objects: &[Dated], sought: u128) -> usize
+/// How many of the objects stand at or before the key.
+pub fn begun_objects(objects: &[Dated], sought: u128) -> usize
     requires { AllAdjacentBelow (λ d next. spec_key d < spec_key next) objects.now (length objects.now) }
     ensures bound { result ≤ length objects.now }
     ensures begun { All (λ d. spec_key d ≤ sought) (take result objects.now) }
