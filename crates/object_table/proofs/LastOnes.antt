@@ -24,7 +24,7 @@ some_first x y e = cc
 no_some : {y : Dated} → ◌≡◌ {A = Option Dated} None (Some y) → ⊥
 no_some e = cc
 
-last_cons : (id : ℕ) (x : Dated) (xs : List Dated) → last_life id (x ∷ xs) ≡ option_or (last_life id xs) (last_life id (x ∷ []))
+pub last_cons : (id : ℕ) (x : Dated) (xs : List Dated) → last_life id (x ∷ xs) ≡ option_or (last_life id xs) (last_life id (x ∷ []))
 last_cons id x xs = last_life-append id (x ∷ []) xs
 
 one_found : (P : Dated → Type 0) (id : ℕ) (x l : Dated) → last_life id (x ∷ []) ≡ Some l → P x → P l × (l.object.id ≡ id)
@@ -85,7 +85,7 @@ new_key lives d asc typed fits new = λ i e h same.
     let own : a.last.object.id ≡ d.object.id = (found_in (λ (x : Dated). x.life < 2 ^ 32) d.object.id lives a.last a.found typed).1 in
     omega (arith, a.above, same, less, own)
 
-root_typed : (form : Form) (levels : ℕ) (m : PageMap) (root : ℕ) → RootStands form levels m root → All (λ e. e.life < 2 ^ 32) (lives_below form levels m root)
+pub root_typed : (form : Form) (levels : ℕ) (m : PageMap) (root : ℕ) → RootStands form levels m root → All (λ e. e.life < 2 ^ 32) (lives_below form levels m root)
 root_typed form zero m root s = All-nil (λ (e : Dated). e.life < 2 ^ 32)
 root_typed form (suc level) m root s = λ i e h. (lives_within form (suc level) m root 0 key_end 1 s i e h).typed
 

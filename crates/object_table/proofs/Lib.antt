@@ -2,6 +2,7 @@ pub mod Ascending
 pub mod BelowIndex
 pub mod Clearing
 pub mod Exits
+pub mod FirstLives
 pub mod Firsts
 pub mod Footprints
 pub mod Frames
@@ -10,6 +11,7 @@ pub mod Halving
 pub mod InLeaf
 pub mod IndexStep
 pub mod Landing
+pub mod LastAfter
 pub mod LastLives
 pub mod LastOnes
 pub mod Low

@@ -29,6 +29,6 @@ pub use entering::enter;
 pub use finding::{find, find_old};
 pub use form::Form;
 pub use freeing::free_old;
-pub use laws::table_laws;
+pub use laws::{last_life_laws, table_laws};
 pub use marking::mark_withdrawn;
 pub use walking::{walk, walk_old};
