@@ -61,26 +61,30 @@ put_some : (lives : List Dated) (d : Dated) → AscendBy key lives → HaveNot (
 put_some [] d asc none = (d ∷ [], record { before = []; after = []; was = refl; is = refl; less = All-nil (λ (e : Dated). key e < key d); more = All-nil (λ (e : Dated). key d < key e) })
 put_some (x ∷ xs) d asc none = elim (cases_lt (key x) (key d)) [
   | inl less ↦
-      let r = put_some xs d asc.1 (All-tail (λ (e : Dated). key e ≢ key d) x xs none) in
-      (x ∷ r.0, record {
-        before = x ∷ r.1.before;
-        after = r.1.after;
-        was = ap (λ (ds : List Dated). x ∷ ds) r.1.was;
-        is = ap (λ (ds : List Dated). x ∷ ds) r.1.is;
-        less = All-cons (λ (e : Dated). key e < key d) x r.1.before less r.1.less;
-        more = r.1.more;
-      })
+      let r = put_some xs d asc.1 (All-tail (λ (e : Dated). key e ≢ key d) x xs none) in (
+        x ∷ r.0,
+        record {
+          before = x ∷ r.1.before;
+          after = r.1.after;
+          was = ap (λ (ds : List Dated). x ∷ ds) r.1.was;
+          is = ap (λ (ds : List Dated). x ∷ ds) r.1.is;
+          less = All-cons (λ (e : Dated). key e < key d) x r.1.before less r.1.less;
+          more = r.1.more;
+        },
+      )
   | inr not_less ↦
       let other : key x ≢ key d = All-head (λ (e : Dated). key e ≢ key d) x xs none in
-      let above : key d < key x = from_not (key x) (key d) not_less other in
-      (d ∷ (x ∷ xs), record {
-        before = [];
-        after = x ∷ xs;
-        was = refl;
-        is = refl;
-        less = All-nil (λ (e : Dated). key e < key d);
-        more = All-cons (λ (e : Dated). key d < key e) x xs above (λ i e h. omega (arith, above, asc.0 i e h));
-      })
+      let above : key d < key x = from_not (key x) (key d) not_less other in (
+        d ∷ (x ∷ xs),
+        record {
+          before = [];
+          after = x ∷ xs;
+          was = refl;
+          is = refl;
+          less = All-nil (λ (e : Dated). key e < key d);
+          more = All-cons (λ (e : Dated). key d < key e) x xs above (λ i e h. omega (arith, above, asc.0 i e h));
+        },
+      )
 ]
 
 put_in_table : (form : Form) (m : PageMap) (table : Tree) (lives : List Dated) (d : Dated) → TableStands form m table lives → d.life < 2 ^ 32 → IsNewLife lives d → IsPutIn lives (with_object d lives) d
