@@ -1,0 +1,4 @@
+pub mod Staging
+pub mod Rising
+pub mod LivesTold
+pub mod LastLives
