@@ -54,8 +54,8 @@ pub fn run<S: Source, K: Sink>(
     ensures read_fault { result ≡ Status.ReadFault → Rose (S.faults source.old) (S.faults source.new) }
     ensures write_fault { result ≡ Status.WriteFault → Rose (K.faults sink.old) (K.faults sink.new) }
     ensures disk_fault { result ≢ Status.DiskFault }
-    ensures damaged { (page : ℕ) → IsTrue (S.tells source.old) → result ≢ Status.Damaged page }
-    ensures page_limit { (allotted : ℕ) → IsTrue (S.tells source.old) → result ≢ Status.PageLimit allotted }
+    ensures damaged { (page : ℕ) → result ≢ Status.Damaged page }
+    ensures page_limit { (allotted : ℕ) → result ≢ Status.PageLimit allotted }
     ensures input_limit { (taken : ℕ) → result ≡ Status.InputLimit taken → (taken ≡ 2 ^ 40)
         × (IsTrue (S.tells source.old) → length (S.left source.old) ≡ 2 ^ 40 + length (S.left source.new)) }
 
@@ -95,7 +95,7 @@ fn scratch<S: Source, K: Sink>(
     ensures disk_fault { result ≢ Status.DiskFault }
     ensures input_limit { (taken : ℕ) → result ≡ Status.InputLimit taken → (taken ≡ 2 ^ 40)
         × (IsTrue (S.tells source.old) → length (S.left source.old) ≡ 2 ^ 40 + length (S.left source.new)) }
-    ensures sound { IsTrue (S.tells source.old) → ((page : ℕ) → result ≢ Status.Damaged page) × ((allotted : ℕ) → result ≢ Status.PageLimit allotted) }
+    ensures sound { ((page : ℕ) → result ≢ Status.Damaged page) × ((allotted : ℕ) → result ≢ Status.PageLimit allotted) }
 {
     ends_laws::<ListHouse>();
     machine_laws();

@@ -45,7 +45,7 @@ served_nothing tells params first input before = record {
 }
 
 -- the step on the line after those given
-after_line : (params : Params) (first now : State) (n : ℕ) (ls : List (List ℕ)) (line : List ℕ) → n ≡ 1 + length ls → now ≡ state_after params 1 first ls → (step params n now line).state ≡ state_after params 1 first (ls ++ line ∷ [])
+pub after_line : (params : Params) (first now : State) (n : ℕ) (ls : List (List ℕ)) (line : List ℕ) → n ≡ 1 + length ls → now ≡ state_after params 1 first ls → (step params n now line).state ≡ state_after params 1 first (ls ++ line ∷ [])
 after_line params first now n ls line en es =
     ap (λ (k : ℕ). (step params k now line).state) en
     ∙ (ap (λ (s : State). (step params (1 + length ls) s line).state) es

@@ -11,7 +11,7 @@ ghost use Rattle.csv_rows.specs.declared.lines.Line.TheVariants as answered;
 ghost use Rattle.row_machine.specs.Outbox.{gathered};
 ghost use Rattle.row_machine.specs.Runs.{WritesMore, WritesPart};
 ghost use Rattle.row_machine.specs.Housed.{IsHouseEnding, MayTake, rows_committed};
-ghost use Rattle.row_machine.specs.Serving.{BreaksOff, Ends, GoesOn, IsBetweenLines, IsFlushed, MayGoOn, MayServe, SeenEnd, ServesLine, ServesText, device_after, line_cost, state_at};
+ghost use Rattle.row_machine.specs.Serving.{BreaksOff, Ends, GoesOn, IsBetweenLines, IsFlushed, Lasts, LastsBeyond, MayGoOn, MayServe, SeenEnd, ServesLine, ServesText, device_after, line_cost, state_at};
 
 use crate::desk::Desk;
 use crate::ending::{Ending, Ran};
@@ -56,6 +56,7 @@ fn serve_text<H: House>(
     ensures serves { (whole : Bool) (h : History) → MayTake whole (input desk.params line.now) → H.stands whole (H.device desk.house) desk.params h →
         ServesText ⟦<H as House>⟧ whole desk.params h (step desk.params number (state_at ⟦<H as House>⟧ h desk) line.now)
         (rows_committed (state_at ⟦<H as House>⟧ h desk) (input desk.params line.now)) (MayTake false (input desk.params line.now)) (line_cost H.cost desk.params h line.now) (H.device desk.house) (gathered outbox.old) (gathered outbox.new) result }
+    ensures lasts { (h : History) → H.stands true (H.device desk.house) desk.params h → LastsBeyond ⟦<H as House>⟧ desk.params h (H.device desk.house) result }
     ensures within { IfErr result (λ ran. IsHouseEnding ran.ending) }
     ensures unsaid { OnErr result (gathered outbox.new ≡ gathered outbox.old) }
     ensures faults { H.faults (H.device desk.house) ≤ H.faults (device_after ⟦<H as House>⟧ result) }
@@ -78,6 +79,7 @@ fn serve_long<H: House>(
     ensures serves { (whole : Bool) (h : History) (line : List ℕ) → longest_line < length line → H.stands whole (H.device desk.house) desk.params h →
         ServesText ⟦<H as House>⟧ whole desk.params h (step desk.params number (state_at ⟦<H as House>⟧ h desk) line)
         (rows_committed (state_at ⟦<H as House>⟧ h desk) (input desk.params line)) (MayTake false (input desk.params line)) (line_cost H.cost desk.params h line) (H.device desk.house) (gathered outbox.old) (gathered outbox.new) result }
+    ensures lasts { (h : History) → H.stands true (H.device desk.house) desk.params h → LastsBeyond ⟦<H as House>⟧ desk.params h (H.device desk.house) result }
     ensures within { IfErr result (λ ran. IsHouseEnding ran.ending) }
     ensures unsaid { OnErr result (gathered outbox.new ≡ gathered outbox.old) }
     ensures faults { H.faults (H.device desk.house) ≤ H.faults (device_after ⟦<H as House>⟧ result) }
@@ -114,6 +116,8 @@ fn serve_line<H: House, S: Source>(
         ServesLine ⟦<H as House>⟧ whole desk.params number
         (to_come reader.old (S.left source.old)) (to_come reader.new (S.left source.new)) reader.new.stopped
         h desk new (gathered outbox.old) (gathered outbox.new)) }
+
+    ensures lasts { (h : History) → H.stands true (H.device desk.house) desk.params h → LastsBeyond ⟦<H as House>⟧ desk.params h (H.device desk.house) result }
 
     // The run ends between two lines, or in one, of which nothing is replied then.
     ensures ended { IfErr result (λ ran. IsBetweenLines ran.ending ⊎ IsHouseEnding ran.ending) }
@@ -203,6 +207,8 @@ pub fn serve<H: House, S: Source, K: Sink>(
         → H.stands whole (H.device desk.house) desk.params h →
         Ends ⟦<H as House>⟧ whole (K.tells sink.old) (K.tells sink.new) (S.tells source.new) desk.params (state_at ⟦<H as House>⟧ h desk)
         (S.left source.old) (S.left source.new) (H.device desk.house) result (K.written sink.old) (K.written sink.new) }
+    // The same of the history and of crashes, whatever the source gives.
+    ensures lasts { (h : History) → H.stands true (H.device desk.house) desk.params h → Lasts ⟦<H as House>⟧ desk.params h (H.device desk.house) result }
     ensures at_end { result.ending ≡ Ending.Fine → IsTrue (S.tells source.old) →
         (S.left source.new ≡ []) × (length (S.left source.old) < 2 ^ 40) }
     ensures tells { IsFlushed result.ending → IsTrue (K.tells sink.old) → IsTrue (K.tells sink.new) }

@@ -183,6 +183,10 @@ impl House for ListHouse {
 
     ghost lacks_pages = { λ house params h rows. ⊥ };
 
+    ghost charge = { λ house. 0 };
+
+    ghost need = { λ params h rows. 0 };
+
     ghost cost = { λ params h query. 0 };
 
     fn params(&self) -> Params {
