@@ -16,6 +16,7 @@ pub mod Spelled
 pub mod Damage
 pub mod DamageLaws
 pub mod Footprint
+pub mod FootprintLaws
 pub mod PointLeaf
 pub mod PointView
 pub mod TreePage

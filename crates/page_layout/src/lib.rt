@@ -14,6 +14,7 @@ mod cut_page;
 mod cut_view;
 mod dated;
 mod entry;
+mod footprint;
 mod free_page;
 mod front;
 mod journal_head;
@@ -40,6 +41,7 @@ mod view;
 
 pub use cut_node::{CutNode, cuts_are_tested};
 pub use cut_page::CutPage;
+pub use footprint::footprint_laws;
 pub use free_page::FreePage;
 pub use journal_head::JournalHead;
 pub use life_node::{LifeEntry, LifeNode};
