@@ -4,8 +4,11 @@ pub mod Three
 pub mod Entries
 pub mod Counted
 pub mod Respelled
+pub mod Respelling
+pub mod TestedRow
 pub mod Children
 pub mod Head
+pub mod HeadView
 pub mod FreePage
 pub mod SbNode
 pub mod SbView
@@ -31,7 +34,9 @@ pub mod CutView
 pub mod Signed
 pub mod Dated
 pub mod LifeNode
+pub mod LifeView
 pub mod TableNode
+pub mod TableView
 pub mod HeadLaws
 pub mod FreePageLaws
 pub mod SbNodeLaws

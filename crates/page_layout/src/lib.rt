@@ -19,6 +19,7 @@ mod free_page;
 mod front;
 mod journal_head;
 mod life_node;
+mod life_view;
 mod meta;
 mod mv_node;
 mod mv_view;
@@ -33,6 +34,7 @@ mod spelled;
 mod summed;
 mod super_page;
 mod table_node;
+mod table_view;
 #[cfg(test)]
 mod tests;
 mod three;
