@@ -2,3 +2,4 @@ pub mod Staging
 pub mod Rising
 pub mod LivesTold
 pub mod LastLives
+pub mod LivesGrown
