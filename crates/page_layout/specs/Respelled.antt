@@ -179,6 +179,18 @@ entry_at-place f size (suc n) bytes (suc i) d h =
     let place : size + i * size ≡ suc i * size = omega (arith, product) in
     entry_at-place f size n (drop size bytes) i d (omega arith) ∙ ap f (drop-drop (i * size) size bytes ∙ ap (λ (k : ℕ). drop k bytes) place)
 
+-- as many are read as were asked for
+pub length-read : {X : Type 0} (f : List ℕ → X) (size n : ℕ) (bytes : List ℕ) → length (entries_at f size n bytes) ≡ n
+unfolding entries_at
+length-read f size zero bytes = refl
+length-read f size (suc n) bytes = ap suc (length-read f size n (drop size bytes))
+
+-- what is read at the place of an entry is that entry
+pub row_place : {X : Type 0} (f : List ℕ → X) (size n : ℕ) (bytes : List ℕ) (xs : List X) → xs ≡ entries_at f size n bytes → (i : ℕ) → i < length xs
+    → (x : X) → x ≡ f (drop (i * size) bytes) → (d : X) → x ≡ get_or xs i d
+row_place {X = X} f size n bytes xs is_row i lt x is_x d =
+    is_x ∙ sym (entry_at-place f size n bytes i d (omega (arith, lt, ap length is_row, length-read f size n bytes))) ∙ ap (λ (ys : List X). get_or ys i d) (sym is_row)
+
 module _ {X : Type 0} (P : X → Type 0) where
   more : (x : X) (xs : List X) → P x → All P xs → (k : ℕ) (d : X) → k < length (x ∷ xs) → P (get_or (x ∷ xs) k d)
   more x xs one all zero d h = one

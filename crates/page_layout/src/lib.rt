@@ -14,10 +14,12 @@ mod cut_page;
 mod cut_view;
 mod dated;
 mod entry;
+mod footprint;
 mod free_page;
 mod front;
 mod journal_head;
 mod life_node;
+mod life_view;
 mod meta;
 mod mv_node;
 mod mv_view;
@@ -32,6 +34,7 @@ mod spelled;
 mod summed;
 mod super_page;
 mod table_node;
+mod table_view;
 #[cfg(test)]
 mod tests;
 mod three;
@@ -40,6 +43,7 @@ mod view;
 
 pub use cut_node::{CutNode, cuts_are_tested};
 pub use cut_page::CutPage;
+pub use footprint::footprint_laws;
 pub use free_page::FreePage;
 pub use journal_head::JournalHead;
 pub use life_node::{LifeEntry, LifeNode};
