@@ -1,0 +1,9 @@
+pub mod Chains
+pub mod Costs
+pub mod Exits
+pub mod Frames
+pub mod Freeing
+pub mod Nodes
+pub mod Sound
+pub mod Standing
+pub mod Values

@@ -1,0 +1,4 @@
+pub mod Damage
+pub mod Laws
+pub mod Stands
+pub mod Steps
