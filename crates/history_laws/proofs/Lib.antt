@@ -3,3 +3,5 @@ pub mod Rising
 pub mod LivesTold
 pub mod LastLives
 pub mod LivesGrown
+pub mod AnswerBounds
+pub mod Room
