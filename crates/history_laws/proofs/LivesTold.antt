@@ -1,7 +1,8 @@
 -- The lives of numbered changes tell what the changes leave live.
-use Rattle.std.proofs.Common.{◌≡◌, ℕ, ◌<◌, Bool, true, false, ◌&&◌, ◌||◌, ◌==◌, not, nat_le, nat_lt, List, [], ◌∷◌, ◌++◌, map, refl, sym, ◌∙◌, ap, arith, inl, inr, if◌then◌else◌}
+use Rattle.std.proofs.Common.{◌≡◌, ◌⊎◌, ℕ, ◌<◌, ◌≤◌, Bool, true, false, ◌&&◌, ◌||◌, ◌==◌, not, nat_le, nat_lt, List, [], ◌∷◌, ◌++◌, map, refl, sym, ◌∙◌, ap, arith, inl, inr, if◌then◌else◌}
 use Rattle.std.proofs.lemmas.Bool.{le-leb, lt-leb, lt-ltb, le-ltb, ne_eqb, cases_Bool, cases_lt}
-use Rattle.std.specs.List.{filter, list_any}
+use Rattle.std.proofs.lemmas.List.Elements.{All-cons, All-nil}
+use Rattle.std.specs.List.{All, filter, list_any}
 use Rattle.std.specs.Option.{option_map_or}
 use Rattle.bw_types.specs.History.{History, adds, withdraws, changes, live, live_of}
 use Rattle.bw_types.specs.Lives.{Numbered, numbered, withdrawal_of, life_of, begun_life, lives_after, lives}
@@ -10,7 +11,7 @@ use Rattle.bw_types.specs.declared.change.Change.{Change}
 use Rattle.bw_types.specs.declared.change.Change.TheVariants as change
 use Rattle.bw_types.specs.declared.dated.Dated.{Dated}
 use Rattle.bw_types.specs.declared.object.Object.{Object}
-use Rattle.history_laws.specs.Living.{is_live_at, objects_at}
+use Rattle.history_laws.specs.Living.{IsInOrder, is_live_at, objects_at}
 use Rattle.history_laws.proofs.Rising.{From, Rises, rises, seen, changed, changed_all, changes_up_to, none_seen}
 
 -- the version of the first withdrawal of the id, or 0
@@ -123,3 +124,24 @@ added_told id earlier (n ∷ ns) =
 
 pub tells_added : (h : History) (id : ℕ) → was_added id (changes h) ≡ list_any (λ (d : Dated). d.object.id == id) (lives h)
 tells_added h id = ap (list_any (adds id)) (sym (changed_all h)) ∙ added_told id [] (numbered h)
+
+-- where something is withdrawn, that was no earlier than the versions before
+ended_from : (id w : ℕ) (ns : List Numbered) → From w ns → (ended_in id ns ≡ 0) ⊎ (w ≤ ended_in id ns)
+ended_from id w [] f = inl refl
+ended_from id w (n ∷ ns) f = elim (cases_Bool (withdraws id n.change)) [
+  | inl is_so ↦ let at : ended_in id (n ∷ ns) ≡ n.version = rw is_so refl in inr (omega (arith, at, f.0))
+  | inr is_not ↦ let at : ended_in id (n ∷ ns) ≡ ended_in id ns = rw is_not refl in
+      elim (ended_from id w ns f.1) [ inl none ↦ inl (at ∙ none) | inr later ↦ inr (omega (arith, at, later)) ]
+]
+
+in_order_after : (earlier ns : List Numbered) → Rises ns → All IsInOrder (lives_after earlier ns)
+in_order_after earlier [] r = All-nil IsInOrder
+in_order_after earlier (n ∷ ns) r =
+    let rest = in_order_after (earlier ++ n ∷ []) ns r.2 in
+    elim n.change as (λ c. All IsInOrder (begun_life earlier n c ns ++ lives_after (earlier ++ n ∷ []) ns)) [
+      | change.Add o ↦ All-cons IsInOrder (life_of earlier n o ns) (lives_after (earlier ++ n ∷ []) ns) (record { begun = r.0; ended = ended_from o.id n.version ns r.1 }) rest
+      | change.Withdraw id ↦ rest
+    ]
+
+pub in_order : (h : History) → All IsInOrder (lives h)
+in_order h = in_order_after [] (numbered h) (rises h)

@@ -38,7 +38,7 @@ none_mapped f (Some x) h = absurd (cc)
 map_none : {X Y : Type 0} (f : X → Y) (o : Option X) → o ≡ None → option_map f o ≡ None
 map_none f o e = rw e refl
 
-none_if : {X : Type 0} (b : Bool) (x : X) (o : Option X) → (if b then Some x else o) ≡ None → (b ≡ false) × (o ≡ None)
+pub none_if : {X : Type 0} (b : Bool) (x : X) (o : Option X) → (if b then Some x else o) ≡ None → (b ≡ false) × (o ≡ None)
 none_if true x o h = absurd (cc)
 none_if false x o h = (refl, h)
 
@@ -69,7 +69,7 @@ withdrawn (change.Add p ∷ cs) id =
       ]
     ])
 
-total_withdrawn : (params : Params) (cs : List Change) (id : ℕ) → total_mass params (cs ++ change.Withdraw id ∷ []) ≡ total_mass params cs
+pub total_withdrawn : (params : Params) (cs : List Change) (id : ℕ) → total_mass params (cs ++ change.Withdraw id ∷ []) ≡ total_mass params cs
 total_withdrawn params cs id =
     let more = sum_by-append (added_mass params) cs (change.Withdraw id ∷ []) in
     let one = sum_by-cons (added_mass params) (change.Withdraw id) [] in
@@ -79,11 +79,11 @@ mass_withdrawn : (params : Params) (cs : List Change) (id : ℕ) (o : Object) �
 mass_withdrawn params cs id o = ap (λ (n : ℕ). if nat_le mass_limit (n + mass params o) then Some Mass else None) (total_withdrawn params cs id)
 
 -- no reason against a change after the earlier ones
-abbrev goes : Params → List Change → List Change → Change → Type 0
+abbrev pub goes : Params → List Change → List Change → Change → Type 0
 goes params past batch c = row_refusal params past batch (as_row c) ≡ None
 
 -- none against any of the changes
-abbrev GoAll : Params → List Change → List Change → List Change → Type 0
+abbrev pub GoAll : Params → List Change → List Change → List Change → Type 0
 GoAll params past batch [] = Unit {0}
 GoAll params past batch (c ∷ cs) = goes params past batch c × GoAll params past (batch ++ c ∷ []) cs
 
@@ -106,7 +106,7 @@ push_push : (batch : List Change) (c d : Change) → (batch ++ c ∷ []) ++ d �
 push_push batch c d = append_assoc batch (c ∷ []) (d ∷ [])
 
 -- rows without a refusal: none of their changes has one
-all_go : (params : Params) (past batch : List Change) (place : ℕ) (rows : List Row) → first_refused_row params past batch place rows ≡ None → GoAll params past batch (flat rows)
+pub all_go : (params : Params) (past batch : List Change) (place : ℕ) (rows : List Row) → first_refused_row params past batch place rows ≡ None → GoAll params past batch (flat rows)
 all_go params past batch place [] h = tt
 all_go params past batch place (row.Add o ∷ rows) h =
     (none_mapped (refused_at place) _ (none_first _ _ h), all_go params past (batch ++ change.Add o ∷ []) (place + 1) rows (none_second _ _ h))
@@ -159,7 +159,7 @@ flat_one_by_one (change.Add o ∷ cs) = ap (λ ds. change.Add o ∷ ds) (flat_on
 flat_one_by_one (change.Withdraw id ∷ cs) = ap (λ ds. change.Withdraw id ∷ ds) (flat_one_by_one cs)
 
 -- the rows that stage the changes have these changes
-flat_staged : (cs : List Change) → flat (staged_rows cs) ≡ cs
+pub flat_staged : (cs : List Change) → flat (staged_rows cs) ≡ cs
 flat_staged [] = refl
 flat_staged (change.Add o ∷ cs) = ap (λ ds. change.Add o ∷ ds) (flat_staged cs)
 flat_staged (change.Withdraw id ∷ []) = refl
@@ -210,7 +210,7 @@ staged_fit params (change.Withdraw id ∷ change.Add o ∷ cs) h = let both = an
 ]
 
 -- the first refusal of rows, in parts
-no_refusal : (params : Params) (h : History) (rows : List Row) → first_refusal params h rows ≡ None
+pub no_refusal : (params : Params) (h : History) (rows : List Row) → first_refusal params h rows ≡ None
     → (nat_lt params.events (event_count h + length (flat rows) + 1) ≡ false) × (first_refused_row params (changes h) [] 1 rows ≡ None)
 no_refusal params h rows none = none_if _ (refused_at 0 Events) _ none
 

@@ -1,6 +1,6 @@
 -- What the lives of a history tell.
-use Rattle.std.specs.Prelude.{◌≡◌, ◌≤◌, ℕ, Bool, ◌&&◌, ◌||◌, ◌==◌, nat_le, nat_lt, List, map}
-use Rattle.std.specs.List.{Contains, filter, list_any}
+use Rattle.std.specs.Prelude.{◌≡◌, ◌⊎◌, ◌≤◌, ℕ, Bool, ◌&&◌, ◌||◌, ◌==◌, nat_le, nat_lt, List, map}
+use Rattle.std.specs.List.{All, Contains, filter, list_any}
 use Rattle.bw_types.specs.History.{History, changes, live}
 use Rattle.bw_types.specs.Lives.{lives}
 use Rattle.bw_types.specs.Refusals.{is_live, was_added}
@@ -32,3 +32,12 @@ abbrev pub LastLivesTell : Type 0
 LastLivesTell = (h : History) (d : Dated) → Contains (lives h) d
     → ((e : Dated) → Contains (lives h) e → e.object.id ≡ d.object.id → e.life ≤ d.life)
     → is_live d.object.id (changes h) ≡ (d.withdrawn == 0)
+
+-- a life begins at a version from 1 on, and where it has ended, it began no later
+pub record IsInOrder (d : Dated) : Type 0 where
+  pub begun : 1 ≤ d.added
+  pub ended : (d.withdrawn ≡ 0) ⊎ (d.added ≤ d.withdrawn)
+
+-- the lives of a history end no earlier than they began
+abbrev pub LivesAreInOrder : Type 0
+LivesAreInOrder = (h : History) → All IsInOrder (lives h)

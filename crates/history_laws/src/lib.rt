@@ -5,9 +5,13 @@
 //! history tell which objects are live at each version, and which ids are live at its end.
 #![tactic(auto)]
 
+mod bounds;
+mod growing;
 mod lawful;
 mod living;
 
+pub use bounds::{answers_are_bounded, lawful_histories_have_room};
+pub use growing::lives_grow_by_changes;
 pub use lawful::{
     accepted_batches_are_lawful, histories_grow_by_lawful_batches, staging_changes_no_refusal,
 };

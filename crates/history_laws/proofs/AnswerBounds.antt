@@ -1,9 +1,10 @@
--- No integral is greater than the mass of the objects.
-use Rattle.std.proofs.Common.{◌≡◌, ℕ, zero, suc, ◌+◌, ◌*◌, ◌/◌, ◌%◌, ◌^◌, ◌<◌, ◌≤◌, true, false, cond, ◌==◌, List, [], ◌∷◌, take, Some, None, inl, inr, ℤ, pos, negsuc, ◌-ℤ◌, ◌*ℤ◌, ◌≤ℤ◌, ◌<ℤ◌, neg_ℤ, nat_abs, int_lt, slice_index, arith, if◌then◌else◌}
+-- No answer is greater than what the changes bring, and a lawful history has room.
+use Rattle.std.proofs.Common.{Bool, ◌+ℤ◌, ◌++◌, length, refl, sym, ap, subst, ◌∙◌, append_assoc, length-append, ◌≡◌, ℕ, zero, suc, ◌+◌, ◌*◌, ◌/◌, ◌%◌, ◌^◌, ◌<◌, ◌≤◌, true, false, cond, ◌==◌, List, [], ◌∷◌, take, Some, None, inl, inr, ℤ, pos, negsuc, ◌-ℤ◌, ◌*ℤ◌, ◌≤ℤ◌, ◌<ℤ◌, neg_ℤ, nat_abs, int_lt, slice_index, arith, if◌then◌else◌}
 use Rattle.std.proofs.Math.Nat.{pow-le-pow_left, mul-le-mul_left, mul-le-mul_right}
 use Rattle.std.proofs.lemmas.Int.{ints, clamps}
 use Rattle.std.specs.Int.{int_pow}
-use Rattle.std.specs.List.{sum_by, zip, list_any}
+use Rattle.std.specs.List.{All, filter, sum_by, zip, list_any}
+use Rattle.std.proofs.lemmas.List.Elements.{All-cons, All-nil}
 use Rattle.bw_types.specs.Answers.{integral_at}
 use Rattle.bw_types.specs.Fits.{coordinate}
 use Rattle.bw_types.specs.History.{History, changes, live, live_of, withdraws}
@@ -19,7 +20,33 @@ use Rattle.bw_types.specs.declared.change.Change.TheVariants as change
 use Rattle.std.proofs.lemmas.List.Sums.{sum_by-append, sum_by-cons}
 use Rattle.std.proofs.lemmas.Bool.{cases_Bool}
 use Rattle.std.specs.Option.{option_map_or}
-use Rattle.warehouse.proofs.Sizes.{abs-add, abs-sub, abs-mul, abs-pow}
+use Rattle.std.proofs.lemmas.Int.{unsigned_abs-mul}
+use Rattle.history_laws.specs.Bounds.{HasSmallWeight}
+use Rattle.bw_types.specs.Answers.{sum_at, count_at}
+use Rattle.bw_types.specs.Meets.{meets}
+
+-- sizes of signed numbers
+abs-neg : (z : ℤ) → nat_abs (neg_ℤ z) ≡ nat_abs z
+abs-neg (pos zero) = refl
+abs-neg (pos (suc n)) = refl
+abs-neg (negsuc n) = refl
+
+abs-pow : (z : ℤ) (e : ℕ) → nat_abs (int_pow z e) ≡ nat_abs z ^ e
+abs-pow (pos a) e = refl
+abs-pow (negsuc a) e =
+    elim (e % 2 == 0) as (λ even. nat_abs (cond even (pos (suc a ^ e)) (neg_ℤ (pos (suc a ^ e)))) ≡ suc a ^ e) [
+      | true ↦ refl
+      | false ↦ abs-neg (pos (suc a ^ e))
+    ]
+
+abs-add : (a b : ℤ) → nat_abs (a +ℤ b) ≤ nat_abs a + nat_abs b
+abs-add a b = omega (arith, ints)
+
+abs-sub : (a b : ℤ) → nat_abs (a -ℤ b) ≤ nat_abs a + nat_abs b
+abs-sub a b = omega (arith, ints)
+
+abs-mul : (a b : ℤ) → nat_abs (a *ℤ b) ≡ nat_abs a * nat_abs b
+abs-mul a b = unsigned_abs-mul a b
 
 within_first : (x y : ℕ) → x ≤ y → nat_abs (pos y -ℤ pos x) ≤ y
 within_first x y h = omega (arith, ints)
@@ -153,3 +180,59 @@ integral_at_bound params h version q =
     let now = live_mass params (changes (take version h)) in
     let all = changes_mass params h version in
     omega arith
+
+-- the weights of those that are left of the live objects
+live_weights : (p : Object → Bool) (cs : List Change) → All HasSmallWeight cs → nat_abs (int_sum_by (λ o. o.weight) (filter p (live_of cs))) ≤ length cs * 2 ^ 63
+live_weights p [] all = omega arith
+live_weights p (change.Add o ∷ cs) all =
+    let rest = live_weights p cs (λ k d lt. all (suc k) d (omega arith)) in
+    let own : nat_abs o.weight ≤ 2 ^ 63 = all 0 (change.Add o) (omega arith) in
+    let both = abs-add o.weight (int_sum_by (λ x. x.weight) (filter p (live_of cs))) in
+    elim (list_any (withdraws o.id) cs) as (λ b. nat_abs (int_sum_by (λ x. x.weight) (filter p (if b then live_of cs else o ∷ live_of cs))) ≤ length (change.Add o ∷ cs) * 2 ^ 63) [
+      | true ↦ omega arith
+      | false ↦ elim (p o) as (λ b. nat_abs (int_sum_by (λ x. x.weight) (if b then o ∷ filter p (live_of cs) else filter p (live_of cs))) ≤ length (change.Add o ∷ cs) * 2 ^ 63) [
+        | true ↦ omega arith
+        | false ↦ omega arith
+      ]
+    ]
+live_weights p (change.Withdraw id ∷ cs) all =
+    let rest = live_weights p cs (λ k d lt. all (suc k) d (omega arith)) in
+    omega arith
+
+live_counts : (p : Object → Bool) (cs : List Change) → length (filter p (live_of cs)) ≤ length cs
+live_counts p [] = omega arith
+live_counts p (change.Add o ∷ cs) =
+    let rest = live_counts p cs in
+    elim (list_any (withdraws o.id) cs) as (λ b. length (filter p (if b then live_of cs else o ∷ live_of cs)) ≤ length (change.Add o ∷ cs)) [
+      | true ↦ omega arith
+      | false ↦ elim (p o) as (λ b. length (if b then o ∷ filter p (live_of cs) else filter p (live_of cs)) ≤ length (change.Add o ∷ cs)) [
+        | true ↦ omega arith
+        | false ↦ omega arith
+      ]
+    ]
+live_counts p (change.Withdraw id ∷ cs) = let rest = live_counts p cs in omega arith
+
+-- the changes of the first batches are the first changes
+taken_changes : (h : History) (version : ℕ) → (later : List Change) × (changes h ≡ changes (take version h) ++ later)
+taken_changes h zero = (changes h, refl)
+taken_changes [] (suc version) = ([], refl)
+taken_changes (b ∷ bs) (suc version) =
+    let rest = taken_changes bs version in
+    (rest.0, ap (λ cs. b ++ cs) rest.1 ∙ sym (append_assoc b (changes (take version bs)) rest.0))
+
+all_front : (xs ys : List Change) → All HasSmallWeight (xs ++ ys) → All HasSmallWeight xs
+all_front [] ys all = All-nil HasSmallWeight
+all_front (x ∷ xs) ys all = All-cons HasSmallWeight x xs (all 0 x (omega arith)) (all_front xs ys (λ k d lt. all (suc k) d (omega arith)))
+
+pub sum_at_bound : (params : Params) (h : History) (version : ℕ) (q : Query) → All HasSmallWeight (changes h) → nat_abs (sum_at params h version q) ≤ length (changes h) * 2 ^ 63
+sum_at_bound params h version q all =
+    let cut = taken_changes h version in
+    let front = all_front (changes (take version h)) cut.0 (subst (λ (cs : List Change). All HasSmallWeight cs) cut.1 all) in
+    let here = live_weights (meets params.dims q) (changes (take version h)) front in
+    omega (arith, here, ap length cut.1, length-append (changes (take version h)) cut.0)
+
+pub count_at_bound : (params : Params) (h : History) (version : ℕ) (q : Query) → nat_abs (count_at params h version q) ≤ length (changes h)
+count_at_bound params h version q =
+    let cut = taken_changes h version in
+    let here = live_counts (meets params.dims q) (changes (take version h)) in
+    omega (arith, here, ap length cut.1, length-append (changes (take version h)) cut.0)

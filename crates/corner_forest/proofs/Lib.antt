@@ -1,0 +1,5 @@
+pub mod Exits
+pub mod KeyBounds
+pub mod MetSums
+pub mod Places
+pub mod Points

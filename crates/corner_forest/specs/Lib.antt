@@ -1,0 +1,5 @@
+pub mod Entries
+pub mod Trees
+pub mod Stands
+pub mod Corners
+pub mod Answers
