@@ -1,5 +1,5 @@
 -- Freeing the pages of a table one child after another.
-use Rattle.std.proofs.Common.{◌≡◌, ℕ, zero, suc, ◌+◌, ◌-◌, ◌<◌, ◌≤◌, ◌^◌, ◌==◌, ◌||◌, ◌⊎◌, Bool, true, false, cond, inl, inr, List, [], ◌∷◌, ◌++◌, length, get_or, take, drop, map, Option, Some, None, IsSome, refl, sym, ap, ◌∙◌, subst, arith, drop-cons}
+use Rattle.std.proofs.Common.{◌≡◌, ℕ, zero, suc, ◌+◌, ◌-◌, ◌<◌, ◌≤◌, ◌==◌, ◌||◌, ◌⊎◌, Bool, true, false, cond, inl, inr, List, [], ◌∷◌, ◌++◌, length, get_or, take, drop, map, Option, Some, None, IsSome, refl, sym, ap, ◌∙◌, subst, arith, drop-cons}
 use Rattle.std.proofs.Math.ListN.{get_or-map}
 use Rattle.std.specs.List.{flat_map}
 use Rattle.std.specs.Option.{option_map_or}
@@ -38,7 +38,7 @@ module _ (form : Form) where
   abbrev pub own_pages : ℕ → PageMap → LifeEntry → List ℕ
   own_pages level pages e = pages_below form level pages e.child
 
-  flat_nothing : (es : List LifeEntry) (pages : PageMap) → flat_map (own_pages 0 pages) es ≡ []
+  pub flat_nothing : (es : List LifeEntry) (pages : PageMap) → flat_map (own_pages 0 pages) es ≡ []
   flat_nothing [] pages = refl
   flat_nothing (e ∷ es) pages = flat_nothing es pages
 

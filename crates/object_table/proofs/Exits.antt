@@ -12,6 +12,9 @@ exit_error r told asked p e =
     let second = p.2 in
     cc
 
+pub same_damaged : {T : Type 0} (a b : ℕ) → ◌≡◌ {A = Result T StageFault} (Err (Damaged a)) (Err (Damaged b)) → a ≡ b
+same_damaged a b e = cc
+
 pub read_damaged : {T : Type 0} (r : Result T StageFault) (fault : PageFault) (p : ℕ) → ((y : StageFault) × (r ≡ Err y) × HandsOn fault y) → r ≡ Err (Damaged p)
     → fault ≡ page_fault.Damaged p
 read_damaged r fault p told e =

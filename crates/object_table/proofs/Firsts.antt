@@ -1,5 +1,5 @@
 -- Where the next object of a walk stands.
-use Rattle.std.proofs.Common.{◌≡◌, ◌≢◌, ℕ, zero, suc, ◌+◌, ◌-◌, ◌*◌, ◌^◌, ◌<◌, ◌≤◌, ◌⊎◌, inl, inr, List, [], ◌∷◌, ◌++◌, length, get_or, take, drop, Option, Some, None, IsSome, refl, sym, ap, ◌∙◌, subst, arith, drop-cons, append_assoc}
+use Rattle.std.proofs.Common.{◌≡◌, ◌≢◌, ℕ, zero, suc, ◌+◌, ◌-◌, ◌<◌, ◌≤◌, ◌⊎◌, inl, inr, List, [], ◌∷◌, ◌++◌, length, get_or, drop, Option, Some, None, IsSome, refl, sym, ap, ◌∙◌, subst, arith, drop-cons}
 use Rattle.std.specs.List.{All, flat_map}
 use Rattle.std.specs.Option.{option_or}
 use Rattle.std.proofs.lemmas.List.{drop_all}
@@ -10,17 +10,17 @@ use Rattle.page_layout.specs.declared.life_node.LifeEntry.{LifeEntry}
 use Rattle.object_table.specs.declared.form.Form.{Form}
 use Rattle.object_table.specs.declared.path.Step.{Step}
 use Rattle.object_table.specs.declared.place.Place.{Place}
-use Rattle.object_table.specs.Keys.{key, low_key, key_end}
+use Rattle.object_table.specs.Keys.{low_key, key_end}
 use Rattle.object_table.specs.Damage.{GoesBy, LeadsPast}
 use Rattle.object_table.specs.Steps.{IsCut, IsStepTo}
 use Rattle.object_table.specs.Nodes.{FitsLevel, node_on, entries_in, entries_on}
 use Rattle.object_table.specs.Lives.{first_from, lives_below}
-use Rattle.object_table.specs.Stands.{first_low, EachStands, fewest, StandsBelow, RootStands}
+use Rattle.object_table.specs.Stands.{first_low, fewest, StandsBelow, RootStands}
 use Rattle.object_table.proofs.Order.{Ascends, before_below}
 use Rattle.object_table.proofs.Searching.{or_none, first_from-append, first_from-none, first_from-first, All-head}
 use Rattle.object_table.proofs.Nodes.{node_on-fits, entries_ascend}
 use Rattle.object_table.proofs.LastLives.{step_path, child_stands}
-use Rattle.object_table.proofs.Within.{IsWithin, ChildStands, own_lives, lives_within, Parts, parts_at}
+use Rattle.object_table.proofs.Within.{IsWithin, own_lives, lives_within, Parts, parts_at}
 
 -- Nothing stands before the path of the least key.
 none_before : (es before : List LifeEntry) (at : LifeEntry) (after : List LifeEntry) (v high : ℕ) → Ascends es → first_low es high ≡ v → GoesBy es before at after v → before ≡ []

@@ -1,5 +1,5 @@
 -- A table depends on its own pages alone.
-use Rattle.std.proofs.Common.{◌≡◌, ℕ, zero, suc, ◌+◌, ◌<◌, ◌≤◌, ◌==◌, true, inl, inr, List, [], ◌∷◌, ◌++◌, length, Option, Some, IsSome, refl, sym, ap, ◌∙◌, subst, arith}
+use Rattle.std.proofs.Common.{◌≡◌, ℕ, zero, suc, ◌<◌, ◌≤◌, ◌==◌, true, inl, inr, List, [], ◌∷◌, ◌++◌, length, Option, Some, IsSome, refl, sym, ap, ◌∙◌, subst}
 use Rattle.std.specs.List.{All, flat_map}
 use Rattle.std.specs.Option.{option_map_or}
 use Rattle.std.proofs.lemmas.Bool.{or_left, or_right, or_cases, eq-eqb, eqb-true}
@@ -13,7 +13,7 @@ use Rattle.page_layout.specs.declared.life_node.LifeNode.{LifeNode}
 use Rattle.page_layout.specs.declared.life_node.LifeEntry.{LifeEntry}
 use Rattle.object_table.specs.declared.form.Form.{Form}
 use Rattle.object_table.specs.Keys.{key, low_key, key_end}
-use Rattle.object_table.specs.Nodes.{FitsLevel, node_in, no_node, node_on, objects_in, entries_in, objects_on, entries_on}
+use Rattle.object_table.specs.Nodes.{FitsLevel, node_in, no_node, node_on, objects_in, entries_in, entries_on}
 use Rattle.object_table.specs.Lives.{lives_below, pages_below, table_pages}
 use Rattle.object_table.specs.Stands.{NodeStands, LeafStands, IndexStands, first_low, KeepsItsLow, EachStands, fewest, StandsBelow, RootStands, TableStands}
 use Rattle.object_table.proofs.Within.{ChildStands}
@@ -39,7 +39,7 @@ same_node form a b page e = ap (λ (o : Option (List ℕ)). option_map_or (node_
 pub same_entries : (form : Form) (a b : PageMap) (page : ℕ) → b page ≡ a page → entries_on form b page ≡ entries_on form a page
 same_entries form a b page e = ap entries_in (same_node form a b page e)
 
-flat_same : {X : Type 0} (own : LifeEntry → List ℕ) (f g : LifeEntry → List X) (a b : PageMap) → ((e : LifeEntry) → AgreeOn (own e) a b → g e ≡ f e)
+pub flat_same : {X : Type 0} (own : LifeEntry → List ℕ) (f g : LifeEntry → List X) (a b : PageMap) → ((e : LifeEntry) → AgreeOn (own e) a b → g e ≡ f e)
     → (es : List LifeEntry) → AgreeOn (flat_map own es) a b → flat_map g es ≡ flat_map f es
 flat_same own f g a b each [] h = refl
 flat_same {X} own f g a b each (e ∷ es) h =
@@ -85,7 +85,7 @@ same_leaf form a b page low high least e s =
       filled = subst (λ (ds : List Dated). least ≤ length ds) objects s.filled;
     }
 
-same_index : (form : Form) (a b : PageMap) (level page low high least : ℕ) → b page ≡ a page → IndexStands form a level page low high least → IndexStands form b level page low high least
+pub same_index : (form : Form) (a b : PageMap) (level page low high least : ℕ) → b page ≡ a page → IndexStands form a level page low high least → IndexStands form b level page low high least
 same_index form a b level page low high least e s =
     let entries = sym (same_entries form a b page e) in
     record {
@@ -95,7 +95,7 @@ same_index form a b level page low high least e s =
       filled = subst (λ (es : List LifeEntry). least ≤ length es) entries s.filled;
     }
 
-each_same : (own : LifeEntry → List ℕ) (s t : LifeEntry → ℕ → Type 0) (a b : PageMap)
+pub each_same : (own : LifeEntry → List ℕ) (s t : LifeEntry → ℕ → Type 0) (a b : PageMap)
     → ((e : LifeEntry) (to : ℕ) → AgreeOn (own e) a b → s e to → t e to)
     → (es : List LifeEntry) (high : ℕ) → AgreeOn (flat_map own es) a b → EachStands s es high → EachStands t es high
 each_same own s t a b each [] high h stands = tt
@@ -140,7 +140,7 @@ by_its_pages form pages others table lives s h =
     )
 
 -- The pages of what stands are in the map.
-there_each : (own : LifeEntry → List ℕ) (s : LifeEntry → ℕ → Type 0) (a : PageMap)
+pub there_each : (own : LifeEntry → List ℕ) (s : LifeEntry → ℕ → Type 0) (a : PageMap)
     → ((e : LifeEntry) (to : ℕ) → s e to → AreInMap a (own e))
     → (es : List LifeEntry) (high : ℕ) → EachStands s es high → AreInMap a (flat_map own es)
 there_each own s a each [] high stands = λ p named. cc

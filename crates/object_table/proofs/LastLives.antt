@@ -1,9 +1,9 @@
 -- Where the last life of an id stands.
-use Rattle.std.proofs.Common.{◌≡◌, ◌≢◌, ℕ, zero, suc, ◌+◌, ◌-◌, ◌*◌, ◌^◌, ◌<◌, ◌≤◌, ◌==◌, true, false, inl, inr, List, [], ◌∷◌, ◌++◌, length, get_or, take, drop, Option, Some, None, refl, sym, ap, ◌∙◌, subst, arith}
+use Rattle.std.proofs.Common.{◌≡◌, ◌≢◌, ℕ, zero, suc, ◌+◌, ◌-◌, ◌*◌, ◌^◌, ◌<◌, ◌≤◌, inl, inr, List, [], ◌∷◌, ◌++◌, get_or, take, drop, Option, Some, None, refl, sym, ap, ◌∙◌, subst, arith}
 use Rattle.std.specs.List.{All, flat_map}
 use Rattle.std.specs.Option.{option_or}
 use Rattle.std.proofs.lemmas.Bool.{cases_eq, ne_eqb, eq-eqb}
-use Rattle.std.proofs.lemmas.List.Elements.{All-nil}
+use Rattle.std.proofs.lemmas.List.{take_more}
 use Rattle.bw_types.specs.declared.dated.Dated.{Dated}
 use Rattle.page_ports.specs.Pages.{PageMap}
 use Rattle.page_layout.specs.declared.life_node.LifeNode.{LifeNode}
@@ -11,12 +11,12 @@ use Rattle.page_layout.specs.declared.life_node.LifeEntry.{LifeEntry}
 use Rattle.object_table.specs.declared.form.Form.{Form}
 use Rattle.object_table.specs.declared.path.Step.{Step}
 use Rattle.object_table.specs.declared.place.Place.{Place}
-use Rattle.object_table.specs.Keys.{key, low_key, greatest_key, key_end}
+use Rattle.object_table.specs.Keys.{low_key, greatest_key, key_end}
 use Rattle.object_table.specs.Damage.{GoesBy, LeadsTo}
 use Rattle.object_table.specs.Steps.{IsCut, IsStepTo}
-use Rattle.object_table.specs.Nodes.{FitsLevel, node_on, objects_in, entries_in, objects_on, entries_on}
+use Rattle.object_table.specs.Nodes.{FitsLevel, entries_in, entries_on}
 use Rattle.object_table.specs.Lives.{last_life, lives_below}
-use Rattle.object_table.specs.Stands.{first_low, BeginWith, KeepsItsLow, fewest, StandsBelow, RootStands}
+use Rattle.object_table.specs.Stands.{first_low, KeepsItsLow, fewest, StandsBelow, RootStands}
 use Rattle.object_table.proofs.Order.{GoesBy-cut}
 use Rattle.object_table.proofs.Searching.{or_none, last_life-append, last_life-begins, last_life-none, All-head}
 use Rattle.object_table.proofs.Nodes.{node_on-fits}
@@ -76,7 +76,7 @@ last_below form level pages page low high least id before at after s p =
 -- what a step on the path leads to
 pub step_path : (entries : List LifeEntry) (k v end : ℕ) (step : Step) → IsCut entries k v → 1 ≤ k
     → ((d : LifeEntry) → IsStepTo step (get_or entries (k - 1) d) (drop (k - 1 + 1) entries) end v)
-    → (before : List LifeEntry) × (at : LifeEntry) × (after : List LifeEntry) × GoesBy entries before at after v × IsStepTo step at after end v × (after ≡ drop k entries)
+    → (before : List LifeEntry) × (at : LifeEntry) × (after : List LifeEntry) × GoesBy entries before at after v × IsStepTo step at after end v × (after ≡ drop k entries) × (take k entries ≡ before ++ (at ∷ []))
 step_path entries zero v end step cut some steps = absurd (omega (arith, some))
 step_path entries (suc k) v end step cut some steps =
     let d : LifeEntry = record { low_id = 0; low_life = 0; child = 0 } in
@@ -84,7 +84,8 @@ step_path entries (suc k) v end step cut some steps =
     let more : suc k - 1 + 1 ≡ suc k = omega arith in
     let is1 = subst (λ (n : ℕ). IsStepTo step (get_or entries n d) (drop (suc k - 1 + 1) entries) end v) less (steps d) in
     let is2 = subst (λ (n : ℕ). IsStepTo step (get_or entries k d) (drop n entries) end v) more is1 in
-    (take k entries, get_or entries k d, drop (suc k) entries, GoesBy-cut entries k v d cut, is2, refl)
+    let more1 : suc k ≡ k + 1 = omega arith in
+    (take k entries, get_or entries k d, drop (suc k) entries, GoesBy-cut entries k v d cut, is2, refl, ap (λ (n : ℕ). take n entries) more1 ∙ take_more entries k d (omega (arith, cut.bound)))
 
 pub step_leads : (place : Place) (node : LifeNode) (entries : List LifeEntry) (k : ℕ) (step : Step) → entries ≡ entries_in node → IsCut entries k place.sought → 1 ≤ k
     → ((d : LifeEntry) → IsStepTo step (get_or entries (k - 1) d) (drop (k - 1 + 1) entries) place.high place.sought)

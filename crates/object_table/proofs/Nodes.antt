@@ -1,5 +1,5 @@
 -- What a page that spells a node tells.
-use Rattle.std.proofs.Common.{◌≡◌, ℕ, zero, suc, ◌+◌, ◌*◌, ◌^◌, ◌<◌, ◌≤◌, ◌==◌, ◌&&◌, ◌||◌, nat_lt, nat_le, IsTrue, Bool, true, inl, inr, List, [], ◌∷◌, length, get_or, Option, Some, map, refl, sym, ap, ◌∙◌, subst, arith}
+use Rattle.std.proofs.Common.{◌≡◌, ℕ, suc, ◌+◌, ◌*◌, ◌^◌, ◌<◌, ◌≤◌, ◌==◌, ◌&&◌, nat_lt, IsTrue, inl, inr, List, [], length, get_or, Option, Some, map, refl, sym, ap, ◌∙◌, subst, arith}
 use Rattle.std.specs.List.{All, AllAdjacentBelow}
 use Rattle.std.specs.Option.{option_map_or}
 use Rattle.std.proofs.lemmas.Bool.{or_cases, and_parts, ltb-true, eqb-true}
@@ -9,7 +9,7 @@ use Rattle.std.proofs.lemmas.List.Elements.{All-nil}
 use Rattle.bw_types.specs.declared.dated.Dated.{Dated}
 use Rattle.arrayvec.specs.ArrayVec.{ArrayVec}
 use Rattle.page_ports.specs.Pages.{PageMap}
-use Rattle.page_layout.specs.Dated.{life_precedes, IsDatedTyped}
+use Rattle.page_layout.specs.Dated.{life_precedes}
 use Rattle.page_layout.specs.LifeNodeLaws.{life_node_in-page}
 use Rattle.page_layout.specs.TableNodeLaws.{table_node_in-page}
 use Rattle.page_layout.specs.LifeNode as by_lives
@@ -22,8 +22,8 @@ use Rattle.page_layout.specs.declared.table_node.TableNode.TheVariants as table_
 use Rattle.page_layout.specs.declared.table_node.TableEntry.{TableEntry}
 use Rattle.object_table.specs.declared.form.Form.{Form}
 use Rattle.object_table.specs.declared.form.Form.TheVariants.{ByLives, ByIds}
-use Rattle.object_table.specs.Keys.{key_of, key, low_key}
-use Rattle.object_table.specs.Nodes.{life_entry, life_node, FitsLevel, node_in, no_node, node_on, objects_in, entries_in, objects_on, entries_on}
+use Rattle.object_table.specs.Keys.{key_of, low_key}
+use Rattle.object_table.specs.Nodes.{life_entry, life_node, FitsLevel, node_in, no_node, node_on, objects_in, entries_in}
 use Rattle.object_table.proofs.Order.{Ascends, ascends}
 
 pub keys_ascend : (a b c d : ℕ) → b < 2 ^ 32 → IsTrue (life_precedes a b c d) → key_of a b < key_of c d

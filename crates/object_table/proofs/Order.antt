@@ -1,11 +1,10 @@
 -- The order of a node's entries, and the path of a key through them.
-use Rattle.std.proofs.Common.{◌≡◌, ℕ, zero, suc, ◌+◌, ◌-◌, ◌<◌, ◌≤◌, inl, inr, List, [], ◌∷◌, ◌++◌, length, get_or, take, drop, refl, sym, ap, ◌∙◌, subst, arith, drop-cons}
+use Rattle.std.proofs.Common.{◌≡◌, ℕ, zero, suc, ◌+◌, ◌<◌, ◌≤◌, List, [], ◌∷◌, ◌++◌, length, get_or, take, drop, refl, sym, ap, ◌∙◌, subst, arith, drop-cons}
 use Rattle.std.specs.List.{All, AllAdjacentBelow}
-use Rattle.std.proofs.lemmas.Bool.{cases_lt}
 use Rattle.std.proofs.lemmas.List.{get_or-take, length-take, take-append-drop, drop_all}
 use Rattle.std.proofs.lemmas.List.Elements.{All-cons, All-nil}
 use Rattle.page_layout.specs.declared.life_node.LifeEntry.{LifeEntry}
-use Rattle.object_table.specs.Keys.{low_key}
+use Rattle.object_table.specs.Keys.{low_key, AscendBy}
 use Rattle.object_table.specs.Damage.{GoesBy}
 use Rattle.object_table.specs.Steps.{IsCut}
 use Rattle.object_table.specs.Stands.{first_low, EachStands}
@@ -13,8 +12,7 @@ use Rattle.object_table.proofs.Searching.{All-head, All-tail}
 
 -- each entry begins below all after it
 abbrev pub Ascends : List LifeEntry → Type 0
-Ascends [] = Unit {0}
-Ascends (e ∷ es) = All (λ f. low_key e < low_key f) es × Ascends es
+Ascends entries = AscendBy low_key entries
 
 adjacent_tail : (e : LifeEntry) (es : List LifeEntry) → AllAdjacentBelow (λ e next. low_key e < low_key next) (e ∷ es) (length (e ∷ es))
     → AllAdjacentBelow (λ e next. low_key e < low_key next) es (length es)
@@ -48,6 +46,12 @@ EachStands-split stands [] ys high each = (tt, each)
 EachStands-split stands (x ∷ xs) ys high each =
     let rest = EachStands-split stands xs ys high each.1 in
     ((subst (λ (h : ℕ). stands x h) (first_low-append xs ys high) each.0, rest.0), rest.1)
+
+pub EachStands-join : (stands : LifeEntry → ℕ → Type 0) (xs ys : List LifeEntry) (high : ℕ)
+    → EachStands stands xs (first_low ys high) → EachStands stands ys high → EachStands stands (xs ++ ys) high
+EachStands-join stands [] ys high first rest = rest
+EachStands-join stands (x ∷ xs) ys high first rest =
+    (subst (λ (h : ℕ). stands x h) (sym (first_low-append xs ys high)) first.0, EachStands-join stands xs ys high first.1 rest)
 
 -- what the entries before the path's, the path's entry and those after it stand for
 pub EachStands-path : (stands : LifeEntry → ℕ → Type 0) (es before : List LifeEntry) (at : LifeEntry) (after : List LifeEntry) (high : ℕ)

@@ -1,6 +1,6 @@
 -- What a node that was read tells.
-use Rattle.std.proofs.Common.{◌≡◌, ℕ, zero, suc, ◌+◌, ◌<◌, ◌≤◌, inl, inr, List, [], ◌∷◌, length, get_or, Some, refl, sym, ap, ◌∙◌, subst, arith}
-use Rattle.std.specs.List.{All, AllAdjacentBelow}
+use Rattle.std.proofs.Common.{◌≡◌, ℕ, zero, suc, ◌<◌, ◌≤◌, inl, inr, List, [], ◌∷◌, length, get_or, Some, sym, ap, ◌∙◌, subst, arith}
+use Rattle.std.specs.List.{AllAdjacentBelow}
 use Rattle.bw_types.specs.declared.dated.Dated.{Dated}
 use Rattle.arrayvec.specs.ArrayVec.{ArrayVec}
 use Rattle.page_ports.specs.Pages.{PageMap}
@@ -12,7 +12,7 @@ use Rattle.object_table.specs.declared.place.Place.{Place}
 use Rattle.object_table.specs.Keys.{low_key}
 use Rattle.object_table.specs.Damage.{FitsPlace}
 use Rattle.object_table.specs.Steps.{IsCut}
-use Rattle.object_table.specs.Nodes.{FitsLevel, node_on, objects_in, entries_in}
+use Rattle.object_table.specs.Nodes.{FitsLevel, objects_in, entries_in}
 use Rattle.object_table.specs.Lives.{lives_below}
 use Rattle.object_table.specs.Stands.{first_low}
 use Rattle.object_table.proofs.Order.{some_begun}

@@ -1,24 +1,23 @@
 -- Where a table stands, no call finds it damaged.
-use Rattle.std.proofs.Common.{◌≡◌, ℕ, zero, suc, ◌+◌, ◌*◌, ◌^◌, ◌<◌, ◌≤◌, inl, inr, List, [], ◌∷◌, ◌++◌, Some, refl, sym, ap, ◌∙◌, subst, arith}
+use Rattle.std.proofs.Common.{◌≡◌, ℕ, zero, suc, ◌<◌, ◌≤◌, inl, inr, List, [], ◌∷◌, ◌++◌, Some, refl, sym, ap, ◌∙◌, subst, arith}
 use Rattle.std.specs.List.{All}
 use Rattle.std.proofs.lemmas.List.Elements.{All-nil}
 use Rattle.bw_types.specs.declared.dated.Dated.{Dated}
-use Rattle.bw_types.specs.declared.tree.Tree.{Tree}
 use Rattle.page_ports.specs.Pages.{PageMap}
 use Rattle.page_layout.specs.Damage.{IsDamagedBelow, NothingBeside}
 use Rattle.page_layout.specs.declared.life_node.LifeNode.{LifeNode}
 use Rattle.page_layout.specs.declared.life_node.LifeEntry.{LifeEntry}
 use Rattle.object_table.specs.declared.form.Form.{Form}
 use Rattle.object_table.specs.declared.place.Place.{Place}
-use Rattle.object_table.specs.Keys.{key, low_key, key_end}
+use Rattle.object_table.specs.Keys.{key, low_key}
 use Rattle.object_table.specs.Damage.{FitsPlace, LeadsTo, LeadsOn, root_place}
-use Rattle.object_table.specs.Nodes.{node_on, objects_in, entries_in, entries_on}
+use Rattle.object_table.specs.Nodes.{node_on, entries_in}
 use Rattle.object_table.specs.Stands.{LeafStands, IndexStands, first_low, fewest, StandsBelow, RootStands}
 use Rattle.object_table.proofs.Order.{all_from}
 use Rattle.object_table.proofs.Nodes.{leaf_entries, index_objects, entries_ascend, same_spelled}
 use Rattle.object_table.proofs.Within.{parts_at}
 
-leaf_fits : (form : Form) (pages : PageMap) (page least : ℕ) (place : Place) (s : LeafStands form pages page place.low place.high least)
+pub leaf_fits : (form : Form) (pages : PageMap) (page least : ℕ) (place : Place) (s : LeafStands form pages page place.low place.high least)
     → FitsPlace form 1 place (node_on form pages page) s.node.bytes
 leaf_fits form pages page least place s =
     let none = sym (leaf_entries form (node_on form pages page) s.node.bytes s.node.fits) in
@@ -33,7 +32,7 @@ leaf_fits form pages page least place s =
       };
     }
 
-index_fits : (form : Form) (level : ℕ) (pages : PageMap) (page least : ℕ) (place : Place) (s : IndexStands form pages (suc (suc level)) page place.low place.high least)
+pub index_fits : (form : Form) (level : ℕ) (pages : PageMap) (page least : ℕ) (place : Place) (s : IndexStands form pages (suc (suc level)) page place.low place.high least)
     → place.low ≤ place.sought → FitsPlace form (suc (suc level)) place (node_on form pages page) s.node.bytes
 index_fits form level pages page least place s from =
     let node : LifeNode = node_on form pages page in
@@ -49,7 +48,7 @@ index_fits form level pages page least place s from =
       };
     }
 
-some_same : (x y : List ℕ) → Some x ≡ Some y → x ≡ y
+pub some_same : (x y : List ℕ) → Some x ≡ Some y → x ≡ y
 some_same x y e = cc
 
 -- A child to which a node leads is one of its entries', for a key from its low on.

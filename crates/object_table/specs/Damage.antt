@@ -1,6 +1,7 @@
 -- What a call on an object table may find damaged.
-use Rattle.std.specs.Prelude.{◌≡◌, ℕ, ◌⊎◌, ◌<◌, ◌≤◌, List, ◌∷◌, ◌++◌, map, Contains}
+use Rattle.std.specs.Prelude.{◌≡◌, ◌≢◌, ℕ, zero, suc, ◌⊎◌, ◌<◌, ◌≤◌, ◌^◌, List, ◌∷◌, ◌++◌, length, map, Contains}
 use Rattle.std.specs.List.{All}
+use Rattle.bw_types.specs.declared.dated.Dated.{Dated}
 use Rattle.bw_types.specs.declared.tree.Tree.{Tree}
 use Rattle.page_ports.specs.Pages.{PageMap}
 use Rattle.page_layout.specs.Damage.{IsDamagedBelow, NothingBeside}
@@ -9,8 +10,10 @@ use Rattle.page_layout.specs.declared.life_node.LifeNode.{LifeNode}
 use Rattle.page_layout.specs.declared.life_node.LifeEntry.{LifeEntry}
 use Rattle.object_table.specs.declared.form.Form.{Form}
 use Rattle.object_table.specs.declared.place.Place.{Place}
-use Rattle.object_table.specs.Keys.{key, low_key, key_end}
-use Rattle.object_table.specs.Nodes.{FitsLevel, objects_in, entries_in}
+use Rattle.object_table.specs.declared.form.Form.TheVariants.{ByLives}
+use Rattle.object_table.specs.Edits.{CanWithdraw}
+use Rattle.object_table.specs.Keys.{key, low_key, key_end, greatest_key}
+use Rattle.object_table.specs.Nodes.{FitsLevel, objects_in, entries_in, objects_on, entries_on}
 use Rattle.object_table.specs.Lives.{table_pages}
 use Rattle.object_table.specs.Stands.{first_low}
 
@@ -82,3 +85,44 @@ IsDamagedFrom form pages level page damaged =
 abbrev pub IsDamagedForFree : Form → PageMap → Tree → ℕ → Type 0
 IsDamagedForFree form pages table damaged =
     IsDamagedFrom form pages table.levels table.root damaged ⊎ IsNamedTwice (table_pages form pages table) damaged
+
+-- The bytes spell a node of this level that keeps to the place; of a leaf the objects are as asked.
+pub record FitsAsked (asked : List Dated → Type 0) (form : Form) (level : ℕ) (place : Place) (node : LifeNode) (bytes : List ℕ) : Type 0 where
+  pub fits : FitsPlace form level place node bytes
+  pub leaf : level ≡ 1 → asked (objects_in node)
+
+-- The page is the first on the way from the root to a key that holds no fitting node, or the leaf there, of
+-- which the objects are not as asked.
+abbrev pub IsDamagedIfNot : (List Dated → Type 0) → PageMap → Tree → ℕ → ℕ → Type 0
+IsDamagedIfNot asked pages table sought damaged =
+    IsDamagedBelow (FitsAsked asked ByLives) LeadsTo NothingBeside pages table.levels (root_place sought) table.root damaged
+
+-- None of the objects has the key.
+abbrev pub HaveNot : ℕ → List Dated → Type 0
+HaveNot k objects = All (λ d. key d ≢ k) objects
+
+-- Entering an object of this key would split the page: each node on the way down is full.
+abbrev pub IsFullBelow : ℕ → PageMap → ℕ → ℕ → Type 0
+IsFullBelow zero pages page sought = ⊥
+IsFullBelow (suc zero) pages page sought = length (objects_on ByLives pages page) ≡ 14
+IsFullBelow (suc (suc level)) pages page sought =
+    (length (entries_on ByLives pages page) ≡ 200)
+    × ((before : List LifeEntry) × (at : LifeEntry) × (after : List LifeEntry) × GoesBy (entries_on ByLives pages page) before at after sought
+    × IsFullBelow (suc level) pages at.child sought)
+
+-- What entering may call damaged: a page on its way, or a leaf there that has the key; the root of a table
+-- of 2^28 objects or more; the root of a table of 16 levels that would have to split; any page where the
+-- free pages are not in order.
+abbrev pub IsDamagedForEnter : PageMap → Type 0 → Tree → Dated → ℕ → Type 0
+IsDamagedForEnter pages free_in_order table dated damaged =
+    IsDamagedIfNot (HaveNot (key dated)) pages table (key dated) damaged
+    ⊎ ((damaged ≡ table.root) × (2 ^ 28 ≤ table.count))
+    ⊎ ((damaged ≡ table.root) × (table.levels ≡ 16) × IsFullBelow 16 pages table.root (key dated))
+    ⊎ (¬ free_in_order)
+
+-- What marking a withdrawal may call damaged: a page on its way, or a leaf there without a last life of the
+-- id that can be withdrawn in the version; the root of a table without pages.
+abbrev pub IsDamagedForMark : PageMap → Tree → ℕ → ℕ → ℕ → Type 0
+IsDamagedForMark pages table id version damaged =
+    IsDamagedIfNot (CanWithdraw id version) pages table (greatest_key id) damaged
+    ⊎ ((damaged ≡ table.root) × (table.levels ≡ 0))

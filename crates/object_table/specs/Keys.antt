@@ -1,5 +1,6 @@
 -- The order of an object table.
-use Rattle.std.specs.Prelude.{ℕ, ◌+◌, ◌*◌, ◌^◌}
+use Rattle.std.specs.Prelude.{ℕ, ◌+◌, ◌*◌, ◌^◌, ◌<◌, List, [], ◌∷◌}
+use Rattle.std.specs.List.{All}
 use Rattle.bw_types.specs.declared.dated.Dated.{Dated}
 use Rattle.page_layout.specs.declared.life_node.LifeEntry.{LifeEntry}
 
@@ -21,3 +22,8 @@ key_end = 2 ^ 96
 -- the greatest key that a life of the id may have
 abbrev pub greatest_key : ℕ → ℕ
 greatest_key id = key_of id 4294967295
+
+-- each stands above those before it, by this number
+abbrev pub AscendBy : {X : Type 0} → (X → ℕ) → List X → Type 0
+AscendBy {X} k [] = Unit {0}
+AscendBy {X} k (x ∷ xs) = All (λ y. k x < k y) xs × AscendBy k xs

@@ -1,7 +1,11 @@
 pub mod Damage
+pub mod Edits
+pub mod Entered
 pub mod Keys
 pub mod Laws
 pub mod Lives
+pub mod Marked
 pub mod Nodes
 pub mod Stands
 pub mod Steps
+pub mod Stored

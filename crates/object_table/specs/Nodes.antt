@@ -1,6 +1,6 @@
 -- What pages tell as nodes of an object table, in either form. A node of the earlier form is told as one by
 -- lives: its objects have life 1, and its lows life 0.
-use Rattle.std.specs.Prelude.{◌≡◌, ℕ, ◌≤◌, List, [], map}
+use Rattle.std.specs.Prelude.{◌≡◌, ℕ, List, [], map}
 use Rattle.std.specs.Option.{option_map_or}
 use Rattle.bw_types.specs.declared.dated.Dated.{Dated}
 use Rattle.page_ports.specs.Pages.{PageMap}

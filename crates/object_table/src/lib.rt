@@ -8,20 +8,27 @@
 //! The calls work over any `Pages` and `Stage`, on any content: what they find broken they name.
 #![tactic(auto)]
 
+mod copying;
+mod entering;
 mod finding;
 mod form;
 mod freeing;
 mod key;
 mod laws;
+mod marking;
 mod node;
 mod path;
 mod place;
+mod storing;
+mod taking;
 #[cfg(test)]
 mod tests;
 mod walking;
 
+pub use entering::enter;
 pub use finding::{find, find_old};
 pub use form::Form;
 pub use freeing::free_old;
-pub use laws::table_laws;
+pub use laws::{last_life_laws, table_laws};
+pub use marking::mark_withdrawn;
 pub use walking::{walk, walk_old};

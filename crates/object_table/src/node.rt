@@ -79,7 +79,8 @@ fn as_life_node(node: &TableNode) -> LifeNode
     }
 }
 
-fn copied_objects(objects: &[Dated]) -> ArrayVec<Dated, 15>
+/// The objects, in a row of their own.
+pub fn copied_objects(objects: &[Dated]) -> ArrayVec<Dated, 15>
     requires { length objects.now ≤ 15 }
     ensures { result.items ≡ objects.now }
 {
@@ -97,6 +98,18 @@ fn as_life_entries(entries: &[TableEntry]) -> ArrayVec<LifeEntry, 201>
     let mut copied = ArrayVec::new();
     for entry in entries {
         copied.push(as_life_entry(entry));
+    }
+    copied
+}
+
+/// The entries, in a row of their own.
+pub fn copied_entries(entries: &[LifeEntry]) -> ArrayVec<LifeEntry, 201>
+    requires { length entries.now ≤ 201 }
+    ensures { result.items ≡ entries.now }
+{
+    let mut copied = ArrayVec::new();
+    for entry in entries {
+        copied.push(*entry);
     }
     copied
 }

@@ -1,4 +1,4 @@
-use Rattle.std.proofs.Common.{◌≡◌, ◌-◌, ◌≤◌, ◌<◌, ◌+◌, ℕ, List, ◌∷◌, length, get_or, Option, Some, None, Err, IsSome, inl, inr, rules, arith, subst, sym, refl, ap, ◌∙◌}
+use Rattle.std.proofs.Common.{◌≡◌, ◌-◌, ◌≤◌, ℕ, List, ◌∷◌, Err, inl, rules, arith, subst, sym, ap, ◌∙◌}
 use Rattle.std.proofs.lemmas.Result.{err_from_is_err_and}
 use Rattle.bw_types.specs.declared.dated.Dated.{Dated}
 use Rattle.page_ports.specs.Pages.{PageMap}
@@ -6,13 +6,13 @@ use Rattle.page_ports.specs.declared.page.PageFault.TheVariants.{Damaged}
 use Rattle.page_layout.specs.Damage.{IsDamagedBelow, NothingBeside}
 use Rattle.page_layout.specs.DamageLaws as laws
 use Rattle.page_layout.specs.declared.life_node.LifeEntry.{LifeEntry}
-use Rattle.object_table.specs.Damage.{FitsPlace, LeadsTo, LeadsOn}
+use Rattle.object_table.specs.Damage.{FitsPlace, LeadsOn}
 use Rattle.object_table.specs.Nodes.{objects_in, entries_in}
-use Rattle.object_table.specs.Lives.{first_from, lives_below}
+use Rattle.object_table.specs.Lives.{lives_below}
 use Rattle.object_table.specs.Stands.{StandsBelow}
 use Rattle.object_table.proofs.Exits.{exit_error}
 use Rattle.object_table.proofs.LastLives.{step_leads}
-use Rattle.object_table.proofs.Firsts.{first_index, walk_found, walk_past, past_leads}
+use Rattle.object_table.proofs.Firsts.{first_index}
 use Rattle.object_table.proofs.Nodes.{index_level}
 use Rattle.object_table.proofs.Reading.{adjacent_in, begun_in, leaf_lives, leaf_some, first_in}
 use Rattle.object_table.proofs.walking.+first_below.Goals as goal

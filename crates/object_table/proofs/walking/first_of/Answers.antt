@@ -1,7 +1,6 @@
-use Rattle.std.proofs.Common.{◌≡◌, ◌≤◌, ◌<◌, ℕ, sym, subst, arith, take, ap, ◌∙◌}
+use Rattle.std.proofs.Common.{◌≤◌, ◌<◌, ℕ, sym, subst, arith, ap, ◌∙◌}
 use Rattle.std.proofs.lemmas.List.{take_all}
 use Rattle.object_table.specs.Lives.{first_from}
-use Rattle.object_table.specs.Keys.{key}
 use Rattle.object_table.proofs.Searching.{first_from-more, first_from-at}
 use Rattle.object_table.proofs.walking.first_of.Goals as goal
 
