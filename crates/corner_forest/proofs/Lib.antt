@@ -8,5 +8,6 @@ pub mod Lists
 pub mod MetSums
 pub mod Newness
 pub mod Places
+pub mod PlaneTotals
 pub mod Stages
 pub mod TreePoints

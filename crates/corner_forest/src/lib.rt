@@ -9,9 +9,11 @@
 mod entry;
 mod forest;
 mod meet;
+mod planes;
 mod points;
 mod stamp;
 
 pub use entry::enter;
 pub use forest::Forest;
 pub use meet::{count, sum};
+pub use planes::integral;
