@@ -1,5 +1,13 @@
+pub mod Adding
+pub mod Changing
+pub mod Entering
 pub mod Exits
+pub mod Footprints
 pub mod KeyBounds
+pub mod Lists
 pub mod MetSums
+pub mod Newness
 pub mod Places
-pub mod Points
+pub mod PlaneTotals
+pub mod Stages
+pub mod TreePoints

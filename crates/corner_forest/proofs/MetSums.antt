@@ -21,7 +21,7 @@ use Rattle.poly_moments.specs.PlaneSums.{Entered, EnteredFits, counts_at}
 use Rattle.corner_forest.specs.Answers.{where_met, sum_of, count_of}
 use Rattle.corner_forest.specs.Corners.{value_at}
 use Rattle.corner_forest.specs.Entries.{as_counted, as_weighed, corner_count, entered_residue, root_points}
-use Rattle.corner_forest.proofs.Points.{root_weighed, root_counted}
+use Rattle.corner_forest.proofs.TreePoints.{root_weighed, root_counted}
 
 -- an entry with the weight of this residue
 abbrev weighed : (Entered → ℕ) → Entered → Entry

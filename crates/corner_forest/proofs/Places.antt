@@ -1,6 +1,6 @@
 -- Trees in a list, by their places.
-use Rattle.std.proofs.Common.{◌≡◌, ℕ, zero, suc, ◌+◌, ◌*◌, ◌<◌, ◌≤◌, ◌%◌, ◌^◌, List, [], ◌∷◌, length, get_or, sym, ap, ◌∙◌, subst, arith}
-use Rattle.std.specs.List.{All}
+use Rattle.std.proofs.Common.{◌≡◌, ℕ, zero, suc, ◌+◌, ◌*◌, ◌<◌, ◌≤◌, ◌%◌, ◌^◌, List, [], ◌∷◌, length, get_or, refl, sym, ap, ◌∙◌, subst, arith, ◌++◌, map}
+use Rattle.std.specs.List.{All, range_with_len}
 use Rattle.bw_types.specs.declared.point.Point.{Point}
 use Rattle.bw_types.specs.declared.tree.Tree.{Tree}
 use Rattle.page_ports.specs.Pages.{PageMap}
@@ -46,6 +46,13 @@ module _ {X : Type 0} (g : Ghosts X) where
       (subst (λ (i : ℕ). g.balanced now dims (get_or ts i d)) (sym is_k)
       (subst (λ (n : PageMap). g.balanced n dims (get_or ts k d)) (sym same) (all k d lt)))
 
+  pub damaged_there : (m now : PageMap) (dims version page : ℕ) (keys : List ℕ) (ts shown : List Tree) (k j : ℕ) (d : Tree) → now ≡ m → shown ≡ ts → j ≡ k
+      → g.damaged_for_sum now dims (get_or shown j d) keys version page → g.damaged_for_sum m dims (get_or ts k d) keys version page
+  damaged_there m now dims version page keys ts shown k j d same is_shown is_k h =
+      subst (λ (n : PageMap). g.damaged_for_sum n dims (get_or ts k d) keys version page) same
+      (subst (λ (i : ℕ). g.damaged_for_sum now dims (get_or ts i d) keys version page) is_k
+      (subst (λ (l : List Tree). g.damaged_for_sum now dims (get_or l j d) keys version page) is_shown h))
+
   -- what a sum in that tree costs
   pub cost_here : (dims count size n old now : ℕ) → count ≡ size → size ≡ n → now ≤ old + g.cost dims count → now ≤ old + g.cost dims n
   cost_here dims count size n old now is_size is_n h = subst (λ (m : ℕ). now ≤ old + g.cost dims m) (is_size ∙ is_n) h
@@ -60,3 +67,21 @@ pub most_cost : (s n cost old now : ℕ) → now ≤ old + (s + 1) * cost → s 
 most_cost s n cost old now h lt =
     let le : (s + 1) * cost ≤ n * cost = mul-le-mul_right cost (omega (arith, lt)) in
     omega (arith, h, le)
+
+range_push : (from n : ℕ) → range_with_len from (suc n) ≡ range_with_len from n ++ (from + n) ∷ []
+range_push from zero = let same : from ≡ from + 0 = omega arith in ap (λ (k : ℕ). k ∷ []) same
+range_push from (suc n) =
+    let same : from + 1 + n ≡ from + suc n = omega arith in
+    ap (λ (l : List ℕ). from ∷ l) (range_push (from + 1) n ∙ ap (λ (k : ℕ). range_with_len (from + 1) n ++ k ∷ []) same)
+
+map_push : (f : ℕ → ℕ) (xs : List ℕ) (x : ℕ) → map f (xs ++ x ∷ []) ≡ map f xs ++ f x ∷ []
+map_push f [] x = refl
+map_push f (y ∷ xs) x = ap (λ (l : List ℕ). f y ∷ l) (map_push f xs x)
+
+-- one sum more of a list of them
+pub push_sum : (f : ℕ → ℕ) (n : ℕ) (items more : List ℕ) (x : ℕ) → items ≡ map f (range_with_len 0 n) → x ≡ f n → more ≡ items ++ x ∷ [] → more ≡ map f (range_with_len 0 (n + 1))
+push_sum f n items more x is_items is_x is_more =
+    let next : n + 1 ≡ suc n = omega arith in
+    let last : 0 + n ≡ n = omega arith in
+    is_more ∙ ap (λ (l : List ℕ). l ++ x ∷ []) is_items ∙ ap (λ (y : ℕ). map f (range_with_len 0 n) ++ y ∷ []) is_x
+    ∙ sym (ap (λ (k : ℕ). map f (range_with_len 0 k)) next ∙ ap (map f) (range_push 0 n ∙ ap (λ (k : ℕ). range_with_len 0 n ++ k ∷ []) last) ∙ map_push f (range_with_len 0 n) n)

@@ -2,4 +2,5 @@ pub mod Entries
 pub mod Trees
 pub mod Stands
 pub mod Corners
+pub mod Enters
 pub mod Answers

@@ -6,8 +6,14 @@
 //! index, and their contracts speak of objects and queries alone.
 #![tactic(auto)]
 
+mod entry;
 mod forest;
 mod meet;
+mod planes;
+mod points;
+mod stamp;
 
+pub use entry::enter;
 pub use forest::Forest;
 pub use meet::{count, sum};
+pub use planes::integral;

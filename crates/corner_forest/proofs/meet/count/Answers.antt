@@ -4,7 +4,7 @@ use Rattle.bw_types.specs.Residues.{signed_of}
 use Rattle.corner_forest.specs.Answers.{count_of}
 use Rattle.corner_forest.specs.Entries.{root_points}
 use Rattle.corner_forest.proofs.MetSums.{count_by_corners}
-use Rattle.corner_forest.proofs.Points.{counted_count}
+use Rattle.corner_forest.proofs.TreePoints.{counted_count}
 use Rattle.corner_forest.proofs.meet.count.Goals as goal
 
 pub returns-in_err-total-clause-cost : goal.returns-in_err-total-clause-cost

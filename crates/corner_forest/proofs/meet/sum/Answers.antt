@@ -4,7 +4,7 @@ use Rattle.bw_types.specs.Residues.{signed_of}
 use Rattle.corner_forest.specs.Answers.{sum_of}
 use Rattle.corner_forest.specs.Entries.{root_points}
 use Rattle.corner_forest.proofs.MetSums.{sum_by_corners}
-use Rattle.corner_forest.proofs.Points.{weighed_count}
+use Rattle.corner_forest.proofs.TreePoints.{weighed_count}
 use Rattle.corner_forest.proofs.meet.sum.Goals as goal
 
 pub returns-in_err-total-clause-cost : goal.returns-in_err-total-clause-cost
