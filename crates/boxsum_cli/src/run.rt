@@ -4,7 +4,7 @@ ghost use Rattle.counts.specs.Count.{Rose};
 ghost use Rattle.csv_rows.specs.Machine.{text};
 ghost use Rattle.bw_types.specs.declared.params.Params.{Params};
 ghost use Rattle.bw_types.specs.Fits.{IsInRange};
-ghost use Rattle.command_words.specs.Command.{built_command};
+ghost use Rattle.boxsum_cli.specs.Built.{built_command};
 ghost use Rattle.row_machine.specs.Runs.{WritesPart};
 ghost use Rattle.boxsum_cli.specs.Runs.{WritesWholeLines};
 

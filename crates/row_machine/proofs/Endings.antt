@@ -3,7 +3,7 @@ use Rattle.std.proofs.Common.{◌≡◌, ℕ, ◌+◌, Bool, true, IsTrue, List,
 use Rattle.std.proofs.lemmas.List.{append-nil}
 use Rattle.bw_types.specs.History.{History}
 use Rattle.bw_types.specs.declared.params.Params.{Params}
-use Rattle.csv_rows.specs.Lines.{lines}
+use Rattle.line_reader.specs.Lines.{lines}
 use Rattle.csv_rows.specs.Machine.{State, replies, state_after}
 use Rattle.warehouse.specs.declared.house.House.{Ghosts}
 use Rattle.row_machine.specs.declared.ending.Ran.{Ran}

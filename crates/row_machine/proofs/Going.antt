@@ -6,9 +6,9 @@ use Rattle.bw_types.specs.History.{History}
 use Rattle.bw_types.specs.Fits.{IsInRange}
 use Rattle.warehouse.specs.declared.house.House.{Ghosts}
 use Rattle.row_machine.specs.declared.desk.Desk.{Desk}
-use Rattle.csv_rows.specs.Reader.{ReaderState, to_come, unless_stopped}
-use Rattle.csv_rows.specs.declared.lines.Line.{Line}
-use Rattle.csv_rows.specs.declared.lines.Line.TheVariants.{End}
+use Rattle.line_reader.specs.Reader.{ReaderState, to_come, unless_stopped}
+use Rattle.line_reader.specs.declared.lines.Line.{Line}
+use Rattle.line_reader.specs.declared.lines.Line.TheVariants.{End}
 use Rattle.row_machine.specs.declared.serving.TheConstants.{INPUT_LIMIT}
 use Rattle.row_machine.specs.Runs.{WritesMore, WritesPart}
 use Rattle.row_machine.specs.Serving.{TakesWhole, MayGoOn, MayServe, SeenEnd, GoesOn, ServesLine, IsBetweenLines, IsFlushed, IsInputEnding, BreaksOff, Ends, Lasts, LastsBeyond, LastsSoFar, state_at}
@@ -16,7 +16,7 @@ use Rattle.row_machine.specs.Housed.{IsHouseEnding}
 use Rattle.row_machine.specs.declared.ending.Ran.{Ran}
 use Rattle.row_machine.specs.declared.ending.Ending.{Ending}
 use Rattle.row_machine.specs.declared.ending.Ending.TheVariants.{Fine, ReadFault, WriteFault, NoMemory, InputLimit, DiskFault, Damaged, PageLimit}
-use Rattle.csv_rows.specs.Lines.{lines, PassesNoLineFeed}
+use Rattle.line_reader.specs.Lines.{lines, PassesNoLineFeed}
 use Rattle.csv_rows.specs.Machine.{replies}
 use Rattle.row_machine.proofs.Lined.{not_both}
 use Rattle.row_machine.proofs.Parts.{more_twice, nothing_more, part_of_all}

@@ -2,10 +2,10 @@
 use Rattle.std.proofs.Common.{◌≡◌, ℕ, ◌+◌, Bool, true, IsTrue, List, [], ◌∷◌, ◌++◌, length, ◌⊎◌, inl, inr, Option, None, Some, sym, ◌∙◌, ap, refl, append_assoc, arith, length-append}
 use Rattle.std.proofs.lemmas.List.{append-nil}
 use Rattle.bw_types.specs.declared.params.Params.{Params}
-use Rattle.csv_rows.specs.Lines.{lines, is_whole, whole_part, HasNoLineFeed, TakesLine, PassesNoLineFeed}
+use Rattle.line_reader.specs.Lines.{lines, is_whole, whole_part, HasNoLineFeed, TakesLine, PassesNoLineFeed}
 use Rattle.row_machine.specs.Serving.{TakesWhole}
-use Rattle.csv_rows.specs.declared.lines.Line.{Line}
-use Rattle.csv_rows.specs.declared.lines.Line.TheVariants.{End}
+use Rattle.line_reader.specs.declared.lines.Line.{Line}
+use Rattle.line_reader.specs.declared.lines.Line.TheVariants.{End}
 use Rattle.csv_rows.specs.Machine.{State, step, replied, replies, state_after}
 use Rattle.row_machine.proofs.Replies.{replies-append, state_after-append}
 

@@ -2,7 +2,7 @@
 use Rattle.std.specs.Prelude.{◌≡◌, ℕ, ◌+◌, Bool, true, IsTrue, List, ◌++◌, length}
 use Rattle.bw_types.specs.History.{History}
 use Rattle.bw_types.specs.declared.params.Params.{Params}
-use Rattle.csv_rows.specs.Lines.{is_whole, lines, whole_part}
+use Rattle.line_reader.specs.Lines.{is_whole, lines, whole_part}
 use Rattle.csv_rows.specs.Machine.{State, replies, state_after, text, after, begun}
 use Rattle.warehouse.specs.declared.house.House.{Ghosts}
 use Rattle.row_machine.specs.declared.ending.Ran.{Ran}

@@ -5,11 +5,11 @@ use Rattle.bw_types.specs.declared.params.Params.{Params}
 use Rattle.bw_types.specs.declared.query.Query.{Query}
 use Rattle.bw_types.specs.declared.row.Row.{Row}
 use Rattle.csv_rows.specs.Input.{input}
-use Rattle.csv_rows.specs.Lines.{lines, whole_part, TakesLine}
-use Rattle.csv_rows.specs.Reader.{ReaderState}
+use Rattle.line_reader.specs.Lines.{lines, whole_part, TakesLine}
+use Rattle.line_reader.specs.Reader.{ReaderState}
 use Rattle.csv_rows.specs.Machine.{State, Step, step, replied, replies, state_after}
-use Rattle.csv_rows.specs.declared.lines.Line.{Line}
-use Rattle.csv_rows.specs.declared.lines.Line.TheVariants.{End}
+use Rattle.line_reader.specs.declared.lines.Line.{Line}
+use Rattle.line_reader.specs.declared.lines.Line.TheVariants.{End}
 use Rattle.warehouse.specs.declared.house.House.{Ghosts}
 use Rattle.row_machine.specs.declared.desk.Desk.{Desk}
 use Rattle.row_machine.specs.declared.ending.Ran.{Ran}

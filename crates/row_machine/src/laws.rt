@@ -1,7 +1,7 @@
 //! What follows from how a run ended, and the laws of what is written and kept.
 ghost use Rattle.row_machine.specs.Ended.{AfterGoesOn, AfterJoins, AllMayBeServed, EndsInPart, EndsWithinAll, FineServesAll, FineSettles, InputServesWhole, TextJoins};
 
-use csv_rows::lines_join;
+use line_reader::lines_join;
 use warehouse::House;
 
 /// Proves what follows from the way in which `serve` says that a run ended; it does nothing when it runs.

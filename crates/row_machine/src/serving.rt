@@ -3,11 +3,11 @@ ghost use Rattle.std.specs.Prelude.{◌≡◌, ◌≢◌, ℕ, ◌+◌, ◌<◌,
 ghost use Rattle.counts.specs.Count.{Rose};
 ghost use Rattle.bw_types.specs.Fits.{IsInRange};
 ghost use Rattle.bw_types.specs.History.{History};
-ghost use Rattle.csv_rows.specs.Lines.{lines, PassesNoLineFeed};
-ghost use Rattle.csv_rows.specs.Reader.{to_come};
-ghost use Rattle.csv_rows.specs.Input.{input, longest_line};
+ghost use Rattle.line_reader.specs.Lines.{lines, PassesNoLineFeed};
+ghost use Rattle.line_reader.specs.Reader.{to_come};
+ghost use Rattle.csv_rows.specs.Input.{input};
 ghost use Rattle.csv_rows.specs.Machine.{step, replied};
-ghost use Rattle.csv_rows.specs.declared.lines.Line.TheVariants as answered;
+ghost use Rattle.line_reader.specs.declared.lines.Line.TheVariants as answered;
 ghost use Rattle.row_machine.specs.Outbox.{gathered};
 ghost use Rattle.row_machine.specs.Runs.{WritesMore, WritesPart};
 ghost use Rattle.row_machine.specs.Housed.{IsHouseEnding, MayTake, rows_committed};
@@ -17,7 +17,8 @@ use crate::desk::Desk;
 use crate::ending::{Ending, Ran};
 use crate::outbox::Outbox;
 use byte_ports::{Sink, Source};
-use csv_rows::{Line, LineReader, Reply, lines_join, whole_joins, whole_part_of_passed};
+use csv_rows::Reply;
+use line_reader::{Line, LineReader, lines_join, whole_joins, whole_part_of_passed};
 use std::alloc::Global;
 use warehouse::House;
 
@@ -76,7 +77,7 @@ fn serve_long<H: House>(
     outbox: &mut Outbox,
 ) -> Result<Desk<H>, Ran<H::Device>>
     ensures params { IfOk result (λ new. new.params ≡ desk.params) }
-    ensures serves { (whole : Bool) (h : History) (line : List ℕ) → longest_line < length line → H.stands whole (H.device desk.house) desk.params h →
+    ensures serves { (whole : Bool) (h : History) (line : List ℕ) → 4096 < length line → H.stands whole (H.device desk.house) desk.params h →
         ServesText ⟦<H as House>⟧ whole desk.params h (step desk.params number (state_at ⟦<H as House>⟧ h desk) line)
         (rows_committed (state_at ⟦<H as House>⟧ h desk) (input desk.params line)) (MayTake false (input desk.params line)) (line_cost H.cost desk.params h line) (H.device desk.house) (gathered outbox.old) (gathered outbox.new) result }
     ensures lasts { (h : History) → H.stands true (H.device desk.house) desk.params h → LastsBeyond ⟦<H as House>⟧ desk.params h (H.device desk.house) result }

@@ -1,5 +1,5 @@
 use Rattle.std.proofs.Common.{◌≡◌, ◌∙◌, true, [], refl, sym, ap, subst}
-use Rattle.csv_rows.specs.Lines.{lines}
+use Rattle.line_reader.specs.Lines.{lines}
 use Rattle.row_machine.specs.declared.ending.Ending.{Ending}
 use Rattle.row_machine.specs.Serving.{IsFlushed}
 use Rattle.boxsum_cli.proofs.Scratch.{ends_from_nothing, whole_text, fine_ending, input_ending, input_flushes, damaged_ending, limit_ending}
