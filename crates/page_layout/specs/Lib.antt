@@ -5,6 +5,7 @@ pub mod Entries
 pub mod Counted
 pub mod Respelled
 pub mod Respelling
+pub mod Exact
 pub mod TestedRow
 pub mod Children
 pub mod Head
@@ -31,6 +32,7 @@ pub mod Regions
 pub mod BaEntry
 pub mod CutPage
 pub mod CutView
+pub mod CutExact
 pub mod Signed
 pub mod Dated
 pub mod LifeNode

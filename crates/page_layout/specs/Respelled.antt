@@ -76,7 +76,7 @@ respelled_at k n bytes h room =
     ap (λ (b : List ℕ). spelled n (number_in n (drop k bytes)) ++ b) (sym (drop-drop n k bytes))
     ∙ respelled n (drop k bytes) (bytes-drop k bytes h) (omega (arith, len))
 
-two_more : (a b : ℕ) (page : List ℕ) → slice_index page 0 ≡ a → slice_index page 1 ≡ b → 2 ≤ length page → a ∷ b ∷ drop 2 page ≡ page
+pub two_more : (a b : ℕ) (page : List ℕ) → slice_index page 0 ≡ a → slice_index page 1 ≡ b → 2 ≤ length page → a ∷ b ∷ drop 2 page ≡ page
 two_more a b [] is_a is_b h = absurd (omega arith)
 two_more a b (x ∷ []) is_a is_b h = absurd (omega arith)
 two_more a b (x ∷ y ∷ zs) is_a is_b h = ap (λ (n : ℕ). n ∷ b ∷ zs) (sym is_a) ∙ ap (λ (n : ℕ). x ∷ n ∷ zs) (sym is_b)

@@ -14,6 +14,7 @@ mod cut_page;
 mod cut_view;
 mod dated;
 mod entry;
+mod exact;
 mod footprint;
 mod free_page;
 mod front;

@@ -202,6 +202,12 @@ fn a_full_page_of_cuts(rt: HostRuntime) -> Result<(), Fail> {
         None => assert!(rt; false),
     }
     assert!(rt; again == page);
+    // Bytes that no field names are 0: of a node, of a pocket, and behind the last entry.
+    for place in [21, 512 + 17, 512 + 119, 512 + 120 * 16] {
+        page[place] = 1;
+        assert!(rt; CutPage::read(&page).is_none());
+        page[place] = 0;
+    }
     // The last two nodes change places, so that a cut has no sides.
     page[16 + 32 * 14] = 0;
     page[16 + 32 * 14 + 1] = 0;
