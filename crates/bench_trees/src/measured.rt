@@ -28,7 +28,8 @@ fn value_all(stage: &mut MemStage, tree: &Tree, additions: u32) -> Result<u128, 
     Ok(total)
 }
 
-fn rate(count: u32, nanoseconds: u128) -> u128 {
+/// So many in this time, as a number a second.
+pub fn rate(count: u32, nanoseconds: u128) -> u128 {
     u128::from(count) * 1_000_000_000 / nanoseconds.max(1)
 }
 

@@ -1,9 +1,9 @@
 -- The last life of an id after a change.
-use Rattle.std.proofs.Common.{◌≡◌, ◌≢◌, ℕ, zero, suc, ◌+◌, ◌*◌, ◌^◌, ◌<◌, ◌≤◌, ◌==◌, if◌then◌else◌, Bool, true, false, inl, inr, List, [], ◌∷◌, ◌++◌, length, get_or, map, Option, Some, None, refl, sym, ap, ◌∙◌, subst, arith, append_assoc}
+use Rattle.std.proofs.Common.{◌≡◌, ◌≢◌, ℕ, ◌^◌, ◌<◌, ◌≤◌, ◌==◌, if◌then◌else◌, Bool, true, false, inl, inr, List, [], ◌∷◌, ◌++◌, get_or, map, Option, Some, None, refl, sym, ap, ◌∙◌, subst, arith, append_assoc}
 use Rattle.std.specs.List.{All}
 use Rattle.std.specs.List.Sorted.{IsPermutation}
 use Rattle.std.specs.Option.{option_or, option_map, option_map_or}
-use Rattle.std.proofs.lemmas.Bool.{cases_lt, cases_eq, cases_Bool, ne_eqb, eq-eqb, eqb-true}
+use Rattle.std.proofs.lemmas.Bool.{cases_lt, cases_eq, cases_Bool, ne_eqb, eq-eqb}
 use Rattle.std.proofs.lemmas.List.Elements.{All-cons, All-nil}
 use Rattle.std.proofs.lemmas.List.Sorted.{IsPermutation-append_comm, IsPermutation-append_left}
 use Rattle.bw_types.specs.declared.dated.Dated.{Dated}
@@ -11,14 +11,14 @@ use Rattle.bw_types.specs.declared.tree.Tree.{Tree}
 use Rattle.page_ports.specs.Pages.{PageMap}
 use Rattle.object_table.specs.declared.form.Form.{Form}
 use Rattle.object_table.specs.Keys.{key, AscendBy}
-use Rattle.object_table.specs.Lives.{last_life, lives_below}
+use Rattle.object_table.specs.Lives.{last_life}
 use Rattle.object_table.specs.Damage.{HaveNot}
-use Rattle.object_table.specs.Edits.{IsNewLife, IsPutIn, with_object, withdrawn_at, is_last_life, with_withdrawal}
+use Rattle.object_table.specs.Edits.{IsNewLife, IsPutIn, with_object, withdrawn_at, with_withdrawal}
 use Rattle.object_table.specs.Stands.{TableStands}
 use Rattle.object_table.proofs.Ascending.{root_ascend}
 use Rattle.object_table.proofs.LastOnes.{last_cons, some_first, found_in, last_above, new_key, root_typed}
 use Rattle.object_table.proofs.PuttingIn.{with_object_is}
-use Rattle.object_table.proofs.Searching.{All-head, All-tail, or_none, last_life-append, last_life-one, last_life-other, last_life-none}
+use Rattle.object_table.proofs.Searching.{All-head, All-tail, or_none, last_life-append, last_life-one, last_life-other}
 
 no_some : {y : Dated} → ◌≡◌ {A = Option Dated} None (Some y) → ⊥
 no_some e = cc
@@ -61,26 +61,30 @@ put_some : (lives : List Dated) (d : Dated) → AscendBy key lives → HaveNot (
 put_some [] d asc none = (d ∷ [], record { before = []; after = []; was = refl; is = refl; less = All-nil (λ (e : Dated). key e < key d); more = All-nil (λ (e : Dated). key d < key e) })
 put_some (x ∷ xs) d asc none = elim (cases_lt (key x) (key d)) [
   | inl less ↦
-      let r = put_some xs d asc.1 (All-tail (λ (e : Dated). key e ≢ key d) x xs none) in
-      (x ∷ r.0, record {
-        before = x ∷ r.1.before;
-        after = r.1.after;
-        was = ap (λ (ds : List Dated). x ∷ ds) r.1.was;
-        is = ap (λ (ds : List Dated). x ∷ ds) r.1.is;
-        less = All-cons (λ (e : Dated). key e < key d) x r.1.before less r.1.less;
-        more = r.1.more;
-      })
+      let r = put_some xs d asc.1 (All-tail (λ (e : Dated). key e ≢ key d) x xs none) in (
+        x ∷ r.0,
+        record {
+          before = x ∷ r.1.before;
+          after = r.1.after;
+          was = ap (λ (ds : List Dated). x ∷ ds) r.1.was;
+          is = ap (λ (ds : List Dated). x ∷ ds) r.1.is;
+          less = All-cons (λ (e : Dated). key e < key d) x r.1.before less r.1.less;
+          more = r.1.more;
+        },
+      )
   | inr not_less ↦
       let other : key x ≢ key d = All-head (λ (e : Dated). key e ≢ key d) x xs none in
-      let above : key d < key x = from_not (key x) (key d) not_less other in
-      (d ∷ (x ∷ xs), record {
-        before = [];
-        after = x ∷ xs;
-        was = refl;
-        is = refl;
-        less = All-nil (λ (e : Dated). key e < key d);
-        more = All-cons (λ (e : Dated). key d < key e) x xs above (λ i e h. omega (arith, above, asc.0 i e h));
-      })
+      let above : key d < key x = from_not (key x) (key d) not_less other in (
+        d ∷ (x ∷ xs),
+        record {
+          before = [];
+          after = x ∷ xs;
+          was = refl;
+          is = refl;
+          less = All-nil (λ (e : Dated). key e < key d);
+          more = All-cons (λ (e : Dated). key d < key e) x xs above (λ i e h. omega (arith, above, asc.0 i e h));
+        },
+      )
 ]
 
 put_in_table : (form : Form) (m : PageMap) (table : Tree) (lives : List Dated) (d : Dated) → TableStands form m table lives → d.life < 2 ^ 32 → IsNewLife lives d → IsPutIn lives (with_object d lives) d

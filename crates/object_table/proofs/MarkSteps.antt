@@ -1,31 +1,29 @@
 -- One step of marking, from what its calls answer.
-use Rattle.std.proofs.Common.{◌≡◌, ◌≢◌, ℕ, zero, suc, ◌+◌, ◌-◌, ◌^◌, ◌<◌, ◌≤◌, ◌==◌, true, false, IsTrue, List, [], ◌∷◌, ◌++◌, length, get_or, Some, IsSome, refl, sym, ap, ◌∙◌, subst, arith}
-use Rattle.std.specs.List.{All, flat_map}
+use Rattle.std.proofs.Common.{◌≡◌, ◌≢◌, ℕ, zero, suc, ◌-◌, ◌^◌, ◌<◌, ◌≤◌, ◌==◌, false, List, [], ◌∷◌, ◌++◌, length, get_or, Some, IsSome, refl, sym, ap, ◌∙◌, subst, arith}
+use Rattle.std.specs.List.{All}
 use Rattle.std.proofs.lemmas.Bool.{ne_eqb, or_parts, false≢true}
 use Rattle.std.proofs.lemmas.List.Concat.{flat_map-append}
 use Rattle.bw_types.specs.declared.dated.Dated.{Dated}
 use Rattle.bw_types.specs.declared.tree.Tree.{Tree}
 use Rattle.page_ports.specs.Pages.{PageMap}
-use Rattle.page_ports.specs.Frame.{names_page, AgreeOn, AreApart, Replaces}
+use Rattle.page_ports.specs.Frame.{names_page, AreApart, Replaces}
 use Rattle.page_ports.specs.FrameLaws.{Replaces-same, Replaces-beside, Replaces-agree}
-use Rattle.page_layout.specs.Damage.{IsDamagedBelow, NothingBeside}
 use Rattle.page_layout.specs.Footprint.{NamesNoneTwice}
 use Rattle.page_layout.specs.LifeNode.{life_node_page}
-use Rattle.page_layout.specs.declared.life_node.LifeNode.{LifeNode}
 use Rattle.page_layout.specs.declared.life_node.LifeEntry.{LifeEntry}
 use Rattle.object_table.specs.declared.form.Form.TheVariants.{ByLives}
 use Rattle.object_table.specs.declared.path.Step.{Step}
 use Rattle.object_table.specs.declared.place.Place.{Place}
 use Rattle.object_table.specs.Damage.{FitsPlace, GoesBy, root_place}
-use Rattle.object_table.specs.Keys.{key, low_key, greatest_key, key_end, AscendBy}
-use Rattle.object_table.specs.Lives.{lives_below, pages_below, last_life}
+use Rattle.object_table.specs.Keys.{key, low_key, greatest_key, AscendBy}
+use Rattle.object_table.specs.Lives.{lives_below, pages_below}
 use Rattle.object_table.specs.Nodes.{node_on, objects_in, entries_in, entries_on}
 use Rattle.object_table.specs.Edits.{IsMarked, CanWithdraw, with_withdrawal}
 use Rattle.object_table.specs.Marked.{IsMarkedBelow}
-use Rattle.object_table.specs.Stands.{first_low, KeepsItsLow, EachStands, fewest, StandsBelow, RootStands, TableStands}
+use Rattle.object_table.specs.Stands.{first_low, EachStands, fewest, StandsBelow, RootStands, TableStands}
 use Rattle.object_table.specs.Stored.{IsWhole, leaf_of, index_of}
 use Rattle.object_table.proofs.Ascending.{root_ascend}
-use Rattle.object_table.proofs.Clearing.{own_pages, pages-step}
+use Rattle.object_table.proofs.Clearing.{own_pages}
 use Rattle.object_table.proofs.Footprints.{apart_sym, once_left, once_right, once_apart, apart_parts, page_kept}
 use Rattle.object_table.proofs.Frames.{same_index, same_entries}
 use Rattle.object_table.proofs.IndexStep.{ReadIndex, StepParts, step_parts}
@@ -34,7 +32,7 @@ use Rattle.object_table.proofs.Nodes.{node_on-fits}
 use Rattle.object_table.proofs.Order.{first_low-later, EachStands-path, EachStands-join}
 use Rattle.object_table.proofs.Rules.{leaf_proper, fits_leaf}
 use Rattle.object_table.proofs.SoundAsked.{GoesDown}
-use Rattle.object_table.proofs.Standing.{Child, list_pages, list_lives, list_pages-frame, list_lives-frame, each-frame, each-there, split_stands, join_stands, pages_on, lives_on}
+use Rattle.object_table.proofs.Standing.{Child, list_pages, list_lives, list_pages-frame, list_lives-frame, each-frame, each-there, split_stands, join_stands, pages_on}
 use Rattle.object_table.proofs.Stepping.{ReadLeaf}
 use Rattle.object_table.proofs.Withdrawals.{mark_within, all_marked, length_marked, low_marked, proper_marked, marked_can, marked_is}
 use Rattle.object_table.proofs.Within.{own_lives, parts_at}

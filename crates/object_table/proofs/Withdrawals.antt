@@ -1,22 +1,22 @@
 -- The last life of an id, withdrawn.
-use Rattle.std.proofs.Common.{◌≡◌, ◌≢◌, ℕ, zero, suc, ◌+◌, ◌-◌, ◌*◌, ◌^◌, ◌<◌, ◌≤◌, ◌==◌, ◌&&◌, ◌↔◌, nat_lt, nat_le, if◌then◌else◌, Bool, true, false, IsTrue, inl, inr, List, [], ◌∷◌, ◌++◌, length, get_or, take, drop, set, map, Option, Some, None, refl, sym, ap, ◌∙◌, subst, arith, append_assoc, length-append, drop-cons, length-drop}
+use Rattle.std.proofs.Common.{◌≡◌, ◌≢◌, ℕ, zero, suc, ◌-◌, ◌^◌, ◌<◌, ◌≤◌, ◌==◌, ◌↔◌, nat_lt, nat_le, if◌then◌else◌, Bool, true, false, IsTrue, inl, inr, List, [], ◌∷◌, ◌++◌, length, get_or, take, drop, set, map, Option, Some, None, refl, sym, ap, ◌∙◌, subst, arith, append_assoc, length-append, drop-cons}
 use Rattle.std.specs.List.{All, AllAdjacentBelow, refill}
 use Rattle.std.specs.Option.{option_or, option_map_or}
-use Rattle.std.proofs.lemmas.Bool.{cases_eq, ne_eqb, eq-eqb, lt-ltb, and_from, true_from_ne_false, false≢true}
+use Rattle.std.proofs.lemmas.Bool.{cases_eq, ne_eqb, eq-eqb, lt-ltb, and_from, false≢true}
 use Rattle.std.proofs.lemmas.List.{take-append-drop, map-append, get_or-take, length-take, take_all, drop_all, append-nil, get_or_default}
-use Rattle.std.proofs.lemmas.List.Elements.{All-cons, All-nil}
+use Rattle.std.proofs.lemmas.List.Elements.{All-cons}
 use Rattle.bw_types.specs.declared.dated.Dated.{Dated}
 use Rattle.page_layout.specs.Dated.{by_life_fits, dated_fits, dates_fit, ends_fit, withdrawal_fits, IsDatedTyped}
 use Rattle.page_layout.specs.LifeNode.{IsLifeLeaf}
 use Rattle.page_layout.specs.TreeValue.{both_true}
 use Rattle.page_layout.specs.declared.life_node.LifeEntry.{LifeEntry}
-use Rattle.object_table.specs.Keys.{key, key_of, low_key, greatest_key, AscendBy}
+use Rattle.object_table.specs.Keys.{key, low_key, greatest_key, AscendBy}
 use Rattle.object_table.specs.Lives.{last_life}
-use Rattle.object_table.specs.Edits.{IsMarked, CanWithdraw, withdrawn_at, is_last_life, with_withdrawal}
+use Rattle.object_table.specs.Edits.{IsMarked, CanWithdraw, withdrawn_at, with_withdrawal}
 use Rattle.object_table.specs.Stands.{BeginWith, KeepsItsLow}
 use Rattle.object_table.proofs.LastOnes.{some_first}
 use Rattle.object_table.proofs.Order.{All-left, All-right, All-join}
-use Rattle.object_table.proofs.Ordered.{Proper, asc_before, asc_from, asc_right}
+use Rattle.object_table.proofs.Ordered.{asc_before, asc_from, asc_right}
 use Rattle.object_table.proofs.Rules.{ProperObjects, leaf_proper, leaf_rules}
 use Rattle.object_table.proofs.Searching.{All-head, All-tail, or_none, last_life-append, last_life-one, last_life-other, last_life-none}
 

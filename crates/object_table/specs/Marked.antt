@@ -1,5 +1,5 @@
 -- What marking a withdrawal below a page leaves.
-use Rattle.std.specs.Prelude.{◌≡◌, ℕ, List}
+use Rattle.std.specs.Prelude.{◌≡◌, ℕ}
 use Rattle.page_ports.specs.Pages.{PageMap}
 use Rattle.page_ports.specs.Frame.{Replaces}
 use Rattle.object_table.specs.declared.form.Form.TheVariants.{ByLives}

@@ -10,6 +10,10 @@
 
 mod copying;
 mod entering;
+#[cfg(test)]
+mod entering_tests;
+#[cfg(test)]
+mod failing;
 mod finding;
 mod form;
 mod freeing;

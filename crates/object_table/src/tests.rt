@@ -30,7 +30,7 @@ fn dated(id: u64, life: u32, withdrawn: bool) -> Dated {
 }
 
 // A new page of the node.
-fn page_of<T: TreePage, S: Stage>(stage: &mut S, node: &T) -> Result<u64, StageFault> {
+pub(crate) fn page_of<T: TreePage, S: Stage>(stage: &mut S, node: &T) -> Result<u64, StageFault> {
     if !node.keeps_rules() {
         return Err(StageFault::NoMemory);
     }
@@ -38,7 +38,7 @@ fn page_of<T: TreePage, S: Stage>(stage: &mut S, node: &T) -> Result<u64, StageF
 }
 
 // A leaf of first lives.
-fn leaf<S: Stage>(stage: &mut S, from: u64, to: u64) -> Result<u64, StageFault> {
+pub(crate) fn leaf<S: Stage>(stage: &mut S, from: u64, to: u64) -> Result<u64, StageFault> {
     let mut objects = ArrayVec::new();
     for id in from..to {
         if !objects.is_full() {
@@ -49,7 +49,7 @@ fn leaf<S: Stage>(stage: &mut S, from: u64, to: u64) -> Result<u64, StageFault> 
 }
 
 // An index page above two leaves.
-fn index<S: Stage>(
+pub(crate) fn index<S: Stage>(
     stage: &mut S,
     first: u64,
     low: (u64, u32),
@@ -69,7 +69,7 @@ fn index<S: Stage>(
     page_of(stage, &LifeNode::Index { level: 2, entries })
 }
 
-fn table_of(root: u64, levels: u8, count: u32) -> Tree {
+pub(crate) fn table_of(root: u64, levels: u8, count: u32) -> Tree {
     Tree {
         root,
         levels,

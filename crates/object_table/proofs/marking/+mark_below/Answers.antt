@@ -1,7 +1,5 @@
-use Rattle.std.proofs.Common.{◌≡◌, ◌-◌, ◌^◌, ◌<◌, ℕ, IsTrue, List, [], ◌∷◌, Some, Err, rules, arith, subst, sym, ap, ◌∙◌, refl}
+use Rattle.std.proofs.Common.{◌-◌, IsTrue, Err, arith, sym, ap, ◌∙◌, refl}
 use Rattle.std.proofs.lemmas.Result.{err_from_is_err_and, IfOk-weaker}
-use Rattle.page_ports.specs.Pages.{PageMap}
-use Rattle.page_ports.specs.declared.page.StageFault.TheVariants.{Damaged}
 use Rattle.object_table.specs.declared.form.Form.TheVariants.{ByLives}
 use Rattle.object_table.specs.Edits.{CanWithdraw}
 use Rattle.object_table.specs.Lives.{pages_below}

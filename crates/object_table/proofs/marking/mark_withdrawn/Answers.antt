@@ -1,4 +1,4 @@
-use Rattle.std.proofs.Common.{◌≡◌, ℕ, IsTrue, List, Err, inl, subst, sym, ap, ◌∙◌}
+use Rattle.std.proofs.Common.{inl, subst, ap, ◌∙◌}
 use Rattle.std.proofs.lemmas.Result.{IfOk-weaker}
 use Rattle.page_layout.specs.Damage.{IsDamagedBelow, NothingBeside}
 use Rattle.object_table.specs.declared.form.Form.TheVariants.{ByLives}

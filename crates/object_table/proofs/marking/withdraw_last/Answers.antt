@@ -1,4 +1,3 @@
-use Rattle.std.proofs.Common.{refl}
 use Rattle.object_table.proofs.Withdrawals.{withdraw_marked, withdraw_refused, none_refused, false_is}
 use Rattle.object_table.proofs.marking.withdraw_last.Goals as goal
 
