@@ -8,6 +8,7 @@
 
 mod entry;
 mod forest;
+pub mod laws;
 mod meet;
 mod planes;
 mod points;
