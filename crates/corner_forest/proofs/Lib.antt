@@ -3,6 +3,7 @@ pub mod Changing
 pub mod Entering
 pub mod Exits
 pub mod Footprints
+pub mod ForestLaws
 pub mod HistoryTotals
 pub mod KeyBounds
 pub mod Lists

@@ -4,4 +4,5 @@ pub mod Stands
 pub mod Corners
 pub mod Enters
 pub mod Histories
+pub mod Laws
 pub mod Answers
