@@ -13,6 +13,8 @@ mod meet;
 mod planes;
 mod points;
 mod stamp;
+#[cfg(test)]
+mod tests;
 
 pub use entry::enter;
 pub use forest::Forest;
