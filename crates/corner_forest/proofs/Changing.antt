@@ -36,7 +36,7 @@ module _ (S : PageMap → Tree → List Point → Type 0) (pages : PageMap → T
     pub once : NamesNoneTwice (trees_pages (pages n) new)
     pub change : Replaces (trees_pages (pages m) old) (trees_pages (pages n) new) m n
 
-  each_by_pages : (m n : PageMap) (P : ℕ → List Point) (from : ℕ) (ts : List Tree) → EachStands (S m) P from ts → AgreeOn (trees_pages (pages m) ts) m n
+  pub each_by_pages : (m n : PageMap) (P : ℕ → List Point) (from : ℕ) (ts : List Tree) → EachStands (S m) P from ts → AgreeOn (trees_pages (pages m) ts) m n
       → EachStands (S n) P from ts × (trees_pages (pages n) ts ≡ trees_pages (pages m) ts)
   each_by_pages m n P from [] s agree = (tt, refl)
   each_by_pages m n P from (t ∷ ts) s agree =

@@ -37,16 +37,16 @@ pub tree_at : (S : Tree → List Point → Type 0) (P : ℕ → List Point) (fro
 tree_at S P from [] t rest s = subst (λ (k : ℕ). S t (P k)) (omega arith) s.0
 tree_at S P from (h ∷ done) t rest s = subst (λ (k : ℕ). S t (P k)) (omega arith) (tree_at S P (suc from) done t rest s.1)
 
-each_with : (S : Tree → List Point → Type 0) (B : Type 0) (low : Tree → Type 0) (P : ℕ → List Point) (from : ℕ) (ts : List Tree) → (B → All low ts) → EachStands S P from ts
+pub each_with : (S : Tree → List Point → Type 0) (B : Type 0) (low : Tree → Type 0) (P : ℕ → List Point) (from : ℕ) (ts : List Tree) → (B → All low ts) → EachStands S P from ts
     → EachStands (λ t ps. S t ps × (B → low t)) P from ts
 each_with S B low P from [] all s = tt
 each_with S B low P from (t ∷ ts) all s = ((s.0, λ b. All-head low t ts (all b)), each_with S B low P (suc from) ts (λ b. All-tail low t ts (all b)) s.1)
 
-each_without : (S : Tree → List Point → Type 0) (B : Type 0) (low : Tree → Type 0) (P : ℕ → List Point) (from : ℕ) (ts : List Tree) → EachStands (λ t ps. S t ps × (B → low t)) P from ts → EachStands S P from ts
+pub each_without : (S : Tree → List Point → Type 0) (B : Type 0) (low : Tree → Type 0) (P : ℕ → List Point) (from : ℕ) (ts : List Tree) → EachStands (λ t ps. S t ps × (B → low t)) P from ts → EachStands S P from ts
 each_without S B low P from [] s = tt
 each_without S B low P from (t ∷ ts) s = (s.0.0, each_without S B low P (suc from) ts s.1)
 
-each_low : (S : Tree → List Point → Type 0) (B : Type 0) (low : Tree → Type 0) (P : ℕ → List Point) (from : ℕ) (ts : List Tree) → EachStands (λ t ps. S t ps × (B → low t)) P from ts → B → All low ts
+pub each_low : (S : Tree → List Point → Type 0) (B : Type 0) (low : Tree → Type 0) (P : ℕ → List Point) (from : ℕ) (ts : List Tree) → EachStands (λ t ps. S t ps × (B → low t)) P from ts → B → All low ts
 each_low S B low P from [] s b = All-nil low
 each_low S B low P from (t ∷ ts) s b = All-cons low t ts (s.0.1 b) (each_low S B low P (suc from) ts s.1 b)
 

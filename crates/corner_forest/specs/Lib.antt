@@ -3,4 +3,6 @@ pub mod Trees
 pub mod Stands
 pub mod Corners
 pub mod Enters
+pub mod Histories
+pub mod Laws
 pub mod Answers

@@ -8,10 +8,13 @@
 
 mod entry;
 mod forest;
+pub mod laws;
 mod meet;
 mod planes;
 mod points;
 mod stamp;
+#[cfg(test)]
+mod tests;
 
 pub use entry::enter;
 pub use forest::Forest;

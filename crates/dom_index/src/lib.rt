@@ -13,6 +13,8 @@ mod index;
 mod point_list;
 mod points;
 mod putting;
+#[cfg(test)]
+mod tests;
 
 pub use index::DomIndex;
 pub use point_list::PointList;
