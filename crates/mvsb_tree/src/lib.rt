@@ -10,10 +10,16 @@
 //! The calls work over any `Pages` and `Stage`, on any content: what they find broken they name.
 #![tactic(auto)]
 
+mod chain;
+mod change;
 mod directory;
 mod free;
 mod laws;
 mod place;
+mod replaced;
+mod store;
+#[cfg(test)]
+mod tests;
 mod value;
 
 pub use free::mv_free;
