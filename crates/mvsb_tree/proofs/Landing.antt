@@ -128,7 +128,7 @@ missing : (o : Option (List ℕ)) → o ≡ None → IsSome o → ⊥
 missing o none some = (let h : IsSome {T = List ℕ} None = subst IsSome none some in cc)
 
 -- A page that was there is no new one.
-not_new : (a : PageMap) (page p : ℕ) → a page ≡ None → IsSome (a p) → (page == p) ≡ false
+pub not_new : (a : PageMap) (page p : ℕ) → a page ≡ None → IsSome (a p) → (page == p) ≡ false
 not_new a page p none some = elim (cases_Bool (page == p)) [
   | inl same ↦ absurd (missing (a p) (subst (λ (q : ℕ). a q ≡ None) (eqb-true page p same) none) some)
   | inr other ↦ other

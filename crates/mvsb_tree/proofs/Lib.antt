@@ -1,4 +1,5 @@
 pub mod Adding
+pub mod Assembling
 pub mod Chains
 pub mod Costs
 pub mod Cutting
@@ -15,6 +16,7 @@ pub mod Raising
 pub mod Sound
 pub mod Splitting
 pub mod Standing
+pub mod Stepping
 pub mod Storing
 pub mod Values
 pub mod Ways

@@ -10,6 +10,7 @@
 //! The calls work over any `Pages` and `Stage`, on any content: what they find broken they name.
 #![tactic(auto)]
 
+mod below;
 mod chain;
 mod change;
 mod directory;
@@ -17,6 +18,7 @@ mod free;
 mod laws;
 mod place;
 mod replaced;
+mod step;
 mod store;
 #[cfg(test)]
 mod tests;
