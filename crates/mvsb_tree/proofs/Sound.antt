@@ -20,7 +20,7 @@ weaken : (a b : ℕ) (ls : List ℕ) → b ≤ a → All (λ l. a ≤ l) ls → 
 weaken a b ls le all = λ k d h. (let here : a ≤ get_or ls k d = all k d h in omega (arith, here, le))
 
 -- Each of the lows that ascend from one on is above it.
-ascend_above : (last : ℕ) (lows : List ℕ) → IsTrue (ascend_from (Some last) lows) → All (λ l. last ≤ l) lows
+pub ascend_above : (last : ℕ) (lows : List ℕ) → IsTrue (ascend_from (Some last) lows) → All (λ l. last ≤ l) lows
 ascend_above last [] up = All-nil (λ (l : ℕ). last ≤ l)
 ascend_above last (low ∷ lows) up =
     let parts = and_parts (nat_lt last low) (ascend_from (Some low) lows) up in

@@ -10,10 +10,18 @@
 //! The calls work over any `Pages` and `Stage`, on any content: what they find broken they name.
 #![tactic(auto)]
 
+mod below;
+mod chain;
+mod change;
 mod directory;
 mod free;
 mod laws;
 mod place;
+mod replaced;
+mod step;
+mod store;
+#[cfg(test)]
+mod tests;
 mod value;
 
 pub use free::mv_free;
