@@ -26,6 +26,7 @@ use warehouse::House;
 pub const INPUT_LIMIT: u64 = 1 << 40;
 
 // Gathers the reply of a step that the machine made.
+#[inline(always)]
 fn reply_to<H: House>(
     alloc: Global,
     desk: Desk<H>,
