@@ -17,7 +17,7 @@ use crate::desk::Desk;
 use crate::ending::{Ending, Ran};
 use crate::outbox::Outbox;
 use byte_ports::{Sink, Source};
-use csv_rows::Reply;
+use csv_rows::{Reply, RowReader};
 use line_reader::{Line, LineReader, lines_join, whole_joins, whole_part_of_passed};
 use std::alloc::Global;
 use warehouse::House;
@@ -26,6 +26,7 @@ use warehouse::House;
 pub const INPUT_LIMIT: u64 = 1 << 40;
 
 // Gathers the reply of a step that the machine made.
+#[inline(always)]
 fn reply_to<H: House>(
     alloc: Global,
     desk: Desk<H>,
@@ -47,6 +48,7 @@ fn reply_to<H: House>(
 fn serve_text<H: House>(
     alloc: Global,
     desk: Desk<H>,
+    rows: &mut RowReader,
     number: u64,
     line: &[u8],
     ahead: &[u8],
@@ -63,7 +65,7 @@ fn serve_text<H: House>(
     ensures faults { H.faults (H.device desk.house) ≤ H.faults (device_after ⟦<H as House>⟧ result) }
     ensures disk_fault { IfErr result (λ ran. ran.ending ≡ Ending.DiskFault → Rose (H.faults (H.device desk.house)) (H.faults ran.device)) }
 {
-    match desk.take_line(alloc, number, line, ahead) {
+    match desk.take_line(alloc, rows, number, line, ahead) {
         Ok(taken) => reply_to(alloc, taken.desk, taken.reply, outbox),
         Err(ran) => Err(ran),
     }
@@ -93,6 +95,7 @@ fn serve_long<H: House>(
 fn serve_line<H: House, S: Source>(
     alloc: Global,
     desk: Desk<H>,
+    rows: &mut RowReader,
     reader: &mut LineReader,
     number: u64,
     outbox: &mut Outbox,
@@ -142,7 +145,15 @@ fn serve_line<H: House, S: Source>(
         × PassesNoLineFeed (to_come reader.old (S.left source.old)) (S.left source.new))) }
 {
     match reader.next_line(source) {
-        Line::Text => serve_text(alloc, desk, number, reader.text(), reader.ahead(), outbox),
+        Line::Text => serve_text(
+            alloc,
+            desk,
+            rows,
+            number,
+            reader.text(),
+            reader.ahead(),
+            outbox,
+        ),
         Line::Long => serve_long(alloc, desk, number, outbox),
         Line::End => Err(desk.ended(Ending::Fine)),
         Line::Fault => Err(desk.ended(Ending::ReadFault)),
@@ -228,6 +239,8 @@ pub fn serve<H: House, S: Source, K: Sink>(
     whole_part_of_passed();
 
     let mut desk = desk;
+    // A house is moved from line to line; the readers have large buffers, and stay where they are.
+    let mut rows = RowReader::new(alloc);
     let mut reader = LineReader::new(INPUT_LIMIT);
     let mut outbox = Outbox::new(alloc);
     let mut number: u64 = 1;
@@ -235,7 +248,15 @@ pub fn serve<H: House, S: Source, K: Sink>(
         if !put_due(&mut outbox, reader.ahead(), sink) {
             return desk.ended(Ending::WriteFault);
         }
-        match serve_line(alloc, desk, &mut reader, number, &mut outbox, source) {
+        match serve_line(
+            alloc,
+            desk,
+            &mut rows,
+            &mut reader,
+            number,
+            &mut outbox,
+            source,
+        ) {
             Ok(next) => desk = next,
             Err(ran) => return close(ran, &mut outbox, sink),
         }
