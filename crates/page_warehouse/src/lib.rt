@@ -11,6 +11,8 @@ mod laws;
 mod opening;
 mod querying;
 mod state;
+#[cfg(test)]
+mod tests;
 
 pub use creating::{Created, create};
 pub use laws::{created_holds, holding_laws};
