@@ -23,10 +23,10 @@ use Rattle.object_table.proofs.Searching.{All-head, All-tail, or_none, last_life
 no_some : {y : Dated} → ◌≡◌ {A = Option Dated} None (Some y) → ⊥
 no_some e = cc
 
-table_asc : (form : Form) (m : PageMap) (table : Tree) (lives : List Dated) → TableStands form m table lives → AscendBy key lives
+pub table_asc : (form : Form) (m : PageMap) (table : Tree) (lives : List Dated) → TableStands form m table lives → AscendBy key lives
 table_asc form m table lives s = subst (AscendBy key) s.has (root_ascend form table.levels m table.root s.nodes)
 
-table_typed : (form : Form) (m : PageMap) (table : Tree) (lives : List Dated) → TableStands form m table lives → All (λ d. d.life < 2 ^ 32) lives
+pub table_typed : (form : Form) (m : PageMap) (table : Tree) (lives : List Dated) → TableStands form m table lives → All (λ d. d.life < 2 ^ 32) lives
 table_typed form m table lives s = subst (λ (ds : List Dated). All (λ (d : Dated). d.life < 2 ^ 32) ds) s.has (root_typed form table.levels m table.root s.nodes)
 
 at_most : (a b : Dated) → a.life < 2 ^ 32 → b.life < 2 ^ 32 → a.object.id ≡ b.object.id → key a ≤ key b → a.life ≤ b.life

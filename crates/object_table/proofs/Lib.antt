@@ -1,3 +1,4 @@
+pub mod AnyOrder
 pub mod Ascending
 pub mod BelowIndex
 pub mod Clearing

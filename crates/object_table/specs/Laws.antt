@@ -70,3 +70,17 @@ abbrev pub WithdrawnIsLast : Type 0
 WithdrawnIsLast = (form : Form) (pages : PageMap) (table : Tree) (lives : List Dated) (id version event : ℕ) (last : Dated) (other : ℕ) → TableStands form pages table lives
     → last_life id lives ≡ Some last
     → last_life other (with_withdrawal id version event lives) ≡ (if id == other then Some (withdrawn_at version event last) else last_life other lives)
+
+-- Of each id, the last life that the list tells is the greatest, as it is where lives are listed in the order of adding.
+abbrev pub LastsAreGreatest : List Dated → Type 0
+LastsAreGreatest others = (id : ℕ) (last : Dated) → last_life id others ≡ Some last → All (λ d. d.object.id ≡ id → d.life ≤ last.life) others
+
+-- The table tells the last life of each id of any list of its objects that ends with the greatest of each.
+abbrev pub LastInAnyOrder : Type 0
+LastInAnyOrder = (form : Form) (pages : PageMap) (table : Tree) (lives others : List Dated) (id : ℕ) → TableStands form pages table lives → IsPermutation others lives
+    → LastsAreGreatest others → last_life id others ≡ last_life id lives
+
+-- So a withdrawal in the table is the withdrawal in that list.
+abbrev pub WithdrawnInAnyOrder : Type 0
+WithdrawnInAnyOrder = (form : Form) (pages : PageMap) (table : Tree) (lives others : List Dated) (id version event : ℕ) → TableStands form pages table lives → IsPermutation others lives
+    → LastsAreGreatest others → IsPermutation (with_withdrawal id version event others) (with_withdrawal id version event lives)

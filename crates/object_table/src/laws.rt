@@ -1,5 +1,5 @@
 //! The laws of object tables.
-ghost use Rattle.object_table.specs.Laws.{EarlierLivesAreFirst, EmptyTableStands, EnteredIsLast, EnteredIsMore, LastIsGreatest, LivesAscend, NoLastNoLife, PagesAreThere, StandsByItsPages, StandsForOneList, TableIsLow, WithdrawnIsLast};
+ghost use Rattle.object_table.specs.Laws.{EarlierLivesAreFirst, EmptyTableStands, EnteredIsLast, EnteredIsMore, LastInAnyOrder, LastIsGreatest, LivesAscend, NoLastNoLife, PagesAreThere, StandsByItsPages, StandsForOneList, TableIsLow, WithdrawnInAnyOrder, WithdrawnIsLast};
 
 /// Proves what holds of every table that stands; it does nothing when it runs.
 pub fn table_laws()
@@ -20,4 +20,6 @@ pub fn last_life_laws()
     ensures entered { EnteredIsLast }
     ensures more { EnteredIsMore }
     ensures withdrawn { WithdrawnIsLast }
+    ensures in_any_order { LastInAnyOrder }
+    ensures withdrawn_in_any_order { WithdrawnInAnyOrder }
 {}
