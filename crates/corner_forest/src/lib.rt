@@ -12,6 +12,8 @@ pub mod laws;
 mod meet;
 mod planes;
 mod points;
+#[cfg(test)]
+mod random_tests;
 mod stamp;
 #[cfg(test)]
 mod tests;

@@ -129,7 +129,7 @@ fn signed_sum<X: DomIndex, P: Pages>(
     X::index_laws();
     let roots = forest.roots.as_slice();
     let dims = forest.params.dims;
-    let mut total = 0;
+    let mut total: u128 = 0;
     for subset in 0..corner_count(&forest.params) {
         let root = &roots[usize::from(first) + usize::from(subset)];
         let value = value_at::<X, P>(pages, &forest.params, root, query, version, subset)?;

@@ -62,7 +62,7 @@ pub fn integral<X: DomIndex, P: Pages>(
 {
     integral_by_planes();
     residues_are_signed();
-    let mut total = 0;
+    let mut total: u128 = 0;
     for subset in 0..corner_count(&forest.params) {
         let value = value_at::<X, P>(pages, forest, query, version, subset)?;
         total = res_add(total, sign(subset, value));

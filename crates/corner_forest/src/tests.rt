@@ -12,7 +12,7 @@ use std::alloc::Global;
 use std::test::Fail;
 
 // The params of so many dimensions, at most 3, and of this degree.
-fn params_of(dims: u8, degree: Option<u8>) -> Params
+pub fn params_of(dims: u8, degree: Option<u8>) -> Params
     ensures { IsInRange result }
 {
     Params {
@@ -48,7 +48,7 @@ fn is_sound(forest: &Forest) -> bool
     forest.roots.len() == root_count(params)
 }
 
-fn object_of(low: [u32; 3], high: [u32; 3], weight: i64) -> Object {
+pub fn object_of(low: [u32; 3], high: [u32; 3], weight: i64) -> Object {
     Object {
         id: 1,
         low,
@@ -60,13 +60,13 @@ fn object_of(low: [u32; 3], high: [u32; 3], weight: i64) -> Object {
 
 // A forest in memory. Events count from 0.
 #[derive(Drop)]
-struct Entered {
+pub struct Entered {
     stage: MemStage,
     forest: Forest,
     event: u32,
 }
 
-fn empty(alloc: Global, params: &Params) -> Entered
+pub fn empty(alloc: Global, params: &Params) -> Entered
     requires { IsInRange params.now }
 {
     Entered {
@@ -76,7 +76,7 @@ fn empty(alloc: Global, params: &Params) -> Entered
     }
 }
 
-fn put(entered: &mut Entered, object: &Object, minus: bool, version: u32) -> bool {
+pub fn put(entered: &mut Entered, object: &Object, minus: bool, version: u32) -> bool {
     let event = entered.event;
     if event >= 1000000 || version >= 1000000 {
         return false;
@@ -96,7 +96,7 @@ fn put(entered: &mut Entered, object: &Object, minus: bool, version: u32) -> boo
     .is_ok()
 }
 
-fn ask(entered: &mut Entered, query: &Query, version: u32) -> Option<i128> {
+pub fn ask(entered: &mut Entered, query: &Query, version: u32) -> Option<i128> {
     if !is_sound(&entered.forest) || !query_fits(query, &entered.forest.params) {
         return None;
     }
@@ -110,7 +110,7 @@ fn ask(entered: &mut Entered, query: &Query, version: u32) -> Option<i128> {
     answer.ok()
 }
 
-fn query_of(kind: Kind, low: [u32; 3], high: [u32; 3]) -> Query {
+pub fn query_of(kind: Kind, low: [u32; 3], high: [u32; 3]) -> Query {
     Query { kind, low, high }
 }
 
