@@ -5,4 +5,5 @@ pub mod Laws
 pub mod Stands
 pub mod Steps
 pub mod Stored
+pub mod Tops
 pub mod Ways

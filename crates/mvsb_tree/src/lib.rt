@@ -22,6 +22,7 @@ mod step;
 mod store;
 #[cfg(test)]
 mod tests;
+mod top;
 mod value;
 
 pub use free::mv_free;
