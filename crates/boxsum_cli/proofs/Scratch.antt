@@ -6,7 +6,8 @@ use Rattle.csv_rows.specs.Input.{given, provided}
 use Rattle.csv_rows.specs.Machine.{State, begun}
 use Rattle.command_words.specs.declared.command.Command.{Command}
 use Rattle.command_words.specs.declared.command.Command.TheVariants.{Scratch}
-use Rattle.command_words.specs.Command.{command_of, built_command, is_built}
+use Rattle.command_words.specs.Command.{command_of}
+use Rattle.boxsum_cli.specs.Built.{built_command, is_built}
 use Rattle.warehouse.specs.declared.house.House.{Ghosts}
 use Rattle.row_machine.specs.declared.ending.Ran.{Ran}
 use Rattle.row_machine.specs.Serving.{Ends, IsFlushed, IsInputEnding}

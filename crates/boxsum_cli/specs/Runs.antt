@@ -1,7 +1,7 @@
 -- What a run of the program has read and written when it ends.
 use Rattle.std.specs.Prelude.{◌≡◌, ℕ, List, [], ◌++◌}
 use Rattle.bw_types.specs.declared.params.Params.{Params}
-use Rattle.csv_rows.specs.Lines.{whole_part}
+use Rattle.line_reader.specs.Lines.{whole_part}
 use Rattle.csv_rows.specs.Machine.{text}
 
 -- Of the input all was taken but what is left, and what was written is the text of the bytes up to the last line feed

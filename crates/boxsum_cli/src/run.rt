@@ -4,7 +4,7 @@ ghost use Rattle.counts.specs.Count.{Rose};
 ghost use Rattle.csv_rows.specs.Machine.{text};
 ghost use Rattle.bw_types.specs.declared.params.Params.{Params};
 ghost use Rattle.bw_types.specs.Fits.{IsInRange};
-ghost use Rattle.command_words.specs.Command.{built_command};
+ghost use Rattle.boxsum_cli.specs.Built.{built_command};
 ghost use Rattle.row_machine.specs.Runs.{WritesPart};
 ghost use Rattle.boxsum_cli.specs.Runs.{WritesWholeLines};
 
@@ -54,8 +54,8 @@ pub fn run<S: Source, K: Sink>(
     ensures read_fault { result ≡ Status.ReadFault → Rose (S.faults source.old) (S.faults source.new) }
     ensures write_fault { result ≡ Status.WriteFault → Rose (K.faults sink.old) (K.faults sink.new) }
     ensures disk_fault { result ≢ Status.DiskFault }
-    ensures damaged { (page : ℕ) → IsTrue (S.tells source.old) → result ≢ Status.Damaged page }
-    ensures page_limit { (allotted : ℕ) → IsTrue (S.tells source.old) → result ≢ Status.PageLimit allotted }
+    ensures damaged { (page : ℕ) → result ≢ Status.Damaged page }
+    ensures page_limit { (allotted : ℕ) → result ≢ Status.PageLimit allotted }
     ensures input_limit { (taken : ℕ) → result ≡ Status.InputLimit taken → (taken ≡ 2 ^ 40)
         × (IsTrue (S.tells source.old) → length (S.left source.old) ≡ 2 ^ 40 + length (S.left source.new)) }
 
@@ -95,7 +95,7 @@ fn scratch<S: Source, K: Sink>(
     ensures disk_fault { result ≢ Status.DiskFault }
     ensures input_limit { (taken : ℕ) → result ≡ Status.InputLimit taken → (taken ≡ 2 ^ 40)
         × (IsTrue (S.tells source.old) → length (S.left source.old) ≡ 2 ^ 40 + length (S.left source.new)) }
-    ensures sound { IsTrue (S.tells source.old) → ((page : ℕ) → result ≢ Status.Damaged page) × ((allotted : ℕ) → result ≢ Status.PageLimit allotted) }
+    ensures sound { ((page : ℕ) → result ≢ Status.Damaged page) × ((allotted : ℕ) → result ≢ Status.PageLimit allotted) }
 {
     ends_laws::<ListHouse>();
     machine_laws();

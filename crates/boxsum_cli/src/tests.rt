@@ -16,7 +16,7 @@ struct Case {
     text: &'static str,
 }
 
-const CASES: [Case; 26] = [
+const CASES: [Case; 27] = [
     Case {
         shows: "touching boxes",
         words: "scratch 1",
@@ -130,6 +130,12 @@ const CASES: [Case; 26] = [
         words: "scratch 1",
         input: "add,1,7,0,1,1\nadd,1,7,0,1,1\ncommit,1\nsum,now,0,9\n",
         text: "refused,2,used\nsum,0,0\n",
+    },
+    Case {
+        shows: "a drop of nothing, a version that is not there yet, and a box beside",
+        words: "scratch 1",
+        input: "add,1,1,2,5,10\ndrop,1\ncommit,1\nsum,2,5,5\nsum,1,6,9\n",
+        text: "dropped,1\nversion,1\nnoversion,4\nsum,1,0\n",
     },
     Case {
         shows: "signed coordinates",
@@ -267,19 +273,34 @@ fn a_session_is_full(rt: HostRuntime) -> Result<(), Fail> {
     Ok(())
 }
 
+// An input that begins with a line of this many bytes.
+fn after_a_line(alloc: Global, byte: u8, len: usize, rows: &[u8]) -> Result<Vec<u8>, Fail> {
+    let mut input = vec![in alloc; byte; len]?;
+    input.extend_from_slice(rows)?;
+    Ok(input)
+}
+
 #[test]
-fn a_long_line_is_bad(rt: HostRuntime) -> Result<(), Fail> {
-    let mut input = String::new(rt.alloc());
-    for _ in 0..500 {
-        input.push_str("1234567890")?;
+fn long_lines_are_bad(rt: HostRuntime) -> Result<(), Fail> {
+    // A byte, how often it stands, the rows after that line, and the text.
+    let cases: [(u8, usize, &[u8], &[u8]); 3] = [
+        (
+            b'7',
+            5000,
+            b"\nadd,2,1,0,1,1\ndrop,2\ncommit,2\ndrop,2\n",
+            b"bad,1\ndropped,2\nversion,1\ndropped,2\n",
+        ),
+        (b'a', 4097, b"\ncommit,1\n", b"bad,1\nversion,1\n"),
+        (b'a', 4096, b"\r\ncommit,1\r\n", b"bad,1\nversion,1\n"),
+    ];
+    for (byte, len, rows, text) in cases {
+        let input = after_a_line(rt.alloc(), byte, len, rows)?;
+        for piece in [1, 1000, 16384] {
+            let (status, sink) = run_on(rt.alloc(), "scratch 1", &input, piece, None, None)?;
+            assert_eq!(rt; status, Status::Fine, "{len} bytes in pieces of {piece}");
+            assert_eq!(rt; sink.bytes(), text, "{len} bytes in pieces of {piece}");
+        }
     }
-    input.push_str("\nadd,2,1,0,1,1\ndrop,2\ncommit,2\ndrop,2\n")?;
-    let (status, sink) = run_on(rt.alloc(), "scratch 1", input.as_bytes(), 1000, None, None)?;
-    assert_eq!(rt; status, Status::Fine);
-    assert_eq!(rt;
-        sink.bytes(),
-        b"bad,1\ndropped,2\nversion,1\ndropped,2\n".as_slice()
-    );
     Ok(())
 }
 

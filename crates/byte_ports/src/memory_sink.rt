@@ -86,10 +86,10 @@ impl Sink for MemSink {
         ensures calls { self.new.calls ≡ raised self.old.calls }
         ensures failing { self.new.failing ≡ self.old.failing }
     {
-        self.calls = self.calls.saturating_add(1);
+        self.calls = counts::raised(self.calls);
         let fails = self.failing.as_slice().contains(&self.calls);
         if fails || self.bytes.extend_from_slice(piece).is_err() {
-            self.faults = self.faults.saturating_add(1);
+            self.faults = counts::raised(self.faults);
             return Err(Failed);
         }
         Ok(())

@@ -94,9 +94,9 @@ impl Source for MemSource {
         ensures most { self.new.most ≡ self.old.most }
         ensures failing { self.new.failing ≡ self.old.failing }
     {
-        self.calls = self.calls.saturating_add(1);
+        self.calls = counts::raised(self.calls);
         if self.failing.as_slice().contains(&self.calls) {
-            self.faults = self.faults.saturating_add(1);
+            self.faults = counts::raised(self.faults);
             return Err(Failed);
         }
         let rest = &self.bytes.as_slice()[self.at..];

@@ -3,6 +3,7 @@ ghost use Rattle.std.specs.Prelude.{◌≡◌, ◌≤◌, [], is_some, unwrap_or
 ghost use Rattle.std.specs.Io.KnownBytes.{Appends};
 
 use crate::ports::{Failed, Sink};
+use counts::raised;
 use std::io::{ErrorKind, Write};
 
 /// Writes to a writer. It tells the bytes that were written where the writer's contract knows them.
@@ -44,7 +45,7 @@ impl<W: Write> Sink for StdSink<W> {
         if written == piece.len() && self.inner.flush().is_ok() {
             return Ok(());
         }
-        self.faults = self.faults.saturating_add(1);
+        self.faults = raised(self.faults);
         Err(Failed)
     }
 }

@@ -3,6 +3,7 @@ ghost use Rattle.std.specs.Prelude.{◌≡◌, ◌<◌, ◌≤◌, [], is_some, 
 ghost use Rattle.std.specs.Io.KnownBytes.{Consumes, IsAtEnd, Keeps};
 
 use crate::ports::{Failed, Source};
+use counts::raised;
 use std::io::{ErrorKind, Read};
 
 /// Takes from a reader. It tells the bytes that are left where the reader's contract knows them.
@@ -41,7 +42,7 @@ impl<R: Read> Source for StdSource<R> {
         match read_retrying(&mut self.inner, buf) {
             Some(count) => Ok(count),
             None => {
-                self.faults = self.faults.saturating_add(1);
+                self.faults = raised(self.faults);
                 Err(Failed)
             }
         }

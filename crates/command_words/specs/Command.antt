@@ -1,5 +1,5 @@
 -- The grammar of the command line.
-use Rattle.std.specs.Prelude.{ℕ, Bool, true, false, ◌==◌, nat_le, if◌then◌else◌, List, [], ◌∷◌, Option, Some, None, option_map, codes}
+use Rattle.std.specs.Prelude.{ℕ, ◌==◌, nat_le, if◌then◌else◌, List, [], ◌∷◌, Option, Some, None, option_map, codes}
 use Rattle.std.specs.Option.{option_map_or}
 use Rattle.std.specs.Str.{bytes_eq}
 use Rattle.bw_types.specs.declared.params.Params.{Params}
@@ -107,12 +107,3 @@ command_named name words =
 abbrev pub command_of : List (List ℕ) → Option Command
 command_of [] = None
 command_of (name ∷ words) = command_named name words
-
--- the command is built already
-abbrev pub is_built : Command → Bool
-is_built (Scratch params) = true
-is_built _ = false
-
--- the command that the words ask for, where it is built already
-abbrev pub built_command : List (List ℕ) → Option Command
-built_command words = given (command_of words) (λ command. provided (is_built command) command)

@@ -4,9 +4,3 @@ mod QuotedParts
 mod CsvReads
 mod FeedLemmas
 mod GivenValues
-pub mod BufferLemmas
-pub mod CalmLemmas
-pub mod LinesLemmas
-pub mod ReaderLemmas
-pub mod SearchLemmas
-pub mod SkipLemmas

@@ -4,10 +4,6 @@ pub mod Numbers
 pub mod Words
 pub mod Replies
 pub mod Input
-pub mod Lines
 pub mod Machine
 pub mod Worked
 pub mod WorkedLines
-pub mod Intake
-pub mod Reader
-pub mod Skip

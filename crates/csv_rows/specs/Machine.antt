@@ -8,7 +8,7 @@ use Rattle.bw_types.specs.declared.params.Params.{Params}
 use Rattle.bw_types.specs.declared.row.Row.{Row}
 use Rattle.bw_types.specs.declared.query.Query.{Query}
 use Rattle.bw_types.specs.declared.refusal.Refusal.{Refusal}
-use Rattle.csv_rows.specs.Lines.{lines}
+use Rattle.line_reader.specs.Lines.{lines}
 use Rattle.csv_rows.specs.Input.{input}
 use Rattle.csv_rows.specs.Replies.{reply_text}
 use Rattle.csv_rows.specs.declared.input.Input.{Input}

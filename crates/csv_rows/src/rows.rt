@@ -8,10 +8,10 @@ ghost use Rattle.bw_types.specs.declared.row.Row.TheVariants as row;
 
 use crate::fields::{Fields, NoMemory, cut};
 use crate::input::Input;
-use crate::lines::LONGEST_LINE;
 use crate::parts::{coefficients_at, ends_at, id, session, version, weight};
 use crate::row_reader::RowReader;
 use bw_types::{Kind, Object, Params, Query, Row, coefficient_count, object_fits, query_fits};
+use line_reader::LONGEST_LINE;
 use std::alloc::Global;
 
 // The object of an add or a move.
@@ -165,7 +165,7 @@ impl RowReader {
         requires { IsInRange params.now }
         ensures read { IfOk result (λ read. read ≡ input params.now line.now) }
         // A line that is too long takes no memory.
-        ensures long { LONGEST_LINE < length line.now → result ≡ Ok None }
+        ensures long { 4096 < length line.now → result ≡ Ok None }
         ensures fits { IfOk result (λ read. IfSome read (InputFits params.now)) }
     {
         if line.len() > LONGEST_LINE {

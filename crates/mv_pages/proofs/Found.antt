@@ -94,7 +94,7 @@ pub past_end : (before : List MvEntry) (e : MvEntry) (after : List MvEntry) → 
 past_end [] e after = omega arith
 past_end (b ∷ before) e after = omega (arith, past_end before e after)
 
-take_more : (es : List MvEntry) (i : ℕ) (d : MvEntry) → i < length es → take (i + 1) es ≡ take i es ++ (get_or es i d ∷ [])
+pub take_more : (es : List MvEntry) (i : ℕ) (d : MvEntry) → i < length es → take (i + 1) es ≡ take i es ++ (get_or es i d ∷ [])
 take_more [] i d h = absurd (omega (arith, h))
 take_more (e ∷ es) zero d h = refl
 take_more (e ∷ es) (suc i) d h =

@@ -1,5 +1,6 @@
 pub mod Adding
 pub mod Additions
+pub mod Beyond
 pub mod Changes
 pub mod Children
 pub mod Copying

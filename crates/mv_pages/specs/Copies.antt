@@ -1,7 +1,8 @@
 -- What the copies of a node say, which take its part from a version on.
-use Rattle.std.specs.Prelude.{◌≡◌, ℕ, ◌+◌, ◌/◌, ◌%◌, ◌^◌, ◌<◌, ◌≤◌, List, [], ◌∷◌, ◌++◌, length, map, take, drop, sum_by}
+use Rattle.std.specs.Prelude.{◌≡◌, ℕ, ◌+◌, ◌/◌, ◌%◌, ◌^◌, ◌<◌, ◌≤◌, List, ◌∷◌, ◌++◌, length, map, take, drop, sum_by}
 use Rattle.std.specs.List.{All}
-use Rattle.page_layout.specs.MvNode.{IsMvEntryTyped}
+use Rattle.page_layout.specs.MvNode.{IsMvEntryTyped, raised_entry}
+use Rattle.page_layout.specs.Summed.{raised_first}
 use Rattle.page_layout.specs.declared.mv_node.MvNode.{MvNode}
 use Rattle.page_layout.specs.declared.mv_node.MvEntry.{MvEntry}
 use Rattle.mv_pages.specs.declared.copy.Copied.{Copied}
@@ -24,12 +25,11 @@ total entries = sum_by (λ e. e.value) entries
 
 -- the entry with so much more, modulo 2^128
 abbrev pub with_more : ℕ → MvEntry → MvEntry
-with_more more e = record { low = e.low; start = e.start; end = e.end; value = (e.value + more) % 2 ^ 128; child = e.child }
+with_more more e = raised_entry e more
 
 -- the entries with so much more in the first, where there is one
 abbrev pub first_raised : ℕ → List MvEntry → List MvEntry
-first_raised more [] = []
-first_raised more (e ∷ entries) = with_more more e ∷ entries
+first_raised more entries = raised_first raised_entry entries more
 
 -- the first half of the entries, rounded down
 abbrev pub first_half : List MvEntry → List MvEntry

@@ -1,14 +1,14 @@
 //! How a node that is full is closed.
-ghost use Rattle.std.specs.Prelude.{◌≡◌, ◌%◌, ◌^◌, ◌≤◌, ◌<◌, ◌/◌, length};
+ghost use Rattle.std.specs.Prelude.{◌≡◌, ◌≤◌, ◌<◌, length};
 ghost use Rattle.std.specs.List.{All};
 ghost use Rattle.page_layout.specs.MvNode.{IsMvEntryTyped};
 ghost use Rattle.mv_pages.specs.Alive.{AreEntriesOf, IsChangeable};
-ghost use Rattle.mv_pages.specs.Copies.{AreTyped, IsCopied, copies, first_half, first_raised, second_half, total, with_entries};
+ghost use Rattle.mv_pages.specs.Copies.{AreTyped, IsCopied, copies, first_half, second_half, with_entries};
 
 use crate::edit::{Entries, new_entry};
 use crate::find::is_alive;
 use arrayvec::ArrayVec;
-use page_layout::{MvEntry, MvNode};
+use page_layout::{MvEntry, MvNode, split_off};
 
 // How many entries go to one node alone.
 const MOST_IN_ONE: usize = 48;
@@ -35,7 +35,7 @@ pub fn close_and_copy(node: &MvNode, version: u32) -> Copied
     if copies.len() <= MOST_IN_ONE {
         return Copied::One(with_entries(node, copies));
     }
-    let second = split_off(&mut copies);
+    let second = halve(&mut copies);
     let cut = second.as_slice()[0].low;
     Copied::Two(with_entries(node, copies), cut, with_entries(node, second))
 }
@@ -66,41 +66,13 @@ fn with_entries(node: &MvNode, entries: Entries) -> MvNode
     }
 }
 
-// The total of the values of the entries, modulo `2^128`.
-fn total_of(entries: &[MvEntry]) -> u128
-    ensures { result ≡ total entries.now % 2 ^ 128 }
-{
-    let mut total: u128 = 0;
-    for e in entries {
-        total = total.wrapping_add(e.value);
-    }
-    total
-}
-
-// Adds to the value of the first entry, where there is one.
-fn raise_first(entries: &mut Entries, more: u128)
-    ensures { entries.new.items ≡ first_raised more entries.old.items }
-{
-    if let Some(entry) = entries.get_mut(0) {
-        entry.value = entry.value.wrapping_add(more);
-    }
-}
-
 // Takes the second half out of the entries, with the values of the first half on top of its first one.
-fn split_off(entries: &mut Entries) -> Entries
+fn halve(entries: &mut Entries) -> Entries
     requires { (48 < length entries.old.items) × (length entries.old.items ≤ 100) }
     ensures first { entries.new.items ≡ first_half entries.old.items }
     ensures second { result.items ≡ second_half entries.old.items }
     ensures some { 0 < length result.items }
 {
-    let all = entries.as_slice();
-    let half = all.len() / 2;
-    let total = total_of(&all[..half]);
-    let mut second = ArrayVec::new();
-    for entry in &all[half..] {
-        second.push(*entry);
-    }
-    raise_first(&mut second, total);
-    entries.truncate(half);
-    second
+    let half = entries.len() / 2;
+    split_off(entries, half)
 }

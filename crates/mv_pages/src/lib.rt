@@ -27,4 +27,4 @@ pub use copy::{Copied, close_and_copy};
 pub use laws::{later_laws, low_laws, path_laws};
 pub use path::{Reached, reached_at};
 pub use value::{child_at, value_at};
-pub use view::{child_on, value_on};
+pub use view::{child_on, reached_on, value_on};

@@ -5,7 +5,7 @@ ghost use Rattle.mv_pages.specs.Edits.{new_entry};
 
 use super::*;
 use arrayvec::ArrayVec;
-use page_layout::{MvEntry, MvNode};
+use page_layout::{MvEntry, MvNode, Spelled, View};
 use std::process::Abort;
 use std::test::Fail;
 
@@ -82,6 +82,21 @@ fn index_node() -> MvNode
     }
 }
 
+// What a node says is the same where its page is read.
+fn is_same_on_its_page(node: &MvNode, key: u64, version: u32) -> bool {
+    if !node.keeps_rules() {
+        return false;
+    }
+    let mut page = [0; 4096];
+    node.write(&mut page);
+    let Some(view) = View::<MvNode>::on(&page) else {
+        return false;
+    };
+    reached_on(&view, key, version) == reached_at(node, key, version)
+        && child_on(&view, key, version) == child_at(node, key, version)
+        && value_on(&view, key, version) == value_at(node, key, version)
+}
+
 #[test]
 fn an_addition_beside(rt: HostRuntime) -> Result<(), Fail> {
     let mut node = index_node();
@@ -98,6 +113,7 @@ fn an_addition_beside(rt: HostRuntime) -> Result<(), Fail> {
     };
     assert!(rt; reached_at(&node, 5, 1) == Some(reached));
     assert!(rt; reached_at(&node, 5, 2) == Some(reached));
+    assert!(rt; is_same_on_its_page(&node, 5, 1) && is_same_on_its_page(&node, 9, 2));
     Ok(())
 }
 

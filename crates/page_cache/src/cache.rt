@@ -91,7 +91,7 @@ impl Cache {
     }
 
     /// Proves that no more pages are kept than the capacity says; it does nothing when it runs.
-    fn is_few(&self)
+    pub fn is_few(&self)
         ensures { KeepsAtMost (kept_pages self.now) (capacity self.now) }
     {
         let _len = self.pages.len();

@@ -7,6 +7,7 @@ ghost use Rattle.page_disk.specs.Image.{Image};
 
 use crate::area_file::AreaFile;
 use crate::{Area, Disk, Failed};
+use counts::raised;
 use page_ports::Page;
 use std::fs::{OpenFile, OpenOptions};
 use std::rt::Files;
@@ -83,7 +84,7 @@ impl<R: Files> FileDisk<R> {
         ensures faults { CountsFault result self.old.faults self.new.faults }
     {
         if answer.is_err() {
-            self.faults = self.faults.saturating_add(1);
+            self.faults = raised(self.faults);
         }
         answer
     }

@@ -12,6 +12,7 @@ ghost use Rattle.page_disk.specs.Moment.{MayBeLeftNow, area_counted, counted_in,
 use crate::half::Half;
 use crate::plan::Plan;
 use crate::{Area, Disk, Failed, Torn};
+use counts::raised;
 use page_ports::Page;
 use std::alloc::Global;
 
@@ -180,7 +181,7 @@ impl MemDisk {
         ensures faults { Rose self.old.faults self.new.faults }
         ensures never_falls { self.old.faults ≤ self.new.faults }
     {
-        self.faults = self.faults.saturating_add(1);
+        self.faults = raised(self.faults);
         Failed
     }
 
@@ -194,7 +195,7 @@ impl MemDisk {
         ensures reads { self.new.reads ≡ self.old.reads }
         ensures faults { CountsFault result self.old.faults self.new.faults }
     {
-        self.calls = self.calls.saturating_add(1);
+        self.calls = raised(self.calls);
         if self.plan.fails(self.calls) {
             return Err(self.failed());
         }
@@ -274,7 +275,7 @@ impl Disk for MemDisk {
         ensures fails { FailsWhere (next_fails self.old || read_count self.old == 2 ^ 64 - 1) self.old self.new result }
     {
         let worn_out = self.reads == u64::MAX;
-        self.reads = self.reads.saturating_add(1);
+        self.reads = raised(self.reads);
         self.begin()?;
         if worn_out {
             return Err(self.failed());

@@ -4,6 +4,7 @@ ghost use Rattle.counts.specs.Count.{Rose};
 ghost use Rattle.page_disk.specs.Image.{Image, area_of, written_at};
 
 use crate::{Area, Disk, Failed};
+use counts::raised;
 use page_ports::Page;
 use std::alloc::Global;
 
@@ -75,7 +76,7 @@ impl PlainDisk {
         ensures faults { Rose self.old.faults self.new.faults }
         ensures never_falls { self.old.faults ≤ self.new.faults }
     {
-        self.faults = self.faults.saturating_add(1);
+        self.faults = raised(self.faults);
         Failed
     }
 }

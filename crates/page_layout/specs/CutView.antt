@@ -1,20 +1,14 @@
 -- Pages of cuts, read in place.
-use Rattle.std.specs.Prelude.{◌≡◌, ℕ, zero, suc, ◌+◌, ◌-◌, ◌*◌, ◌<◌, List, length, drop, get_or, refl}
+use Rattle.std.specs.Prelude.{◌≡◌, ℕ, ◌+◌, ◌-◌, ◌*◌, ◌<◌, List, length, drop, get_or}
 use Rattle.std.proofs.Common.{sym, ap, ◌∙◌, subst, arith}
 use Rattle.std.proofs.lemmas.List.{drop-drop}
 use Rattle.bw_types.specs.declared.ba_entry.BaEntry.{BaEntry}
-use Rattle.page_layout.specs.Entries.{entries_at}
-use Rattle.page_layout.specs.Respelled.{entry_at-place}
+use Rattle.page_layout.specs.Respelled.{entry_at-place, length-read}
 use Rattle.page_layout.specs.CutNode.{cut_node_at}
 use Rattle.page_layout.specs.BaEntry.{ba_entry_at}
 use Rattle.page_layout.specs.CutPage.{cut_page_in, count_in}
 use Rattle.page_layout.specs.declared.cut_node.CutNode.{CutNode}
 use Rattle.page_layout.specs.declared.cut_page.CutPage.{CutPage}
-
-length-read : {X : Type 0} (f : List ℕ → X) (size n : ℕ) (bytes : List ℕ) → length (entries_at f size n bytes) ≡ n
-unfolding entries_at
-length-read f size zero bytes = refl
-length-read f size (suc n) bytes = ap suc (length-read f size n (drop size bytes))
 
 pub length-cut_entries : (page : List ℕ) → length (cut_page_in page).entries.items ≡ count_in page
 length-cut_entries page = length-read ba_entry_at 120 (count_in page) (drop ((2 * count_in page - 1) * 16) (drop 16 page))

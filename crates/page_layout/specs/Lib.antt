@@ -4,8 +4,12 @@ pub mod Three
 pub mod Entries
 pub mod Counted
 pub mod Respelled
+pub mod Respelling
+pub mod Exact
+pub mod TestedRow
 pub mod Children
 pub mod Head
+pub mod HeadView
 pub mod FreePage
 pub mod SbNode
 pub mod SbView
@@ -16,6 +20,7 @@ pub mod Spelled
 pub mod Damage
 pub mod DamageLaws
 pub mod Footprint
+pub mod FootprintLaws
 pub mod PointLeaf
 pub mod PointView
 pub mod TreePage
@@ -27,10 +32,13 @@ pub mod Regions
 pub mod BaEntry
 pub mod CutPage
 pub mod CutView
+pub mod CutExact
 pub mod Signed
 pub mod Dated
 pub mod LifeNode
+pub mod LifeView
 pub mod TableNode
+pub mod TableView
 pub mod HeadLaws
 pub mod FreePageLaws
 pub mod SbNodeLaws

@@ -1,5 +1,5 @@
 -- Nodes of object tables by id and life.
-use Rattle.std.specs.Prelude.{◌≡◌, ℕ, ◌<◌, ◌≤◌, ◌^◌, ◌++◌, ◌==◌, if◌then◌else◌, List, length, drop, slice_index, IsTrue}
+use Rattle.std.specs.Prelude.{◌≡◌, ℕ, ◌<◌, ◌≤◌, ◌^◌, ◌++◌, ◌==◌, if◌then◌else◌, List, [], length, drop, slice_index, IsTrue}
 use Rattle.std.specs.List.{All}
 use Rattle.std.proofs.Common.{append_assoc, length-append}
 use Rattle.bw_types.specs.declared.dated.Dated.{Dated}
@@ -79,6 +79,16 @@ life_index_in page = Index (slice_index page 1) (record { items = entries_of lif
 -- the node that a page may spell: a leaf at level 1, and else an index node
 abbrev pub life_node_in : List ℕ → LifeNode
 life_node_in page = if slice_index page 1 == 1 then life_leaf_in page else life_index_in page
+
+-- the objects of a leaf; an index node has none
+abbrev pub leaf_objects : LifeNode → List Dated
+leaf_objects (Leaf objects) = objects.items
+leaf_objects (Index level entries) = []
+
+-- the entries of an index node; a leaf has none
+abbrev pub index_entries : LifeNode → List LifeEntry
+index_entries (Leaf objects) = []
+index_entries (Index level entries) = entries.items
 
 -- the level; a leaf has level 1
 abbrev pub life_level : LifeNode → ℕ

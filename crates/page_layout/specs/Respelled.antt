@@ -76,7 +76,7 @@ respelled_at k n bytes h room =
     ap (λ (b : List ℕ). spelled n (number_in n (drop k bytes)) ++ b) (sym (drop-drop n k bytes))
     ∙ respelled n (drop k bytes) (bytes-drop k bytes h) (omega (arith, len))
 
-two_more : (a b : ℕ) (page : List ℕ) → slice_index page 0 ≡ a → slice_index page 1 ≡ b → 2 ≤ length page → a ∷ b ∷ drop 2 page ≡ page
+pub two_more : (a b : ℕ) (page : List ℕ) → slice_index page 0 ≡ a → slice_index page 1 ≡ b → 2 ≤ length page → a ∷ b ∷ drop 2 page ≡ page
 two_more a b [] is_a is_b h = absurd (omega arith)
 two_more a b (x ∷ []) is_a is_b h = absurd (omega arith)
 two_more a b (x ∷ y ∷ zs) is_a is_b h = ap (λ (n : ℕ). n ∷ b ∷ zs) (sym is_a) ∙ ap (λ (n : ℕ). x ∷ n ∷ zs) (sym is_b)
@@ -178,6 +178,18 @@ entry_at-place f size (suc n) bytes (suc i) d h =
     let product : suc i * size ≡ i * size + size = suc-mul i size in
     let place : size + i * size ≡ suc i * size = omega (arith, product) in
     entry_at-place f size n (drop size bytes) i d (omega arith) ∙ ap f (drop-drop (i * size) size bytes ∙ ap (λ (k : ℕ). drop k bytes) place)
+
+-- as many are read as were asked for
+pub length-read : {X : Type 0} (f : List ℕ → X) (size n : ℕ) (bytes : List ℕ) → length (entries_at f size n bytes) ≡ n
+unfolding entries_at
+length-read f size zero bytes = refl
+length-read f size (suc n) bytes = ap suc (length-read f size n (drop size bytes))
+
+-- what is read at the place of an entry is that entry
+pub row_place : {X : Type 0} (f : List ℕ → X) (size n : ℕ) (bytes : List ℕ) (xs : List X) → xs ≡ entries_at f size n bytes → (i : ℕ) → i < length xs
+    → (x : X) → x ≡ f (drop (i * size) bytes) → (d : X) → x ≡ get_or xs i d
+row_place {X = X} f size n bytes xs is_row i lt x is_x d =
+    is_x ∙ sym (entry_at-place f size n bytes i d (omega (arith, lt, ap length is_row, length-read f size n bytes))) ∙ ap (λ (ys : List X). get_or ys i d) (sym is_row)
 
 module _ {X : Type 0} (P : X → Type 0) where
   more : (x : X) (xs : List X) → P x → All P xs → (k : ℕ) (d : X) → k < length (x ∷ xs) → P (get_or (x ∷ xs) k d)

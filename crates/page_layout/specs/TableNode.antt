@@ -1,5 +1,5 @@
 -- Nodes of object tables by id alone.
-use Rattle.std.specs.Prelude.{◌≡◌, ℕ, ◌<◌, ◌≤◌, ◌^◌, ◌++◌, ◌==◌, if◌then◌else◌, List, length, drop, slice_index, IsTrue}
+use Rattle.std.specs.Prelude.{◌≡◌, ℕ, ◌<◌, ◌≤◌, ◌^◌, ◌++◌, ◌==◌, if◌then◌else◌, List, [], length, drop, slice_index, IsTrue}
 use Rattle.std.specs.List.{All}
 use Rattle.std.proofs.Common.{append_assoc, length-append}
 use Rattle.bw_types.specs.declared.dated.Dated.{Dated}
@@ -76,6 +76,16 @@ table_index_in page = Index (slice_index page 1) (record { items = entries_of ta
 -- the node that a page may spell: a leaf at level 1, and else an index node
 abbrev pub table_node_in : List ℕ → TableNode
 table_node_in page = if slice_index page 1 == 1 then table_leaf_in page else table_index_in page
+
+-- the objects of a leaf; an index node has none
+abbrev pub leaf_objects : TableNode → List Dated
+leaf_objects (Leaf objects) = objects.items
+leaf_objects (Index level entries) = []
+
+-- the entries of an index node; a leaf has none
+abbrev pub index_entries : TableNode → List TableEntry
+index_entries (Leaf objects) = []
+index_entries (Index level entries) = entries.items
 
 -- the level; a leaf has level 1
 abbrev pub table_level : TableNode → ℕ

@@ -13,7 +13,7 @@ use crate::tree_value::{plain_tree_fits, tree_fits};
 use bw_types::{BaEntry, Outside, Tree};
 
 // Stands where trees have the number of levels of the first one, which is at most 16.
-const POCKET: u8 = 255;
+pub(crate) const POCKET: u8 = 255;
 
 const MOST_IN_POCKET: u32 = 60;
 

@@ -4,9 +4,10 @@ ghost use Rattle.std.specs.List.{All};
 ghost use Rattle.arrayvec.specs.ArrayVec.{array_vec_len};
 ghost use Rattle.page_layout.specs.Numbers.{number_in};
 ghost use Rattle.page_layout.specs.Respelled.{Respells};
+ghost use Rattle.page_layout.specs.TestedRow.{SpellsRow};
 ghost use Rattle.page_layout.specs.Counted.{front, counted_page, body_of, word_of, double_of, entries_of};
 
-use crate::entry::{Entry, Own, get_all, put_all};
+use crate::entry::{Entry, Own, get_all, put_all, stand_in_order};
 use crate::front::{Front, finish, put_u8, put_u16, put_u32, put_u64};
 use crate::number::{after, bytes_of, number_u16, number_u32, number_u64};
 use crate::same::are_zeros;
@@ -117,6 +118,34 @@ pub(crate) fn is_counted<F, T: Entry<F>>(
         return false;
     }
     are_zeros(after(page, 16 + count * T::SIZE))
+}
+
+/// Whether the page spells some entries and at most so many at a level within these bounds, and nothing
+/// else: each keeps its rule, and they are in order.
+pub(crate) fn spells_row<F, T: Entry<F>>(
+    page: &Page,
+    kind: u8,
+    low: u8,
+    high: u8,
+    most: usize,
+) -> bool
+    requires respells { Respells T.spelling T.value_at T.SIZE }
+    requires count { most < 2 ^ 16 }
+    requires room { 16 + most * T.SIZE ≤ 4096 }
+    ensures { IsTrue result ↔ SpellsRow T.spelling T.value_at T.SIZE T.keeps T.precedes kind low high most page.now }
+{
+    let level = page[1];
+    let count = usize::from(read_count(page)).min(most);
+    if level < low || level > high {
+        return false;
+    }
+    if count < 1 {
+        return false;
+    }
+    if !is_counted::<F, T>(page, kind, 0, 0, most) {
+        return false;
+    }
+    stand_in_order::<F, T>(level, count, read_body(page))
 }
 
 /// The entry at this place among those of a page.

@@ -1,5 +1,5 @@
 //! Pages of cuts: the index pages of trees in two and three dimensions.
-ghost use Rattle.std.specs.Prelude.{refl, ◌≡◌, ◌≤◌};
+ghost use Rattle.std.specs.Prelude.{refl, ◌≡◌, ◌≤◌, ◌↔◌, IsTrue};
 ghost use Rattle.std.specs.List.{All};
 ghost use Rattle.page_layout.specs.CutNode.{IsCutNodeTyped};
 ghost use Rattle.page_layout.specs.BaEntry.{IsBaEntryTyped};
@@ -7,11 +7,13 @@ ghost use Rattle.page_layout.specs.Counted.{not_free};
 ghost use Rattle.page_layout.specs.CutPage.{IsCutPage, IsTyped, count_in, nodes_in, entries_in, cut_page_in, cut_page_page};
 ghost use Rattle.page_layout.specs.CutPageLaws.{cut_page_in-page};
 
-use crate::counted::{read_body, read_count, start};
+use crate::counted::{read_body, read_count, read_double, read_word, start};
 use crate::cut_node::{CutNode, spell_cuts};
 use crate::entry::{each_keeps, get_all, put_all};
+use crate::exact::{are_entries_exact, are_nodes_exact};
 use crate::front::finish;
-use crate::number::skip;
+use crate::number::{after, bytes_of, skip};
+use crate::same::are_zeros;
 use crate::spelled::{Spelled, TreePage};
 use arrayvec::ArrayVec;
 use bw_types::BaEntry;
@@ -57,6 +59,34 @@ fn read_cut_entries(page: &Page, count: usize) -> ArrayVec<BaEntry, 17>
     get_all(count, skip(read_body(page), nodes * 16))
 }
 
+// Whether the page is the spelling of what it may spell.
+fn is_exact(page: &Page) -> bool
+    ensures { IsTrue result ↔ (page.now ≡ cut_page_page (cut_page_in page.now)) }
+{
+    let _bytes = bytes_of(page);
+    let count = count_in(page);
+    let nodes = (2 * count).saturating_sub(1);
+    if page[0] != KIND {
+        return false;
+    }
+    if usize::from(read_count(page)) != count {
+        return false;
+    }
+    if read_word(page) != 0 {
+        return false;
+    }
+    if read_double(page) != 0 {
+        return false;
+    }
+    if !are_nodes_exact(nodes, read_body(page)) {
+        return false;
+    }
+    if !are_entries_exact(count, skip(read_body(page), nodes * 16)) {
+        return false;
+    }
+    are_zeros(after(page, 16 + (nodes * 16 + count * 120)))
+}
+
 impl Spelled for CutPage {
     ghost keeps = { IsCutPage };
 
@@ -88,6 +118,11 @@ impl Spelled for CutPage {
             && (1 <= count && count <= 16)
             && spell_cuts(self.cuts.as_slice(), count)
             && each_keeps(self.level, self.entries.as_slice())
+    }
+
+    fn is_spelled(page: &Page) -> bool {
+        let value = CutPage::guess(page);
+        value.keeps_rules() && is_exact(page)
     }
 
     ghost reads_back = { cut_page_in-page };

@@ -2,8 +2,9 @@
 ghost use Rattle.page_layout.specs.Head.{IsHead, IsTyped, head_in, head_page};
 ghost use Rattle.page_layout.specs.HeadLaws.{head_in-page};
 
-use crate::counted::{read_entries, write_counted};
-use crate::entry::are_in_order;
+use crate::counted::{read_entries, spells_row, write_counted};
+use crate::entry::{Own, are_in_order};
+use crate::number::bytes_of;
 use crate::spelled::Spelled;
 use arrayvec::ArrayVec;
 use page_ports::Page;
@@ -43,6 +44,11 @@ impl Spelled for JournalHead {
     fn keeps_rules(&self) -> bool {
         let count = self.homes.len();
         1 <= count && count <= 500 && are_in_order(1, self.homes.as_slice())
+    }
+
+    fn is_spelled(page: &Page) -> bool {
+        let _bytes = bytes_of(page);
+        spells_row::<Own, u64>(page, KIND, 0, 1, 500)
     }
 
     ghost reads_back = { head_in-page };

@@ -8,7 +8,8 @@ use crate::counted::{read_entries, write_counted};
 use crate::dated::{ByLife, life_precedes};
 use crate::entry::{Entry, Own, are_in_order};
 use crate::front::{Front, put_u32, put_u64};
-use crate::number::{number_u32, number_u64, skip};
+use crate::life_view::is_node;
+use crate::number::{bytes_of, number_u32, number_u64, skip};
 use crate::spelled::{Spelled, TreePage};
 use arrayvec::ArrayVec;
 use bw_types::Dated;
@@ -156,6 +157,11 @@ impl Spelled for LifeNode {
         }
     }
 
+    fn is_spelled(page: &Page) -> bool {
+        let _bytes = bytes_of(page);
+        is_node(page)
+    }
+
     ghost reads_back = { life_node_in-page };
 }
 
@@ -167,6 +173,10 @@ impl TreePage for LifeNode {
             LifeNode::Leaf { objects: _ } => 1,
             LifeNode::Index { level, entries: _ } => *level,
         }
+    }
+
+    fn level_on(page: &Page) -> u8 {
+        page[1]
     }
 
     ghost in_use = { life_node_in_use };

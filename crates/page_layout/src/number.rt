@@ -26,8 +26,8 @@ pub(crate) fn after(page: &Page, place: usize) -> &[u8]
     rest
 }
 
-// What the type says of bytes.
-fn are_bytes(bytes: &[u8])
+/// What the type says of bytes.
+pub(crate) fn are_bytes(bytes: &[u8])
     ensures { AreBytes bytes.now }
 {
     let _ = bytes;

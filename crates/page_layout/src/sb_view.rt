@@ -3,8 +3,8 @@ ghost use Rattle.std.specs.Prelude.{◌≡◌, ◌<◌, ◌↔◌, IsTrue, lengt
 ghost use Rattle.page_layout.specs.SbNode.{IsSbNode, sb_node_in, sb_node_page};
 ghost use Rattle.page_layout.specs.declared.sb_node.SbEntry.{SbEntry};
 
-use crate::counted::{entry_in, is_counted, read_body, read_count};
-use crate::entry::{Own, stand_in_order};
+use crate::counted::{entry_in, read_count, spells_row};
+use crate::entry::Own;
 use crate::sb_node::{SbEntry, SbNode};
 use crate::view::View;
 use page_ports::Page;
@@ -34,16 +34,5 @@ impl<'a> View<'a, SbNode> {
 pub(crate) fn is_node(page: &Page) -> bool
     ensures { IsTrue result ↔ (IsSbNode (sb_node_in page.now) × (page.now ≡ sb_node_page (sb_node_in page.now))) }
 {
-    let level = page[1];
-    let count = usize::from(read_count(page)).min(MOST);
-    if level < 1 || level > 16 {
-        return false;
-    }
-    if count < 1 {
-        return false;
-    }
-    if !is_counted::<Own, SbEntry>(page, KIND, 0, 0, MOST) {
-        return false;
-    }
-    stand_in_order::<Own, SbEntry>(level, count, read_body(page))
+    spells_row::<Own, SbEntry>(page, KIND, 1, 16, MOST)
 }

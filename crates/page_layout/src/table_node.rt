@@ -7,8 +7,9 @@ use crate::counted::{read_entries, write_counted};
 use crate::dated::ById;
 use crate::entry::{Entry, Own, are_in_order};
 use crate::front::{Front, put_u64};
-use crate::number::{number_u64, skip};
+use crate::number::{bytes_of, number_u64, skip};
 use crate::spelled::{Spelled, TreePage};
+use crate::table_view::is_node;
 use arrayvec::ArrayVec;
 use bw_types::Dated;
 use page_ports::Page;
@@ -153,6 +154,11 @@ impl Spelled for TableNode {
         }
     }
 
+    fn is_spelled(page: &Page) -> bool {
+        let _bytes = bytes_of(page);
+        is_node(page)
+    }
+
     ghost reads_back = { table_node_in-page };
 }
 
@@ -164,6 +170,10 @@ impl TreePage for TableNode {
             TableNode::Leaf { objects: _ } => 1,
             TableNode::Index { level, entries: _ } => *level,
         }
+    }
+
+    fn level_on(page: &Page) -> u8 {
+        page[1]
     }
 
     ghost in_use = { table_node_in_use };

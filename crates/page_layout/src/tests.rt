@@ -202,6 +202,12 @@ fn a_full_page_of_cuts(rt: HostRuntime) -> Result<(), Fail> {
         None => assert!(rt; false),
     }
     assert!(rt; again == page);
+    // Bytes that no field names are 0: of a node, of a pocket, and behind the last entry.
+    for place in [21, 512 + 17, 512 + 119, 512 + 120 * 16] {
+        page[place] = 1;
+        assert!(rt; CutPage::read(&page).is_none());
+        page[place] = 0;
+    }
     // The last two nodes change places, so that a cut has no sides.
     page[16 + 32 * 14] = 0;
     page[16 + 32 * 14 + 1] = 0;
@@ -211,6 +217,26 @@ fn a_full_page_of_cuts(rt: HostRuntime) -> Result<(), Fail> {
     CutPage::one_spelling();
     cuts_are_tested();
     Ok(())
+}
+
+// How many objects a leaf has that is read in place, and the id and life of the last one.
+fn last_life(page: &Page) -> Option<(usize, u64, u32)> {
+    let view = View::<LifeNode>::on(page)?;
+    let last = view.object_count().checked_sub(1)?;
+    let life = view.object_life(last);
+    let same = view.object(last).life == life;
+    if same {
+        Some((last + 1, view.object_id(last), life))
+    } else {
+        None
+    }
+}
+
+// How many entries an index node has that is read in place, and the last one.
+fn last_entry(page: &Page) -> Option<(usize, LifeEntry)> {
+    let view = View::<LifeNode>::on(page)?;
+    let last = view.entry_count().checked_sub(1)?;
+    Some((last + 1, view.entry(last)))
 }
 
 #[test]
@@ -230,6 +256,8 @@ fn full_nodes_by_id_and_life(rt: HostRuntime) -> Result<(), Fail> {
         None => assert!(rt; false),
     }
     assert!(rt; again == page);
+    assert_eq!(rt; last_life(&page), Some((14, 0, 14)));
+    assert_eq!(rt; last_entry(&page), None);
     page = blank_page();
     page[0] = 10;
     page[1] = 2;
@@ -243,8 +271,30 @@ fn full_nodes_by_id_and_life(rt: HostRuntime) -> Result<(), Fail> {
         None => assert!(rt; false),
     }
     assert!(rt; again == page);
+    let entry = LifeEntry {
+        low_id: 0,
+        low_life: 199,
+        child: 3,
+    };
+    assert_eq!(rt; last_entry(&page), Some((200, entry)));
+    assert_eq!(rt; last_life(&page), None);
     LifeNode::one_spelling();
     Ok(())
+}
+
+// The same of a node by id alone.
+fn last_id(page: &Page) -> Option<(usize, u64)> {
+    let view = View::<TableNode>::on(page)?;
+    let last = view.object_count().checked_sub(1)?;
+    let id = view.object_id(last);
+    let same = view.object(last).object.id == id;
+    if same { Some((last + 1, id)) } else { None }
+}
+
+fn last_low(page: &Page) -> Option<(usize, TableEntry)> {
+    let view = View::<TableNode>::on(page)?;
+    let last = view.entry_count().checked_sub(1)?;
+    Some((last + 1, view.entry(last)))
 }
 
 #[test]
@@ -264,6 +314,8 @@ fn full_nodes_by_id(rt: HostRuntime) -> Result<(), Fail> {
         None => assert!(rt; false),
     }
     assert!(rt; again == page);
+    assert_eq!(rt; last_id(&page), Some((15, 14)));
+    assert_eq!(rt; last_low(&page), None);
     page = blank_page();
     page[0] = 6;
     page[1] = 2;
@@ -277,6 +329,11 @@ fn full_nodes_by_id(rt: HostRuntime) -> Result<(), Fail> {
         None => assert!(rt; false),
     }
     assert!(rt; again == page);
+    assert_eq!(rt;
+        last_low(&page),
+        Some((200, TableEntry { low: 199, child: 3 }))
+    );
+    assert_eq!(rt; last_id(&page), None);
     TableNode::one_spelling();
     Ok(())
 }

@@ -27,10 +27,6 @@ pub record OnlyReads {P T : Type 0} (g : Ghosts P) (most : ℕ) (old new : P) (r
   pub read : WasRead g most old new
   pub disk : result ≡ Err page_fault.Disk → Rose (g.faults old) (g.faults new)
 
--- The free pages are in order, where the map is told.
-abbrev pub IsInOrder : {P : Type 0} → Ghosts P → P → Type 0
-IsInOrder g stage = IsTrue (g.tells stage) × g.free_in_order stage
-
 -- This page was given out, is in the map no more, and can never be given out again.
 pub record IsForgotten {P : Type 0} (g : Ghosts P) (stage : P) (page : ℕ) : Type 0 where
   pub from_three : 3 ≤ page

@@ -1,7 +1,7 @@
 -- What one call on a stage does to its chain forgets no page.
 use Rattle.std.specs.Prelude.{◌≡◌, ◌≢◌, ℕ, ◌+◌, ◌<◌, ◌==◌, true, false, List, [], ◌∷◌, Some, None, refl}
 use Rattle.std.proofs.Common.{sym, ◌∙◌, subst, inl, inr, arith}
-use Rattle.std.proofs.lemmas.Bool.{cases_Bool, or_parts, eqb-true, eq-eqb, ne_eqb}
+use Rattle.std.proofs.lemmas.Bool.{cases_Bool, or_parts, eq-eqb, ne_eqb}
 use Rattle.page_ports.specs.Pages.{PageMap, put_page, remove_page}
 use Rattle.page_ports.specs.Frame.{names_page}
 use Rattle.page_ports.specs.Chain.{TakesFirst}

@@ -1,10 +1,10 @@
 -- What stays spare when a stage in memory changes.
-use Rattle.std.specs.Prelude.{◌≡◌, ◌≢◌, ℕ, ◌+◌, ◌-◌, ◌<◌, ◌≤◌, ◌==◌, nat_le, nat_lt, ◌&&◌, not, Bool, true, false, if◌then◌else◌, List, [], ◌∷◌, ◌++◌, length, reverse, slice_set, Option, Some, None, IsSome, refl}
-use Rattle.std.proofs.Common.{sym, ◌∙◌, subst, ap, inl, inr, arith}
+use Rattle.std.specs.Prelude.{◌≡◌, ℕ, ◌+◌, ◌-◌, ◌<◌, ◌≤◌, ◌==◌, nat_le, nat_lt, ◌&&◌, not, Bool, true, false, if◌then◌else◌, List, [], ◌∷◌, ◌++◌, length, reverse, slice_set, Option, Some, None, IsSome, refl}
+use Rattle.std.proofs.Common.{◌∙◌, subst, ap, inl, inr, arith}
 use Rattle.std.proofs.Math.Path.{fun_ext}
 use Rattle.std.proofs.lemmas.Bool.{cases_Bool, or_cases, cases_lt, cases_eq, and_parts, eqb-true, eq-eqb, ne_eqb, le-leb, lt-leb, leb-true, ltb-true, lt-ltb, not-true}
-use Rattle.std.proofs.lemmas.List.{length-set, length_push, get_or_past, get_or-set_same, get_or-set_other, reverse-append}
-use Rattle.page_ports.specs.Pages.{PageMap, put_page, remove_page}
+use Rattle.std.proofs.lemmas.List.{length-set, length_push, get_or-set_same, get_or-set_other, reverse-append}
+use Rattle.page_ports.specs.Pages.{PageMap, put_page}
 use Rattle.page_ports.specs.Frame.{names_page}
 use Rattle.page_ports.specs.Kept.{map_of}
 use Rattle.page_ports.specs.KeptLaws.{map_of-push, map_of-place}

@@ -5,6 +5,7 @@ ghost use Rattle.page_ports.specs.Pages.{blank_bytes, put_page, remove_page};
 ghost use Rattle.page_ports.specs.Spare.{are_spare};
 
 use crate::{FREE_PAGE, Page, PageFault, Pages, Stage, StageFault, blank_page};
+use counts::raised;
 use std::alloc::Global;
 
 /// A stage that keeps its pages in memory. The page that was freed last is given out again first.
@@ -111,12 +112,15 @@ impl Pages for MemStage {
 
     ghost limit = { λ stage. stage.limit };
 
+    // Each page of the chain was freed and not given out again.
+    ghost free_in_order = { λ _. Unit {0} };
+
     ghost Base = { Unit {0} };
 
     ghost base = { λ _. tt };
 
     fn get(&mut self, page: u64, buf: &mut Page) -> Result<(), PageFault> {
-        self.gets = self.gets.saturating_add(1);
+        self.gets = raised(self.gets);
         match page_in(&self.pages, page) {
             Some(kept) => {
                 *buf = *kept;

@@ -1,5 +1,5 @@
 //! What can be read by pages.
-ghost use Rattle.std.specs.Prelude.{◌≡◌, ◌+◌, ◌≤◌, ℕ, Bool, List, [], Some, None, Err, IsTrue, OnOk};
+ghost use Rattle.std.specs.Prelude.{◌≡◌, ◌+◌, ◌≤◌, ℕ, Bool, List, Some, None, Err, IsTrue, OnOk};
 ghost use Rattle.counts.specs.Count.{Rose};
 ghost use Rattle.page_ports.specs.Pages.{PageMap};
 
@@ -21,17 +21,17 @@ pub trait Pages {
 
     /// How many page numbers are given out. Of a stage alone, as the two after it; they stand here
     /// because a get leaves them as they are.
-    ghost allotted: { Self → ℕ } = { λ _. 0 };
+    ghost allotted: { Self → ℕ };
 
     /// At most how many page numbers there may be.
-    ghost limit: { Self → ℕ } = { λ _. 0 };
+    ghost limit: { Self → ℕ };
 
     /// The chain of free pages, the one to be given out next at its front.
-    ghost chain: { Self → List ℕ } = { λ _. [] };
+    ghost chain: { Self → List ℕ };
 
     /// The record of the free pages is in order, so that each of the chain can be given out. What the
     /// chain says is claimed only where it is.
-    ghost free_in_order: { Self → Type 0 } = { λ _. Unit {0} };
+    ghost free_in_order: { Self → Type 0 };
 
     /// What no call changes: where the pages came from.
     ghost Base: { Type 0 };

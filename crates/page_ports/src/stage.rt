@@ -26,7 +26,7 @@ pub trait Stage: Pages {
         ensures damaged { (p : ℕ) → result ≡ Err (StageFault.Damaged p)
             → IsTrue (Self.tells self.old) → ¬ Self.free_in_order self.old }
         ensures page_limit { (n : ℕ) → result ≡ Err (StageFault.PageLimit n)
-            → IsTrue (Self.tells self.old) → Self.free_in_order self.old → Self.chain self.old ≡ [] }
+            → IsTrue (Self.tells self.old) → Self.chain self.old ≡ [] }
 
         ensures chain_err { OnErr result (IsTrue (Self.tells self.old) → Self.chain self.new ≡ Self.chain self.old) }
         ensures allotted_err { OnErr result (Self.allotted self.new ≡ Self.allotted self.old) }
@@ -43,7 +43,7 @@ pub trait Stage: Pages {
         ensures damaged { (p : ℕ) → result ≡ Err (StageFault.Damaged p)
             → (p ≡ page) × (IsTrue (Self.tells self.old) → Self.map self.old page ≡ None) }
 
-        ensures chain { IsTrue (Self.tells self.old) → Self.free_in_order self.old → Self.chain self.new ≡ Self.chain self.old }
+        ensures chain { IsTrue (Self.tells self.old) → Self.chain self.new ≡ Self.chain self.old }
         ensures changes { Changes Self.Pages 0 self.old self.new result };
 
     /// Takes a page out of the map, and puts it first in the chain of free pages.

@@ -3,6 +3,7 @@ use Rattle.std.specs.Prelude.{ℕ, List, Result, Ok, Err}
 use Rattle.bw_types.specs.declared.params.Params.{Params}
 use Rattle.page_ports.specs.Pages.{PageMap}
 use Rattle.page_disk.specs.declared.disk.Disk.{Ghosts}
+use Rattle.page_cache.specs.Cache.{kept_pages}
 use Rattle.page_layout.specs.declared.meta.Meta.{Meta}
 use Rattle.redo_journal.specs.Images.{image_map}
 use Rattle.redo_journal.specs.Placing.{placed_at}
@@ -23,6 +24,10 @@ module _ {D : Type 0} {g : Ghosts D} where
 
   abbrev pub meta_of : Space D g → Meta
   meta_of space = space.meta
+
+  -- the pages that it keeps in memory
+  abbrev pub cached_pages : Space D g → PageMap
+  cached_pages space = kept_pages space.cache
 
   -- what a stage that begins on the space stands on
   abbrev pub begun_of : Space D g → Begun

@@ -2,7 +2,7 @@
 ghost use Rattle.std.specs.Prelude.{◌≡◌, ◌⊎◌, ◌+◌, ◌≤◌, ◌<◌, ℕ, Ok, Err, IsTrue, IsSome, IfOk, OnOk, OnErr};
 ghost use Rattle.page_disk.specs.Calls.{Writes, any_error};
 ghost use Rattle.page_disk.specs.Since.{LeavesNow, LeavesOnly};
-ghost use Rattle.page_cache.specs.Cache.{kept_pages};
+ghost use Rattle.page_cache.specs.Cache.{capacity, kept_pages};
 ghost use Rattle.redo_journal.specs.Images.{image_map};
 ghost use Rattle.page_space.specs.Renewed.{renewed_by};
 ghost use Rattle.page_space.specs.Space.{HoldsSpace};
@@ -15,7 +15,8 @@ use redo_journal::{Images, commit};
 
 // Renews each page that has an image.
 fn renew_all(cache: &mut Cache, images: &Images)
-    ensures { (page : ℕ) → kept_pages cache.new page ≡ renewed_by (kept_pages cache.old) (image_map images.now) page }
+    ensures pages { (page : ℕ) → kept_pages cache.new page ≡ renewed_by (kept_pages cache.old) (image_map images.now) page }
+    ensures capacity { capacity cache.new ≡ capacity cache.old }
 {
     let mut rest = images.in_order();
     while let Some((page, image)) = rest.next() {

@@ -4,7 +4,7 @@ ghost use Rattle.bw_types.specs.Fits.{IsInRange};
 ghost use Rattle.page_ports.specs.Calls.{OnlyReads};
 ghost use Rattle.page_disk.specs.Image.{Image, page_at};
 ghost use Rattle.page_disk.specs.Since.{LeavesNow};
-ghost use Rattle.page_cache.specs.Cache.{Agrees, kept_pages};
+ghost use Rattle.page_cache.specs.Cache.{Agrees, KeepsAtMost, capacity, kept_pages};
 ghost use Rattle.page_layout.specs.Meta.{IsMeta, IsTyped, meta_page};
 ghost use Rattle.redo_journal.specs.Gates.{gate_of};
 ghost use Rattle.redo_journal.specs.declared.gate.Gate.TheVariants.{Idle};
@@ -44,11 +44,12 @@ pub struct Space<D: Disk> {
     ghost idle: { IsTrue (D.tells disk) → gate_of (D.image disk) ≡ Idle },
     ghost settled: { LeavesNow (D.moments disk) (D.image disk) },
     ghost agrees: { IsTrue (D.tells disk) → Agrees (kept_pages cache) (D.image disk).pages },
+    ghost cached: { capacity cache ≡ 1024 },
 }
 
 impl<D: Disk> Space<D> {
     ghost use Rattle.page_space.specs.Space.{AreRoots, HoldsSpace};
-    ghost use Rattle.page_space.specs.Shown.{disk_of, params_of, meta_of, begun_of, map_of, IsInOrder};
+    ghost use Rattle.page_space.specs.Shown.{cached_pages, disk_of, params_of, meta_of, begun_of, map_of, IsInOrder};
 
     /// What the warehouse was made for.
     pub fn params(&self) -> Params
@@ -66,9 +67,11 @@ impl<D: Disk> Space<D> {
         &self.meta
     }
 
-    /// The disk, with nothing pending.
+    /// The disk as it stands, with nothing to replay and nothing pending.
     pub fn into_disk(self) -> D
-        ensures { result ≡ disk_of self }
+        ensures disk { result ≡ disk_of self }
+        ensures idle { IsTrue (D.tells result) → gate_of (D.image result) ≡ Idle }
+        ensures settled { LeavesNow (D.moments result) (D.image result) }
     {
         let Space {
             disk,
@@ -80,15 +83,19 @@ impl<D: Disk> Space<D> {
         disk
     }
 
-    /// Proves that the disk stands for the space, with nothing to replay and nothing pending, and that the
-    /// params and the meta page keep their rules; it does nothing when it runs.
+    /// Proves that the disk stands for the space, with nothing to replay and nothing pending, that the
+    /// params and the meta page keep their rules, and that at most 1024 pages are kept in memory; it does
+    /// nothing when it runs.
     pub fn is_held(&self)
         ensures held { IsTrue (D.tells (disk_of self.now)) → HoldsSpace (D.image (disk_of self.now)) (params_of self.now) (meta_of self.now)
             (map_of self.now) (IsInOrder self.now) }
         ensures idle { IsTrue (D.tells (disk_of self.now)) → gate_of (D.image (disk_of self.now)) ≡ Idle }
         ensures settled { LeavesNow (D.moments (disk_of self.now)) (D.image (disk_of self.now)) }
         ensures roots { AreRoots (params_of self.now) (meta_of self.now) }
-    {}
+        ensures cached { KeepsAtMost (cached_pages self.now) 1024 }
+    {
+        self.cache.is_few();
+    }
 
     /// Reads a page as the disk has it, in use or not, at most once from the disk.
     pub(crate) fn read(&mut self, page: u64, buf: &mut Page) -> Result<(), PageFault>

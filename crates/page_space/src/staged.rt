@@ -114,6 +114,8 @@ impl<D: Disk> Staged<D> {
         ensures ok { OnOk result (staged_meta self.new ≡ with_counts_of (staged_meta self.old) meta.now) }
         ensures set { OnOk result (IsMetaSet self.new) }
         ensures err { OnErr result (staged_meta self.new ≡ staged_meta self.old) }
+        // What could be committed before can still be committed.
+        ensures err_set { OnErr result (IsMetaSet self.old → IsMetaSet self.new) }
         ensures map { staged_map self.new ≡ staged_map self.old }
         ensures chain { staged_chain self.new ≡ staged_chain self.old }
         ensures in_order { IsStagedInOrder self.old → IsStagedInOrder self.new }

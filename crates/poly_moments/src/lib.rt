@@ -13,5 +13,5 @@ mod reaches;
 mod sums;
 
 pub use exponents::exponent;
-pub use planes::{eval, plane_weight};
+pub use planes::{eval, plane_count, plane_weight};
 pub use sums::mass;

@@ -1,5 +1,5 @@
 -- Calls on a disk, one after another.
-use Rattle.std.proofs.Common.{◌≡◌, ℕ, ◌+◌, ◌∙◌, Bool, Ok, sym, subst, arith}
+use Rattle.std.proofs.Common.{◌≡◌, ℕ, ◌+◌, ◌∙◌, Bool, Result, Ok, Err, OnOk, OnErr, ◌⊎◌, inl, inr, sym, subst, arith}
 use Rattle.std.specs.Prelude.{IsTrue}
 use Rattle.page_disk.specs.declared.disk.Disk.{Ghosts}
 use Rattle.page_disk.specs.Calls.{WentOn, Writes}
@@ -13,6 +13,16 @@ use Rattle.redo_journal.proofs.SettledLemmas.{where_told}
 
 pub on_told : (a b : Bool) → b ≡ a → IsTrue a → IsTrue b
 on_told a b same told = subst (λ (t : Bool). IsTrue t) (sym same) told
+
+-- What follows from two facts of an answer.
+pub on_both : {T E P Q R : Type 0} (r : Result T E) → (P → Q → R) → OnOk r P → OnOk r Q → OnOk r R
+on_both (Ok x) both p q = both p q
+on_both (Err e) both p q = tt
+
+-- An answer is one of the two.
+pub on_either : {T E P Q : Type 0} (r : Result T E) → OnErr r P → OnOk r Q → P ⊎ Q
+on_either (Ok x) p q = inr q
+on_either (Err e) p q = inl p
 
 module _ {D : Type 0} (g : Ghosts D) where
   pub no_call : (disk : D) → WentOn g 0 disk disk

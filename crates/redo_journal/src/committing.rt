@@ -109,8 +109,7 @@ fn write_body<D: Disk>(disk: &mut D, images: &Images) -> Result<(), Failed>
     ensures writes { Writes D.Disk any_error 0 disk.old disk.new result }
 {
     write_groups(disk, images)?;
-    disk.sync()?;
-    Ok(())
+    disk.sync()
 }
 
 // Writes the images to their homes, and makes sure of them.
@@ -128,8 +127,7 @@ fn write_homes<D: Disk>(disk: &mut D, images: &Images) -> Result<(), Failed>
     while let Some((home, page)) = rest.next() {
         put_home(disk, home, page)?;
     }
-    disk.sync()?;
-    Ok(())
+    disk.sync()
 }
 
 // The homes ascend, since they are the keys of an ordered map.
@@ -155,8 +153,7 @@ fn arm<D: Disk>(disk: &mut D, images: &Images) -> Result<(), Failed>
     ensures writes { Writes D.Disk any_error 0 disk.old disk.new result }
 {
     write_body(disk, images)?;
-    write_gate(disk, true)?;
-    Ok(())
+    write_gate(disk, true)
 }
 
 // Writes the images of an armed disk home, and then closes the gate.
@@ -172,8 +169,7 @@ fn bring_home<D: Disk>(disk: &mut D, images: &Images) -> Result<(), Failed>
     ensures writes { Writes D.Disk any_error 0 disk.old disk.new result }
 {
     write_homes(disk, images)?;
-    write_gate(disk, false)?;
-    Ok(())
+    write_gate(disk, false)
 }
 
 /// Writes all images to their homes, or none.
@@ -201,6 +197,5 @@ pub fn commit<D: Disk>(disk: &mut D, images: &Images) -> Result<(), Failed>
 {
     are_ordered(images);
     arm(disk, images)?;
-    bring_home(disk, images)?;
-    Ok(())
+    bring_home(disk, images)
 }

@@ -1,5 +1,5 @@
 //! Images of pages that are to be written.
-ghost use Rattle.std.specs.Prelude.{◌≡◌, ◌≤◌, ℕ, ◌==◌, if◌then◌else◌, None, Some, OnOk, OnErr, IfSome, IsSome, length, option_copied, ◌^◌, ◌<◌};
+ghost use Rattle.std.specs.Prelude.{◌≡◌, ◌^◌, ◌<◌, OnOk, OnErr, length, option_copied};
 ghost use Rattle.page_ports.specs.Pages.{PageMap, empty_map, put_page};
 ghost use Rattle.redo_journal.specs.Placing.{map_of};
 
@@ -77,17 +77,5 @@ impl Images {
         ensures few { result < 2 ^ 63 }
     {
         self.pages.len()
-    }
-
-    /// The first image at this page or after it, if there is one.
-    pub fn first_from(&self, page: u64) -> Option<(u64, &Page)>
-        ensures found { IfSome result (λ found. (page ≤ found.0) × (image_map self.now found.0 ≡ Some found.1.now)) }
-        ensures least { IfSome result (λ found. (p : ℕ) → page ≤ p → IsSome (image_map self.now p) → found.0 ≤ p) }
-        ensures none { result ≡ None → (p : ℕ) → page ≤ p → image_map self.now p ≡ None }
-    {
-        match self.pages.range(page..).next() {
-            Some((home, image)) => Some((*home, image)),
-            None => None,
-        }
     }
 }

@@ -23,8 +23,7 @@ pub(crate) fn write_gate<D: Disk>(disk: &mut D, opens: bool) -> Result<(), Faile
     ensures writes { Writes D.Disk any_error 0 disk.old disk.new result }
 {
     disk.write(Area::Journal, 0, &gate_page(opens))?;
-    disk.sync()?;
-    Ok(())
+    disk.sync()
 }
 
 /// Writes a page of the journal's body.

@@ -1,28 +1,29 @@
 -- The invariant of the loop over lines.
-use Rattle.std.proofs.Common.{◌≡◌, ℕ, ◌+◌, ◌≤◌, Bool, IsTrue, List, [], ◌++◌, length, ◌⊎◌, inl, inr, Option, None, Some, sym, ◌∙◌, ap, refl, arith, subst}
+use Rattle.std.proofs.Common.{◌≡◌, ℕ, ◌+◌, ◌≤◌, Bool, IsTrue, List, [], ◌++◌, length, ◌⊎◌, inl, inr, Option, None, Some, Ok, true, sym, ◌∙◌, ap, refl, arith, subst}
 use Rattle.std.proofs.lemmas.List.{append-nil}
 use Rattle.bw_types.specs.declared.params.Params.{Params}
 use Rattle.bw_types.specs.History.{History}
 use Rattle.bw_types.specs.Fits.{IsInRange}
 use Rattle.warehouse.specs.declared.house.House.{Ghosts}
 use Rattle.row_machine.specs.declared.desk.Desk.{Desk}
-use Rattle.csv_rows.specs.Reader.{ReaderState, to_come, unless_stopped}
-use Rattle.csv_rows.specs.declared.lines.Line.{Line}
-use Rattle.csv_rows.specs.declared.lines.Line.TheVariants.{End}
+use Rattle.line_reader.specs.Reader.{ReaderState, to_come, unless_stopped}
+use Rattle.line_reader.specs.declared.lines.Line.{Line}
+use Rattle.line_reader.specs.declared.lines.Line.TheVariants.{End}
 use Rattle.row_machine.specs.declared.serving.TheConstants.{INPUT_LIMIT}
 use Rattle.row_machine.specs.Runs.{WritesMore, WritesPart}
-use Rattle.row_machine.specs.Serving.{TakesWhole, MayGoOn, MayServe, SeenEnd, GoesOn, ServesLine, IsBetweenLines, IsFlushed, IsInputEnding, BreaksOff, Ends, state_at}
+use Rattle.row_machine.specs.Serving.{TakesWhole, MayGoOn, MayServe, SeenEnd, GoesOn, ServesLine, IsBetweenLines, IsFlushed, IsInputEnding, BreaksOff, Ends, Lasts, LastsBeyond, LastsSoFar, state_at}
 use Rattle.row_machine.specs.Housed.{IsHouseEnding}
 use Rattle.row_machine.specs.declared.ending.Ran.{Ran}
 use Rattle.row_machine.specs.declared.ending.Ending.{Ending}
 use Rattle.row_machine.specs.declared.ending.Ending.TheVariants.{Fine, ReadFault, WriteFault, NoMemory, InputLimit, DiskFault, Damaged, PageLimit}
-use Rattle.csv_rows.specs.Lines.{lines, PassesNoLineFeed}
+use Rattle.line_reader.specs.Lines.{lines, PassesNoLineFeed}
 use Rattle.csv_rows.specs.Machine.{replies}
 use Rattle.row_machine.proofs.Lined.{not_both}
 use Rattle.row_machine.proofs.Parts.{more_twice, nothing_more, part_of_all}
 use Rattle.row_machine.proofs.Served.{LineLaws, served_whole}
 use Rattle.row_machine.proofs.Reached.{Reached, coming_may, reached_nothing, reached_line}
 use Rattle.row_machine.proofs.EndsLaws.{Written, ends_between, ends_within}
+use Rattle.row_machine.proofs.Lasting.{lasts_at_first, lasts_between, lasts_on, lasts_within}
 
 -- what is known of a port at a moment: whether it tells, its bytes and its faults
 pub record Port : Type 0 where
@@ -53,6 +54,7 @@ pub record Going {H D : Type 0} (g : Ghosts H D) (first now : Desk H D g) (sourc
   pub more : IsTrue sink.tells → WritesMore sink.bytes sink'.bytes
   pub faults : g.faults (g.device first.house) ≤ g.faults (g.device now.house)
   pub counts : IsTrue source.tells → reader.taken + length source'.bytes ≡ length source.bytes
+  pub lasts : (h : History) → g.stands true (g.device first.house) first.params h → LastsSoFar g first.params h (g.device first.house) (g.device now.house)
   pub reached : IsTrue source.tells → (whole : Bool) (h : History) → MayServe whole first.params (lines source.bytes) → g.stands whole (g.device first.house) first.params h
       → Reached g whole sink.tells first.params h first now number source.bytes (to_come reader source'.bytes) reader.stopped sink.bytes (sink'.bytes ++ gathered)
 
@@ -96,6 +98,7 @@ going_put g first now source source' sink sink' sink'' gathered gathered' reader
   more = λ told. more_twice sink.bytes sink'.bytes sink''.bytes (o.more told) (more (o.sink_calm.tells told));
   faults = o.faults;
   counts = o.counts;
+  lasts = o.lasts;
   reached = λ told whole h may stands. virtual_same (o.reached told whole h may stands);
 }
   where
@@ -116,6 +119,7 @@ going_put g first now source source' sink sink' sink'' gathered gathered' reader
       };
       goes = r.goes;
       reads = r.reads;
+      charge = r.charge;
       any_moment = r.any_moment;
       settled = r.settled;
     }
@@ -128,10 +132,11 @@ pub going_on : {H D : Type 0} (g : Ghosts H D) (laws : LineLaws) (first now now'
     → (reader.stopped ≡ None → SeenEnd reader' source'.tells source''.bytes)
     → (reader.stopped ≡ Some End → (reader' ≡ reader) × (source''.bytes ≡ source'.bytes))
     → (IsTrue source'.tells → IsTrue source''.tells → reader'.taken + length source''.bytes ≡ reader.taken + length source'.bytes)
+    → ((h : History) → g.stands true (g.device now.house) now.params h → LastsBeyond g now.params h (g.device now.house) (Ok now'))
     → (IsTrue source'.tells → (whole : Bool) (h : History) → MayServe whole now.params (lines (to_come reader source'.bytes)) → g.stands whole (g.device now.house) now.params h
     → ServesLine g whole now.params number (to_come reader source'.bytes) (to_come reader' source''.bytes) reader'.stopped h now now' gathered gathered')
     → Going g first now' source source'' sink sink' gathered' reader' (number + 1)
-going_on g laws first now now' source source' source'' sink sink' gathered gathered' reader reader' number o params limit goes calm faults seen stays counts serves = record {
+going_on g laws first now now' source source' source'' sink sink' gathered gathered' reader reader' number o params limit goes calm faults seen stays counts lasts serves = record {
   params = params ∙ o.params;
   range = o.range;
   limit = limit ∙ o.limit;
@@ -144,6 +149,11 @@ going_on g laws first now now' source source' source'' sink sink' gathered gathe
   more = o.more;
   faults = omega (arith, o.faults, faults);
   counts = λ told. counts (o.source_calm.tells told) (calm.tells (o.source_calm.tells told)) ∙ o.counts told;
+  lasts = λ h stands.
+      let so_far = o.lasts h stands in
+      lasts_on g first.params h _ _ _ so_far
+      (subst (λ (p : Params). LastsSoFar g p so_far.sure (g.device now.house) (g.device now'.house)) o.params
+      (lasts so_far.sure (subst (λ (p : Params). g.stands true (g.device now.house) p so_far.sure) (sym o.params) so_far.stands)));
   reached = λ told whole h may stands.
       let r = o.reached told whole h may stands in
       let may' : MayServe whole first.params (lines (to_come reader source'.bytes)) =
@@ -173,6 +183,7 @@ going_first g first source sink gathered reader range e none = subst (λ (r : Re
   more = λ told. nothing_more sink.bytes sink.bytes refl;
   faults = omega arith;
   counts = λ told. omega arith;
+  lasts = λ h stands. lasts_at_first g first.params h (g.device first.house) stands;
   reached = λ told whole h may stands. subst (λ (b : List ℕ). Reached g whole sink.tells first.params h first first 1 source.bytes source.bytes None sink.bytes b)
       (sym (append-nil sink.bytes) ∙ ap (λ (t : List ℕ). sink.bytes ++ t) (sym none))
       (reached_nothing g whole sink.tells first.params h first source.bytes sink.bytes stands);
@@ -269,9 +280,36 @@ going_ends g laws first now source source' source'' sink sink' gathered reader r
           (subst (λ (p : Params). MayServe whole p (lines (to_come reader source'.bytes))) (sym o.params)
           (coming_may laws whole sink.tells first.params (state_at g h first) r.state number source.bytes (to_come reader source'.bytes) reader.stopped sink.bytes (sink'.bytes ++ gathered) r.served may))
           (subst (λ (p : Params). g.stands whole (g.device now.house) p r.state.history) (sym o.params) r.at.stands)))
-          closes.device (λ e. closes_same ended ran closes DiskFault (λ f. cc) e) (λ e. disk_stays ended ran closes e)
+          closes.device (λ e. disk_stays ended ran closes e)
           (λ b. between_both ended ran closes w b)
           (λ page e. closes_same ended ran closes (Damaged page) (λ f. cc) e) (λ allotted e. closes_same ended ran closes (PageLimit allotted) (λ f. cc) e) written
+    ]
+
+-- the sink fails between two lines, over whatever source
+pub going_stops_lasting : {H D : Type 0} (g : Ghosts H D) (first now : Desk H D g) (source source' sink sink' : Port) (gathered : List ℕ) (reader : ReaderState) (number : ℕ) (ran : Ran D)
+    → Going g first now source source' sink sink' gathered reader number
+    → ran.ending ≡ WriteFault → ran.device ≡ g.device now.house
+    → (h : History) → g.stands true (g.device first.house) first.params h → Lasts g first.params h (g.device first.house) ran
+going_stops_lasting g first now source source' sink sink' gathered reader number ran o why device h stands =
+    lasts_between g first.params h _ _ ran (o.lasts h stands) device (λ w. subst (λ (s : Ending). IsHouseEnding s) why w)
+
+-- the run ends between two lines or in one, over whatever source
+pub going_ends_lasting : {H D : Type 0} (g : Ghosts H D) (first now : Desk H D g) (source source' sink sink' : Port) (gathered : List ℕ) (reader : ReaderState) (number : ℕ) (ended ran : Ran D)
+    → Going g first now source source' sink sink' gathered reader number
+    → Closes ended ran
+    → (IsBetweenLines ended.ending ⊎ IsHouseEnding ended.ending)
+    → (IsBetweenLines ended.ending → ended.device ≡ g.device now.house)
+    → ((h : History) → g.stands true (g.device now.house) now.params h → IsHouseEnding ended.ending → Lasts g now.params h (g.device now.house) ended)
+    → (h : History) → g.stands true (g.device first.house) first.params h → Lasts g first.params h (g.device first.house) ran
+going_ends_lasting g first now source source' sink sink' gathered reader number ended ran o closes why between lasts h stands =
+    let so_far = o.lasts h stands in
+    elim why [
+      | inl b ↦ lasts_between g first.params h _ _ ran so_far (closes.device ∙ between b) (λ w. not_both ended.ending (house_both ended ran closes w) b)
+      | inr w ↦ lasts_within g first.params h _ _ ended ran so_far
+          (subst (λ (p : Params). Lasts g p so_far.sure (g.device now.house) ended) o.params
+          (lasts so_far.sure (subst (λ (p : Params). g.stands true (g.device now.house) p so_far.sure) (sym o.params) so_far.stands) w))
+          closes.device (λ e. disk_stays ended ran closes e)
+          (λ page e. closes_same ended ran closes (Damaged page) (λ f. cc) e) (λ allotted e. closes_same ended ran closes (PageLimit allotted) (λ f. cc) e)
     ]
 
 -- what is known at each of the two endings by the input is known at both

@@ -10,3 +10,4 @@ pub mod Replies
 pub mod Served
 pub mod Serviced
 pub mod Staged
+pub mod Lasting

@@ -3,10 +3,10 @@ use Rattle.std.proofs.Common.{◌≡◌, ℕ, ◌<◌, Bool, false, IsTrue, List
 use Rattle.bw_types.specs.History.{History}
 use Rattle.bw_types.specs.declared.params.Params.{Params}
 use Rattle.csv_rows.specs.Input.{input}
-use Rattle.csv_rows.specs.Lines.{lines, TakesLine}
-use Rattle.csv_rows.specs.Reader.{TakesLongLine}
+use Rattle.line_reader.specs.Lines.{lines, TakesLine}
+use Rattle.line_reader.specs.Reader.{TakesLongLine}
 use Rattle.csv_rows.specs.Machine.{step}
-use Rattle.csv_rows.specs.declared.lines.Line.{Line}
+use Rattle.line_reader.specs.declared.lines.Line.{Line}
 use Rattle.warehouse.specs.declared.house.House.{Ghosts}
 use Rattle.row_machine.specs.declared.desk.Desk.{Desk}
 use Rattle.row_machine.specs.declared.ending.Ran.{Ran}

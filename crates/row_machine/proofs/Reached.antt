@@ -1,17 +1,17 @@
 -- How far a run has come between two lines.
-use Rattle.std.proofs.Common.{◌≡◌, ℕ, ◌+◌, ◌≤◌, Bool, true, false, List, [], ◌∷◌, ◌++◌, length, Option, None, Some, refl, sym, ◌∙◌, ap, subst, append_assoc, arith}
+use Rattle.std.proofs.Common.{◌≡◌, ℕ, ◌+◌, ◌≤◌, Bool, true, false, List, [], ◌++◌, length, Option, None, Some, refl, sym, ◌∙◌, ap, subst, append_assoc, arith}
 use Rattle.bw_types.specs.History.{History}
 use Rattle.bw_types.specs.declared.params.Params.{Params}
 use Rattle.csv_rows.specs.Input.{input as input_of}
-use Rattle.csv_rows.specs.Lines.{lines}
-use Rattle.csv_rows.specs.declared.lines.Line.{Line}
-use Rattle.csv_rows.specs.declared.lines.Line.TheVariants.{End}
+use Rattle.line_reader.specs.Lines.{lines}
+use Rattle.line_reader.specs.declared.lines.Line.{Line}
+use Rattle.line_reader.specs.declared.lines.Line.TheVariants.{End}
 use Rattle.csv_rows.specs.Machine.{State, step, replied, state_after}
 use Rattle.warehouse.specs.declared.house.House.{Ghosts}
 use Rattle.row_machine.specs.declared.desk.Desk.{Desk}
-use Rattle.row_machine.specs.Housed.{GoesOnFrom, IsAt, MayTake, Settled, OnlyBetween}
-use Rattle.row_machine.specs.Serving.{state_at, Serves, ServesLine, MayServe, line_cost, lines_cost}
-use Rattle.row_machine.proofs.Replies.{state_after-append, lines_cost-append, MayServe-later}
+use Rattle.row_machine.specs.Housed.{GoesOnFrom, IsAt, MayTake, Settled, OnlyBetween, rows_committed}
+use Rattle.row_machine.specs.Serving.{state_at, Serves, ServesLine, MayServe, line_cost, line_need, lines_cost, lines_need}
+use Rattle.row_machine.proofs.Replies.{state_after-append, sums_more, MayServe-later}
 use Rattle.row_machine.proofs.Lined.{first_may}
 use Rattle.row_machine.proofs.Housing.{goes_on_same, goes_on_twice, step_goes_on, only_same, only_twice}
 use Rattle.row_machine.proofs.Served.{Served, OneLine, LineLaws, served_nothing, served_line, lines_split}
@@ -32,6 +32,7 @@ module _ {H D : Type 0} (g : Ghosts H D) where
     pub served : Served tells params (state_at g h first) state n input come stopped before replied_so_far
     pub goes : GoesOnFrom h state.history
     pub reads : MayServe false params (lines input) → g.reads (g.device now.house) ≤ g.reads (g.device first.house) + lines_cost g.cost params 1 (state_at g h first) (lines served.given)
+    pub charge : whole ≡ true → g.charge (g.device now.house) ≤ g.charge (g.device first.house) + lines_need g.need params 1 (state_at g h first) (lines served.given)
     pub any_moment : whole ≡ true → OnlyBetween g params h state.history (g.device first.house) (g.device now.house)
     pub settled : whole ≡ true → Settled g params h (g.device first.house) → Settled g params state.history (g.device now.house)
 
@@ -43,6 +44,7 @@ module _ {H D : Type 0} (g : Ghosts H D) where
     served = served_nothing tells params (state_at g h first) input before;
     goes = goes_on_same h;
     reads = λ reading. omega arith;
+    charge = λ e. omega arith;
     any_moment = λ e. only_same g params h h _ _ refl;
     settled = λ e s. s;
   }
@@ -50,18 +52,6 @@ module _ {H D : Type 0} (g : Ghosts H D) where
   -- the desk's state is what the machine has
   pub state_is : (state : State) (desk : Desk H D g) → desk.sessions ≡ state.staged → state_at g state.history desk ≡ state
   state_is state desk e = ap (λ (st : _). let s : State = record { history = state.history; staged = st } in s) e
-
-  -- what was read for the lines so far, and for one line more
-  reads_more : (params : Params) (first now : State) (n : ℕ) (given : List (List ℕ)) (line : List ℕ) (before after entry : ℕ)
-      → n ≡ 1 + length given → now ≡ state_after params 1 first given
-      → before ≤ entry + lines_cost g.cost params 1 first given → after ≤ before + line_cost g.cost params now.history line
-      → after ≤ entry + lines_cost g.cost params 1 first (given ++ line ∷ [])
-  reads_more params first now n given line before after entry number state so_far more =
-      let one : lines_cost g.cost params (1 + length given) (state_after params 1 first given) (line ∷ []) ≡ line_cost g.cost params (state_after params 1 first given).history line + 0 = refl in
-      let same : line_cost g.cost params now.history line ≡ line_cost g.cost params (state_after params 1 first given).history line =
-      ap (λ (s : State). line_cost g.cost params s.history line) state in
-      let split = lines_cost-append g.cost params 1 first given (line ∷ []) in
-      omega (arith, one, same, split, so_far, more)
 
   -- one line more
   pub reached_line : (laws : LineLaws) (whole tells : Bool) (params : Params) (h : History) (first now new : Desk H D g) (n : ℕ) (input come come' : List ℕ) (stopped stopped' : Option Line) (before written gathered gathered' : List ℕ)
@@ -72,8 +62,8 @@ module _ {H D : Type 0} (g : Ghosts H D) where
   reached_line laws whole tells params h first now new n input come come' stopped stopped' before written gathered gathered' r nothing l =
       let line = l.line in
       let same : state_at g r.state.history now ≡ r.state = state_is r.state now r.at.staged in
-      let serves : Serves g whole params r.state.history (step params n r.state line) (MayTake false (input_of params line)) (line_cost g.cost params r.state.history line) (g.device now.house) new gathered gathered' =
-      subst (λ (s : State). Serves g whole params r.state.history (step params n s line) (MayTake false (input_of params line)) (line_cost g.cost params r.state.history line) (g.device now.house) new gathered gathered') same l.serves in
+      let serves : Serves g whole params r.state.history (step params n r.state line) (rows_committed r.state (input_of params line)) (MayTake false (input_of params line)) (line_cost g.cost params r.state.history line) (g.device now.house) new gathered gathered' =
+      subst (λ (s : State). Serves g whole params r.state.history (step params n s line) (rows_committed s (input_of params line)) (MayTake false (input_of params line)) (line_cost g.cost params r.state.history line) (g.device now.house) new gathered gathered') same l.serves in
       let goes : GoesOnFrom r.state.history (step params n r.state line).state.history = step_goes_on params n r.state line in
       let one : OneLine tells params n come come' stopped' r.state (step params n r.state line).state (written ++ gathered) (written ++ gathered') =
       record {
@@ -90,9 +80,11 @@ module _ {H D : Type 0} (g : Ghosts H D) where
         served = served.0;
         goes = goes_on_twice _ _ _ r.goes goes;
         reads = λ reading. subst (λ (ls : List (List ℕ)). g.reads (g.device new.house) ≤ g.reads (g.device first.house) + lines_cost g.cost params 1 (state_at g h first) ls) (sym served.1)
-            (reads_more params (state_at g h first) r.state n (lines r.served.given) line _ _ _ r.served.number r.served.state (r.reads reading)
+            (sums_more (λ k t l. line_cost g.cost params t.history l) params (state_at g h first) r.state n (lines r.served.given) line _ _ _ r.served.number r.served.state (r.reads reading)
             (serves.reads (first_may false params (lines come) line (lines come') l.takes.all_lines
             (coming_may laws false tells params (state_at g h first) r.state n input come stopped before (written ++ gathered) r.served reading))));
+        charge = λ e. subst (λ (ls : List (List ℕ)). g.charge (g.device new.house) ≤ g.charge (g.device first.house) + lines_need g.need params 1 (state_at g h first) ls) (sym served.1)
+            (sums_more (line_need g.need params) params (state_at g h first) r.state n (lines r.served.given) line _ _ _ r.served.number r.served.state (r.charge e) (serves.charge e));
         any_moment = λ e. only_twice g params _ _ _ _ _ _ r.goes goes (r.any_moment e) (serves.any_moment e);
         settled = λ e s. serves.settled e (r.settled e s);
       }

@@ -2,10 +2,10 @@
 use Rattle.std.proofs.Common.{◌≡◌, ℕ, ◌+◌, Bool, true, IsTrue, List, [], ◌∷◌, ◌++◌, length, ◌⊎◌, inl, inr, Option, None, Some, sym, ◌∙◌, ap, refl, append_assoc, arith, length-append}
 use Rattle.std.proofs.lemmas.List.{append-nil}
 use Rattle.bw_types.specs.declared.params.Params.{Params}
-use Rattle.csv_rows.specs.Lines.{lines, is_whole, whole_part, HasNoLineFeed, TakesLine, PassesNoLineFeed}
+use Rattle.line_reader.specs.Lines.{lines, is_whole, whole_part, HasNoLineFeed, TakesLine, PassesNoLineFeed}
 use Rattle.row_machine.specs.Serving.{TakesWhole}
-use Rattle.csv_rows.specs.declared.lines.Line.{Line}
-use Rattle.csv_rows.specs.declared.lines.Line.TheVariants.{End}
+use Rattle.line_reader.specs.declared.lines.Line.{Line}
+use Rattle.line_reader.specs.declared.lines.Line.TheVariants.{End}
 use Rattle.csv_rows.specs.Machine.{State, step, replied, replies, state_after}
 use Rattle.row_machine.proofs.Replies.{replies-append, state_after-append}
 
@@ -45,7 +45,7 @@ served_nothing tells params first input before = record {
 }
 
 -- the step on the line after those given
-after_line : (params : Params) (first now : State) (n : ℕ) (ls : List (List ℕ)) (line : List ℕ) → n ≡ 1 + length ls → now ≡ state_after params 1 first ls → (step params n now line).state ≡ state_after params 1 first (ls ++ line ∷ [])
+pub after_line : (params : Params) (first now : State) (n : ℕ) (ls : List (List ℕ)) (line : List ℕ) → n ≡ 1 + length ls → now ≡ state_after params 1 first ls → (step params n now line).state ≡ state_after params 1 first (ls ++ line ∷ [])
 after_line params first now n ls line en es =
     ap (λ (k : ℕ). (step params k now line).state) en
     ∙ (ap (λ (s : State). (step params (1 + length ls) s line).state) es

@@ -1,5 +1,5 @@
 -- A line that the machine takes and whose reply is gathered.
-use Rattle.std.proofs.Common.{◌≡◌, ℕ, ◌+◌, ◌≤◌, Bool, true, List, ◌++◌, Result, Ok, Err, OnOk, IfOk, IfErr, refl, sym, ◌∙◌, ap, subst}
+use Rattle.std.proofs.Common.{◌≡◌, ℕ, ◌+◌, ◌≤◌, Bool, true, arith, inl, inr, List, ◌++◌, Result, Ok, Err, OnOk, IfOk, IfErr, refl, sym, ◌∙◌, ap, subst}
 use Rattle.bw_types.specs.History.{History}
 use Rattle.bw_types.specs.declared.params.Params.{Params}
 use Rattle.bw_types.specs.declared.row.Row.{Row}
@@ -10,7 +10,7 @@ use Rattle.row_machine.specs.declared.desk.Taken.{Taken}
 use Rattle.row_machine.specs.declared.ending.Ran.{Ran}
 use Rattle.row_machine.specs.declared.ending.Ending.{Ending}
 use Rattle.row_machine.specs.declared.ending.Ending.TheVariants.{Fine, ReadFault, WriteFault, NoMemory, InputLimit, DiskFault, Damaged, PageLimit}
-use Rattle.row_machine.specs.Housed.{GoesOnFrom, IsAt, Went, Stops, StopsFor, Settled, SettledBetween, OnlyBetween, Leaves}
+use Rattle.row_machine.specs.Housed.{GoesOnFrom, IsAt, Went, Stops, StopsFor, Settled, SettledBetween, OnlyBetween, Leaves, version_need}
 use Rattle.row_machine.specs.Serving.{Breaks, ServesText}
 use Rattle.row_machine.proofs.Housing.{goes_on_same, settled_between}
 
@@ -19,21 +19,22 @@ module _ {H D : Type 0} (g : Ghosts H D) (whole : Bool) (params : Params) (h : H
   pub text_served : (taken : Taken H D g) (gathered gathered' : List ℕ) (result : Result (Desk H D g) (Ran D))
       → Went g whole params t (Ok taken) → (whole ≡ true → Leaves g params h t.state.history before (Ok taken)) → GoesOnFrom h t.state.history
       → (reading → g.reads (g.device taken.desk.house) ≤ g.reads before + cost)
+      → (whole ≡ true → g.charge (g.device taken.desk.house) ≤ g.charge before + version_need t.reply (g.need params h rows))
       → IfOk result (λ new. new ≡ taken.desk)
       → OnOk result (gathered' ≡ gathered ++ replied taken.reply)
       → IfErr result (λ ran. (ran.device ≡ g.device taken.desk.house) × (ran.ending ≡ NoMemory))
       → ServesText g whole params h t rows reading cost before gathered gathered' result
-  text_served taken gathered gathered' (Ok desk) went leaves goes reads same gathers ended = record {
+  text_served taken gathered gathered' (Ok desk) went leaves goes reads charge same gathers ended = record {
     at = subst (λ (d : Desk H D g). IsAt g whole params t.state d) (sym same) went.0;
     replies = gathers ∙ ap (λ r. gathered ++ replied r) went.1;
+    charge = λ e. subst (λ (d : Desk H D g). g.charge (g.device d.house) ≤ g.charge before + version_need t.reply (g.need params h rows)) (sym same) (charge e);
     reads = λ r. subst (λ (d : Desk H D g). g.reads (g.device d.house) ≤ g.reads before + cost) (sym same) (reads r);
     any_moment = λ e. subst (λ (d : Desk H D g). OnlyBetween g params h t.state.history before (g.device d.house)) (sym same) (leaves e).any_moment;
     settled = λ e s. subst (λ (d : Desk H D g). Settled g params t.state.history (g.device d.house)) (sym same) ((leaves e).settled s);
   }
-  text_served taken gathered gathered' (Err ran) went leaves goes reads same gathers ended = record {
+  text_served taken gathered gathered' (Err ran) went leaves goes reads charge same gathers ended = record {
     sure = t.state.history;
-    begins = goes;
-    within = goes_on_same t.state.history;
+    which = inr refl;
     stands = λ other. subst (λ (d : D). g.stands whole d params t.state.history) (sym ended.0) went.0.stands;
     undamaged = λ page e. let no : NoMemory ≡ Damaged page = sym ended.1 ∙ e in cc;
     page_limit = λ n e. absurd (let no : NoMemory ≡ PageLimit n = sym ended.1 ∙ e in cc);
@@ -56,16 +57,24 @@ module _ {H D : Type 0} (g : Ghosts H D) (whole : Bool) (params : Params) (h : H
 
   -- the run ended in the step
   pub step_broke : (ran : Ran D) → Stops g whole params h t rows (Err ran) → (whole ≡ true → Leaves g params h t.state.history before (Err ran)) → GoesOnFrom h t.state.history
-      → (reading → g.reads ran.device ≤ g.reads before + cost) → Breaks g whole params h t rows reading cost before ran
-  step_broke ran stops leaves goes reads = record {
+      → (reading → g.reads ran.device ≤ g.reads before + cost) → (whole ≡ true → (ran.ending ≡ DiskFault → ⊥) → g.charge ran.device ≡ g.charge before)
+      → Breaks g whole params h t rows reading cost before ran
+  step_broke ran stops leaves goes reads charge = record {
     sure = h;
-    begins = goes_on_same h;
-    within = goes;
+    which = inl refl;
     stands = still_stands ran.ending ran.device stops;
     undamaged = λ page e. subst (λ (s : Ending). StopsFor g whole params h t rows s ran.device) e stops;
     page_limit = λ n e.
-        let s = subst (λ (s : Ending). StopsFor g whole params h t rows s ran.device) e stops in
-        (s.1, refl, s.2, s.3);
+        let s = subst (λ (s : Ending). StopsFor g whole params h t rows s ran.device) e stops in (
+          s.1,
+          refl,
+          s.2,
+          s.3,
+          λ whole.
+              let same = charge whole (λ f. let no : PageLimit n ≡ DiskFault = sym e ∙ f in cc) in
+              let most = s.4 in
+              omega arith,
+        );
     reads = reads;
     any_moment = λ e. (leaves e).any_moment;
     settled = λ e. (leaves e).lost;

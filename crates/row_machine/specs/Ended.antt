@@ -2,12 +2,12 @@
 use Rattle.std.specs.Prelude.{◌≡◌, ℕ, ◌+◌, Bool, true, IsTrue, List, ◌++◌, length}
 use Rattle.bw_types.specs.History.{History}
 use Rattle.bw_types.specs.declared.params.Params.{Params}
-use Rattle.csv_rows.specs.Lines.{is_whole, lines, whole_part}
+use Rattle.line_reader.specs.Lines.{is_whole, lines, whole_part}
 use Rattle.csv_rows.specs.Machine.{State, replies, state_after, text, after, begun}
 use Rattle.warehouse.specs.declared.house.House.{Ghosts}
 use Rattle.row_machine.specs.declared.ending.Ran.{Ran}
 use Rattle.row_machine.specs.declared.ending.Ending.TheVariants.{Fine}
-use Rattle.row_machine.specs.Housed.{GoesOnFrom, Settled}
+use Rattle.row_machine.specs.Housed.{GoesOnFrom, OnlyBetween, Settled, SettledBetween}
 use Rattle.row_machine.specs.Runs.{WritesPart}
 use Rattle.row_machine.specs.Serving.{Ends, IsInputEnding, MayServe}
 
@@ -46,6 +46,17 @@ module _ {H D : Type 0} (g : Ghosts H D) where
   FineSettles = (tells tells' still : Bool) (params : Params) (begin : State) (input left : List ℕ) (before : D) (ran : Ran D) (written written' : List ℕ)
       → Ends g true tells tells' still params begin input left before ran written written' → ran.ending ≡ Fine
       → Settled g params begin.history before → Settled g params (state_after params 1 begin (lines input)).history ran.device
+
+  -- Whatever is sure, or may be left, lies between the history of the beginning and that after all lines.
+  pub record WithinAll (params : Params) (begin : State) (input : List ℕ) (before : D) (sure : History) (ran : Ran D) : Type 0 where
+    pub begins : GoesOnFrom begin.history sure
+    pub within : GoesOnFrom sure (state_after params 1 begin (lines input)).history
+    pub any_moment : OnlyBetween g params begin.history (state_after params 1 begin (lines input)).history before ran.device
+    pub settled : Settled g params begin.history before → SettledBetween g params sure (state_after params 1 begin (lines input)).history ran.device
+
+  abbrev pub EndsWithinAll : Type 0
+  EndsWithinAll = (tells tells' still : Bool) (params : Params) (begin : State) (input left : List ℕ) (before : D) (ran : Ran D) (written written' : List ℕ)
+      → (e : Ends g true tells tells' still params begin input left before ran written written') → WithinAll params begin input before e.sure ran
 
 -- Where the device is whole for commits, all lines may be served.
 abbrev pub AllMayBeServed : Type 0

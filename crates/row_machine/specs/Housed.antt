@@ -1,5 +1,5 @@
 -- What a line does to a desk over any house, and to the device below it.
-use Rattle.std.specs.Prelude.{◌≡◌, ℕ, ◌+◌, ◌≤◌, ⊤, Bool, true, false, List, [], ◌++◌, Option, Some, None, Result, Ok, Err, IfErr, unwrap_or, nat_le, if◌then◌else◌}
+use Rattle.std.specs.Prelude.{◌≡◌, ℕ, ◌+◌, ◌<◌, ◌≤◌, ⊤, Bool, true, false, List, [], ◌++◌, Option, Some, None, Result, Ok, Err, IfErr, unwrap_or, nat_le, if◌then◌else◌}
 use Rattle.bw_types.specs.History.{History, last_version}
 use Rattle.bw_types.specs.declared.params.Params.{Params}
 use Rattle.bw_types.specs.declared.query.Query.{Query}
@@ -61,6 +61,17 @@ IsHouseEnding DiskFault = ⊤
 IsHouseEnding (Damaged page) = ⊤
 IsHouseEnding (PageLimit allotted) = ⊤
 
+-- the pages that a step needs, of those that its batch needs where it is put last
+abbrev pub version_need : Option Reply → ℕ → ℕ
+version_need None n = 0
+version_need (Some (Version version)) n = n
+version_need (Some (Refused refusal)) n = 0
+version_need (Some (Dropped session)) n = 0
+version_need (Some (Answer kind version value)) n = 0
+version_need (Some (Bad line)) n = 0
+version_need (Some (Full line)) n = 0
+version_need (Some (NoVersion line)) n = 0
+
 -- the rows that a line commits: those that its session has staged
 abbrev pub rows_committed : State → Option Input → List Row
 rows_committed s None = []
@@ -98,6 +109,7 @@ module _ {H D : Type 0} (g : Ghosts H D) where
   StopsFor whole params h t rows NoMemory d = g.stands whole d params h
   StopsFor whole params h t rows (PageLimit allotted) d =
       g.stands whole d params h × IsVersion t.reply × (allotted ≡ params.pages) × g.lacks_pages d params h rows
+      × (params.pages < g.charge d + g.need params h rows)
   StopsFor whole params h t rows DiskFault d = ⊤
 
   abbrev pub Stops : Bool → Params → History → Step → List Row → Result (Taken H D g) (Ran D) → Type 0
@@ -132,6 +144,23 @@ module _ {H D : Type 0} (g : Ghosts H D) where
     pub settled : Settled params h before → SettledAfter params h' result
     pub lost : Settled params h before → SettledBetween params h h' (device_left result)
 
+  -- a line that is taken needs no more pages than its step does, and one that ends the run needs none
+  abbrev pub Charges : Params → History → D → Step → List Row → Result (Taken H D g) (Ran D) → Type 0
+  Charges params h before t rows (Ok taken) = g.charge (g.device taken.desk.house) ≤ g.charge before + version_need t.reply (g.need params h rows)
+  Charges params h before t rows (Err ran) = (ran.ending ≡ DiskFault → ⊥) → g.charge ran.device ≡ g.charge before
+
+  -- the image holds a history that goes on from this one
+  pub record KeepsFrom (params : Params) (first : History) (x : g.Image) : Type 0 where
+    pub kept : History
+    pub keeps : g.keeps x params kept
+    pub begins : GoesOnFrom first kept
+
+  abbrev pub SettledFrom : Params → History → D → Type 0
+  SettledFrom params first d = (x : g.Image) → g.now (g.moments d) x → KeepsFrom params first x
+
+  abbrev pub OnlyFrom : Params → History → D → D → Type 0
+  OnlyFrom params first old new = OnlyLeaves g.clock g.since (KeepsFrom params first) (g.moments old) (g.moments new)
+
   abbrev pub KeepsParams : Params → Result (Taken H D g) (Ran D) → Type 0
   KeepsParams params (Ok taken) = taken.desk.params ≡ params
   KeepsParams params (Err ran) = ⊤
@@ -150,6 +179,7 @@ module _ {H D : Type 0} (g : Ghosts H D) where
     pub stops : (whole : Bool) (h : History) → may whole → g.stands whole before ps h → Stops whole ps h (t h) (rows h) result
     pub reads : (whole : Bool) (h : History) → may false → g.stands whole before ps h → g.reads (device_left result) ≤ g.reads before + cost h
     pub leaves : (h : History) → g.stands true before ps h → Leaves ps h (t h).state.history before result
+    pub charge : (h : History) → g.stands true before ps h → Charges ps h before (t h) (rows h) result
     pub faults : g.faults before ≤ g.faults (device_left result)
     pub own : IfErr result (λ ran. IsHouseEnding ran.ending)
     pub disk : DiskCause before result

@@ -1,21 +1,21 @@
 -- What serving lines does to the input, the machine, its device and the output.
-use Rattle.std.specs.Prelude.{◌≡◌, ℕ, ◌+◌, ◌<◌, ◌≤◌, ⊤, Bool, true, false, IsTrue, List, [], ◌∷◌, ◌++◌, length, Option, Some, IfSome, Result, Ok, Err}
+use Rattle.std.specs.Prelude.{◌≡◌, ◌⊎◌, ℕ, ◌+◌, ◌<◌, ◌≤◌, ⊤, Bool, true, false, IsTrue, List, [], ◌∷◌, ◌++◌, length, Option, Some, IfSome, Result, Ok, Err}
 use Rattle.bw_types.specs.History.{History}
 use Rattle.bw_types.specs.declared.params.Params.{Params}
 use Rattle.bw_types.specs.declared.query.Query.{Query}
 use Rattle.bw_types.specs.declared.row.Row.{Row}
 use Rattle.csv_rows.specs.Input.{input}
-use Rattle.csv_rows.specs.Lines.{lines, whole_part, TakesLine}
-use Rattle.csv_rows.specs.Reader.{ReaderState}
+use Rattle.line_reader.specs.Lines.{lines, whole_part, TakesLine}
+use Rattle.line_reader.specs.Reader.{ReaderState}
 use Rattle.csv_rows.specs.Machine.{State, Step, step, replied, replies, state_after}
-use Rattle.csv_rows.specs.declared.lines.Line.{Line}
-use Rattle.csv_rows.specs.declared.lines.Line.TheVariants.{End}
+use Rattle.line_reader.specs.declared.lines.Line.{Line}
+use Rattle.line_reader.specs.declared.lines.Line.TheVariants.{End}
 use Rattle.warehouse.specs.declared.house.House.{Ghosts}
 use Rattle.row_machine.specs.declared.desk.Desk.{Desk}
 use Rattle.row_machine.specs.declared.ending.Ran.{Ran}
 use Rattle.row_machine.specs.declared.ending.Ending.{Ending}
 use Rattle.row_machine.specs.declared.ending.Ending.TheVariants.{Fine, ReadFault, WriteFault, NoMemory, InputLimit, DiskFault, Damaged, PageLimit}
-use Rattle.row_machine.specs.Housed.{GoesOnFrom, IsAt, IsVersion, MayTake, Settled, SettledBetween, OnlyBetween, input_cost, rows_committed}
+use Rattle.row_machine.specs.Housed.{GoesOnFrom, IsAt, IsHouseEnding, IsVersion, MayTake, Settled, SettledBetween, SettledFrom, OnlyBetween, OnlyFrom, input_cost, rows_committed, version_need}
 use Rattle.row_machine.specs.Runs.{WritesPart}
 
 -- a reader that has not stopped, or has stopped at the end of the input
@@ -41,16 +41,22 @@ MayServe whole params (line ∷ rest) = MayTake whole (input params line) × May
 abbrev pub line_cost : (Params → History → Query → ℕ) → Params → History → List ℕ → ℕ
 line_cost cost params h line = input_cost cost params h (input params line)
 
+-- the sum over the lines, the first of which has the number n, of what each adds in the state before it
+abbrev pub lines_sum : (ℕ → State → List ℕ → ℕ) → Params → ℕ → State → List (List ℕ) → ℕ
+lines_sum part params n s [] = 0
+lines_sum part params n s (line ∷ rest) = part n s line + lines_sum part params (n + 1) (step params n s line).state rest
+
 -- the most reads that the lines ask for, the first of which has the number n
 abbrev pub lines_cost : (Params → History → Query → ℕ) → Params → ℕ → State → List (List ℕ) → ℕ
-lines_cost cost params n s [] = 0
-lines_cost cost params n s (line ∷ rest) =
-    line_cost cost params s.history line + lines_cost cost params (n + 1) (step params n s line).state rest
+lines_cost cost params n s ls = lines_sum (λ k t line. line_cost cost params t.history line) params n s ls
 
--- the most reads that the next line asks for, where there is one
-abbrev pub next_cost : (Params → History → Query → ℕ) → Params → State → List (List ℕ) → ℕ
-next_cost cost params s [] = 0
-next_cost cost params s (line ∷ rest) = line_cost cost params s.history line
+-- the pages that a line needs, which has the number n: those of its batch, where that is put last
+abbrev pub line_need : (Params → History → List Row → ℕ) → Params → ℕ → State → List ℕ → ℕ
+line_need need params n s line = version_need (step params n s line).reply (need params s.history (rows_committed s (input params line)))
+
+-- the pages that the lines need, the first of which has the number n
+abbrev pub lines_need : (Params → History → List Row → ℕ) → Params → ℕ → State → List (List ℕ) → ℕ
+lines_need need params n s ls = lines_sum (line_need need params) params n s ls
 
 -- the rows that the next line commits
 abbrev pub next_rows : Params → State → List (List ℕ) → List Row
@@ -110,11 +116,13 @@ module _ {H D : Type 0} (g : Ghosts H D) where
   device_after (Ok desk) = g.device desk.house
   device_after (Err ran) = ran.device
 
-  -- From the history h the machine made this step, and its reply was gathered. Where the line only reads, the reads are counted.
-  pub record Serves (whole : Bool) (params : Params) (h : History) (t : Step) (reading : Type 0) (cost : ℕ) (before : D) (new : Desk H D g) (gathered gathered' : List ℕ) : Type 0 where
+  -- From the history h the machine made this step, which commits these rows, and its reply was gathered. Where the line only
+  -- reads, the reads are counted.
+  pub record Serves (whole : Bool) (params : Params) (h : History) (t : Step) (rows : List Row) (reading : Type 0) (cost : ℕ) (before : D) (new : Desk H D g) (gathered gathered' : List ℕ) : Type 0 where
     pub at : IsAt g whole params t.state new
     pub replies : gathered' ≡ gathered ++ replied t.reply
     pub reads : reading → g.reads (g.device new.house) ≤ g.reads before + cost
+    pub charge : whole ≡ true → g.charge (g.device new.house) ≤ g.charge before + version_need t.reply (g.need params h rows)
     pub any_moment : whole ≡ true → OnlyBetween g params h t.state.history before (g.device new.house)
     pub settled : whole ≡ true → Settled g params h before → Settled g params t.state.history (g.device new.house)
 
@@ -122,26 +130,26 @@ module _ {H D : Type 0} (g : Ghosts H D) where
   -- before the step or that after it, and what a crash may leave lies between the sure one and that after it.
   pub record Breaks (whole : Bool) (params : Params) (h : History) (t : Step) (rows : List Row) (reading : Type 0) (cost : ℕ) (before : D) (ran : Ran D) : Type 0 where
     pub sure : History
-    pub begins : GoesOnFrom h sure
-    pub within : GoesOnFrom sure t.state.history
+    pub which : (sure ≡ h) ⊎ (sure ≡ t.state.history)
     pub stands : (ran.ending ≡ DiskFault → ⊥) → g.stands whole ran.device params sure
     pub undamaged : (page : ℕ) → ran.ending ≡ Damaged page → ⊥
     pub page_limit : (allotted : ℕ) → ran.ending ≡ PageLimit allotted
         → IsVersion t.reply × (sure ≡ h) × (allotted ≡ params.pages) × g.lacks_pages ran.device params h rows
+        × (whole ≡ true → params.pages < g.charge before + g.need params h rows)
     pub reads : reading → g.reads ran.device ≤ g.reads before + cost
     pub any_moment : whole ≡ true → OnlyBetween g params h t.state.history before ran.device
     pub settled : whole ≡ true → Settled g params h before → SettledBetween g params sure t.state.history ran.device
 
   -- The line is served, or the run ends in it.
   abbrev pub ServesText : Bool → Params → History → Step → List Row → Type 0 → ℕ → D → List ℕ → List ℕ → Result (Desk H D g) (Ran D) → Type 0
-  ServesText whole params h t rows reading cost before gathered gathered' (Ok desk) = Serves whole params h t reading cost before desk gathered gathered'
+  ServesText whole params h t rows reading cost before gathered gathered' (Ok desk) = Serves whole params h t rows reading cost before desk gathered gathered'
   ServesText whole params h t rows reading cost before gathered gathered' (Err ran) = Breaks whole params h t rows reading cost before ran
 
   -- The next line, which has the number n, is taken off the input and served.
   pub record ServesLine (whole : Bool) (params : Params) (n : ℕ) (before after : List ℕ) (stopped : Option Line) (h : History) (old new : Desk H D g) (gathered gathered' : List ℕ) : Type 0 where
     pub line : List ℕ
     pub takes : TakesLine before line after stopped
-    pub serves : Serves whole params h (step params n (state_at h old) line) (MayTake false (input params line)) (line_cost g.cost params h line) (g.device old.house) new gathered gathered'
+    pub serves : Serves whole params h (step params n (state_at h old) line) (rows_committed (state_at h old) (input params line)) (MayTake false (input params line)) (line_cost g.cost params h line) (g.device old.house) new gathered gathered'
 
   -- The next line, which has the number n, is taken off the input, and the run ends in it.
   pub record BreaksOff (whole : Bool) (params : Params) (n : ℕ) (before : List ℕ) (h : History) (old : Desk H D g) (ran : Ran D) : Type 0 where
@@ -151,27 +159,53 @@ module _ {H D : Type 0} (g : Ghosts H D) where
     pub takes : TakesLine before line after stopped
     pub breaks : Breaks whole params h (step params n (state_at h old) line) (rows_committed (state_at h old) (input params line)) (MayTake false (input params line)) (line_cost g.cost params h line) (g.device old.house) ran
 
-  -- What is left when a run over an input ends. Some of its lines were served whole, and what was written are replies
-  -- to them, from the first on. The history that is sure has all that these lines have committed; the device stands for it, unless
-  -- it failed, and what a crash may leave now goes on from it.
+  -- What is left when a run over an input ends. Some of its lines were served whole, at most one was begun then, and the rest
+  -- was not begun. What was written are replies to the lines that were served, from the first on. The history that is sure has all
+  -- that these lines have committed, or the line that was begun too; the device stands for it, unless it failed, and what a
+  -- crash may leave now goes on from it.
   pub record Ends (whole tells tells' still : Bool) (params : Params) (begin : State) (input left : List ℕ) (before : D) (ran : Ran D) (written written' : List ℕ) : Type 0 where
     pub served : List (List ℕ)
+    pub begun : List (List ℕ)
     pub rest : List (List ℕ)
-    pub cut : lines input ≡ served ++ rest
+    pub cut : lines input ≡ served ++ (begun ++ rest)
+    pub one : length begun ≤ 1
+    pub between : IsBetweenLines ran.ending → begun ≡ []
     pub fine : ran.ending ≡ Fine → rest ≡ []
     pub taken : IsInputEnding ran.ending → IsTrue still → TakesWhole input left served
     pub wrote : IsTrue tells → IsTrue tells' → WritesPart written written' (replies params 1 begin served)
     pub flushed : IsFlushed ran.ending → IsTrue tells → IsTrue tells' → written' ≡ written ++ replies params 1 begin served
     pub sure : History
-    pub begins : GoesOnFrom (state_after params 1 begin served).history sure
-    pub within : GoesOnFrom sure (state_after params 1 begin (lines input)).history
-    pub between : IsBetweenLines ran.ending → sure ≡ (state_after params 1 begin served).history
+    pub which : (sure ≡ (state_after params 1 begin served).history) ⊎ (sure ≡ (state_after params 1 begin (served ++ begun)).history)
     pub stands : (ran.ending ≡ DiskFault → ⊥) → g.stands whole ran.device params sure
     pub undamaged : (page : ℕ) → ran.ending ≡ Damaged page → ⊥
     pub page_limit : (allotted : ℕ) → ran.ending ≡ PageLimit allotted
-        → NextIsVersion params (1 + length served) (state_after params 1 begin served) rest × (sure ≡ (state_after params 1 begin served).history)
-        × (allotted ≡ params.pages) × g.lacks_pages ran.device params sure (next_rows params (state_after params 1 begin served) rest)
-    pub reads : MayServe false params (lines input) → g.reads ran.device ≤ g.reads before + (lines_cost g.cost params 1 begin served + next_cost g.cost params (state_after params 1 begin served) rest)
-    pub reads_between : IsBetweenLines ran.ending → MayServe false params (lines input) → g.reads ran.device ≤ g.reads before + lines_cost g.cost params 1 begin served
-    pub any_moment : whole ≡ true → OnlyBetween g params begin.history (state_after params 1 begin (lines input)).history before ran.device
-    pub settled : whole ≡ true → Settled g params begin.history before → SettledBetween g params sure (state_after params 1 begin (lines input)).history ran.device
+        → NextIsVersion params (1 + length served) (state_after params 1 begin served) begun × (sure ≡ (state_after params 1 begin served).history)
+        × (allotted ≡ params.pages) × g.lacks_pages ran.device params sure (next_rows params (state_after params 1 begin served) begun)
+        × (whole ≡ true → params.pages < g.charge before + lines_need g.need params 1 begin (served ++ begun))
+    pub reads : MayServe false params (lines input) → g.reads ran.device ≤ g.reads before + lines_cost g.cost params 1 begin (served ++ begun)
+    pub any_moment : whole ≡ true → OnlyBetween g params begin.history (state_after params 1 begin (served ++ begun)).history before ran.device
+    pub settled : whole ≡ true → Settled g params begin.history before → SettledBetween g params sure (state_after params 1 begin (served ++ begun)).history ran.device
+
+  -- What lasts when a run ends, over whatever input: the device stands for a history that goes on from the first, unless it failed,
+  -- and what a crash may leave goes on from that.
+  pub record Lasts (params : Params) (h : History) (before : D) (ran : Ran D) : Type 0 where
+    pub sure : History
+    pub begins : GoesOnFrom h sure
+    pub stands : (ran.ending ≡ DiskFault → ⊥) → g.stands true ran.device params sure
+    pub undamaged : (page : ℕ) → ran.ending ≡ Damaged page → ⊥
+    pub page_limit : (allotted : ℕ) → ran.ending ≡ PageLimit allotted
+        → (allotted ≡ params.pages) × (rows : List Row) × g.lacks_pages ran.device params sure rows
+    pub any_moment : OnlyFrom g params h before ran.device
+    pub settled : Settled g params h before → SettledFrom g params sure ran.device
+
+  -- The same between two lines, where the run goes on.
+  pub record LastsSoFar (params : Params) (h : History) (before now : D) : Type 0 where
+    pub sure : History
+    pub begins : GoesOnFrom h sure
+    pub stands : g.stands true now params sure
+    pub any_moment : OnlyFrom g params h before now
+    pub settled : Settled g params h before → Settled g params sure now
+
+  abbrev pub LastsBeyond : Params → History → D → Result (Desk H D g) (Ran D) → Type 0
+  LastsBeyond params h before (Ok desk) = LastsSoFar params h before (g.device desk.house)
+  LastsBeyond params h before (Err ran) = IsHouseEnding ran.ending → Lasts params h before ran

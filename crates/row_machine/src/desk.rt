@@ -20,7 +20,6 @@ use warehouse::{Committed, House, QueryFault};
 #[derive(Drop)]
 pub struct Desk<H: House> {
     pub params: Params,
-    pub rows: RowReader,
     pub house: H,
     pub sessions: Sessions,
     ghost same: { H.params house ≡ params },
@@ -47,7 +46,6 @@ impl<H: House> Desk<H> {
     {
         Desk {
             params: house.params(),
-            rows: RowReader::new(alloc),
             house,
             sessions: Sessions::new(alloc),
         }
@@ -64,11 +62,12 @@ impl<H: House> Desk<H> {
         }
     }
 
-    /// Takes the line with this number, and answers what it is replied. What stands in `ahead` changes
+    /// Takes the line with this number, and answers what it is replied. Where `rows` stands, and what is in `ahead`, change
     /// nothing: where the next lines stand there, their rows are read sooner.
     pub fn take_line(
         self,
         alloc: Global,
+        rows: &mut RowReader,
         number: u64,
         line: &[u8],
         ahead: &[u8],
@@ -78,15 +77,13 @@ impl<H: House> Desk<H> {
             (λ h. step self.params number (record { history = h; staged = self.sessions }) line.now)
             (λ h. rows_committed (record { history = h; staged = self.sessions }) (input self.params line.now)) (λ h. input_cost H.cost self.params h (input self.params line.now)) result }
     {
-        let mut desk = self;
-        let params = desk.params;
-        match desk.rows.read_row(alloc, line, ahead, &params) {
-            Err(_) => Err(desk.ended(Ending::NoMemory)),
+        match rows.read_row(alloc, line, ahead, &self.params) {
+            Err(_) => Err(self.ended(Ending::NoMemory)),
             Ok(None) => Ok(Taken {
-                desk,
+                desk: self,
                 reply: Some(Reply::Bad { line: number }),
             }),
-            Ok(Some(input)) => desk.take_input(number, &input),
+            Ok(Some(input)) => self.take_input(number, &input),
         }
     }
 
@@ -151,7 +148,6 @@ impl<H: House> Desk<H> {
     {
         let Desk {
             params,
-            rows,
             house,
             mut sessions,
         } = self;
@@ -160,7 +156,6 @@ impl<H: House> Desk<H> {
                 sessions.clear(session);
                 let desk = Desk {
                     params,
-                    rows,
                     house,
                     sessions,
                 };
@@ -173,7 +168,6 @@ impl<H: House> Desk<H> {
                 sessions.clear(session);
                 let desk = Desk {
                     params,
-                    rows,
                     house,
                     sessions,
                 };

@@ -1,7 +1,7 @@
 //! What follows from how a run ended, and the laws of what is written and kept.
-ghost use Rattle.row_machine.specs.Ended.{AfterGoesOn, AfterJoins, AllMayBeServed, EndsInPart, FineServesAll, FineSettles, InputServesWhole, TextJoins};
+ghost use Rattle.row_machine.specs.Ended.{AfterGoesOn, AfterJoins, AllMayBeServed, EndsInPart, EndsWithinAll, FineServesAll, FineSettles, InputServesWhole, TextJoins};
 
-use csv_rows::lines_join;
+use line_reader::lines_join;
 use warehouse::House;
 
 /// Proves what follows from the way in which `serve` says that a run ended; it does nothing when it runs.
@@ -10,6 +10,7 @@ pub fn ends_laws<H: House>()
     ensures fine { FineServesAll ⟦<H as House>⟧ }
     ensures input { InputServesWhole ⟦<H as House>⟧ }
     ensures settles { FineSettles ⟦<H as House>⟧ }
+    ensures within { EndsWithinAll ⟦<H as House>⟧ }
 {}
 
 /// Proves that all lines may be served, that a history only goes on, and that inputs join at a line's end; it does nothing when it runs.

@@ -3,21 +3,22 @@ ghost use Rattle.std.specs.Prelude.{◌≡◌, ◌≢◌, ℕ, ◌+◌, ◌<◌,
 ghost use Rattle.counts.specs.Count.{Rose};
 ghost use Rattle.bw_types.specs.Fits.{IsInRange};
 ghost use Rattle.bw_types.specs.History.{History};
-ghost use Rattle.csv_rows.specs.Lines.{lines, PassesNoLineFeed};
-ghost use Rattle.csv_rows.specs.Reader.{to_come};
-ghost use Rattle.csv_rows.specs.Input.{input, longest_line};
+ghost use Rattle.line_reader.specs.Lines.{lines, PassesNoLineFeed};
+ghost use Rattle.line_reader.specs.Reader.{to_come};
+ghost use Rattle.csv_rows.specs.Input.{input};
 ghost use Rattle.csv_rows.specs.Machine.{step, replied};
-ghost use Rattle.csv_rows.specs.declared.lines.Line.TheVariants as answered;
+ghost use Rattle.line_reader.specs.declared.lines.Line.TheVariants as answered;
 ghost use Rattle.row_machine.specs.Outbox.{gathered};
 ghost use Rattle.row_machine.specs.Runs.{WritesMore, WritesPart};
 ghost use Rattle.row_machine.specs.Housed.{IsHouseEnding, MayTake, rows_committed};
-ghost use Rattle.row_machine.specs.Serving.{BreaksOff, Ends, GoesOn, IsBetweenLines, IsFlushed, MayGoOn, MayServe, SeenEnd, ServesLine, ServesText, device_after, line_cost, state_at};
+ghost use Rattle.row_machine.specs.Serving.{BreaksOff, Ends, GoesOn, IsBetweenLines, IsFlushed, Lasts, LastsBeyond, MayGoOn, MayServe, SeenEnd, ServesLine, ServesText, device_after, line_cost, state_at};
 
 use crate::desk::Desk;
 use crate::ending::{Ending, Ran};
 use crate::outbox::Outbox;
 use byte_ports::{Sink, Source};
-use csv_rows::{Line, LineReader, Reply, lines_join, whole_joins, whole_part_of_passed};
+use csv_rows::{Reply, RowReader};
+use line_reader::{Line, LineReader, lines_join, whole_joins, whole_part_of_passed};
 use std::alloc::Global;
 use warehouse::House;
 
@@ -25,6 +26,7 @@ use warehouse::House;
 pub const INPUT_LIMIT: u64 = 1 << 40;
 
 // Gathers the reply of a step that the machine made.
+#[inline(always)]
 fn reply_to<H: House>(
     alloc: Global,
     desk: Desk<H>,
@@ -46,6 +48,7 @@ fn reply_to<H: House>(
 fn serve_text<H: House>(
     alloc: Global,
     desk: Desk<H>,
+    rows: &mut RowReader,
     number: u64,
     line: &[u8],
     ahead: &[u8],
@@ -56,12 +59,13 @@ fn serve_text<H: House>(
     ensures serves { (whole : Bool) (h : History) → MayTake whole (input desk.params line.now) → H.stands whole (H.device desk.house) desk.params h →
         ServesText ⟦<H as House>⟧ whole desk.params h (step desk.params number (state_at ⟦<H as House>⟧ h desk) line.now)
         (rows_committed (state_at ⟦<H as House>⟧ h desk) (input desk.params line.now)) (MayTake false (input desk.params line.now)) (line_cost H.cost desk.params h line.now) (H.device desk.house) (gathered outbox.old) (gathered outbox.new) result }
+    ensures lasts { (h : History) → H.stands true (H.device desk.house) desk.params h → LastsBeyond ⟦<H as House>⟧ desk.params h (H.device desk.house) result }
     ensures within { IfErr result (λ ran. IsHouseEnding ran.ending) }
     ensures unsaid { OnErr result (gathered outbox.new ≡ gathered outbox.old) }
     ensures faults { H.faults (H.device desk.house) ≤ H.faults (device_after ⟦<H as House>⟧ result) }
     ensures disk_fault { IfErr result (λ ran. ran.ending ≡ Ending.DiskFault → Rose (H.faults (H.device desk.house)) (H.faults ran.device)) }
 {
-    match desk.take_line(alloc, number, line, ahead) {
+    match desk.take_line(alloc, rows, number, line, ahead) {
         Ok(taken) => reply_to(alloc, taken.desk, taken.reply, outbox),
         Err(ran) => Err(ran),
     }
@@ -75,9 +79,10 @@ fn serve_long<H: House>(
     outbox: &mut Outbox,
 ) -> Result<Desk<H>, Ran<H::Device>>
     ensures params { IfOk result (λ new. new.params ≡ desk.params) }
-    ensures serves { (whole : Bool) (h : History) (line : List ℕ) → longest_line < length line → H.stands whole (H.device desk.house) desk.params h →
+    ensures serves { (whole : Bool) (h : History) (line : List ℕ) → 4096 < length line → H.stands whole (H.device desk.house) desk.params h →
         ServesText ⟦<H as House>⟧ whole desk.params h (step desk.params number (state_at ⟦<H as House>⟧ h desk) line)
         (rows_committed (state_at ⟦<H as House>⟧ h desk) (input desk.params line)) (MayTake false (input desk.params line)) (line_cost H.cost desk.params h line) (H.device desk.house) (gathered outbox.old) (gathered outbox.new) result }
+    ensures lasts { (h : History) → H.stands true (H.device desk.house) desk.params h → LastsBeyond ⟦<H as House>⟧ desk.params h (H.device desk.house) result }
     ensures within { IfErr result (λ ran. IsHouseEnding ran.ending) }
     ensures unsaid { OnErr result (gathered outbox.new ≡ gathered outbox.old) }
     ensures faults { H.faults (H.device desk.house) ≤ H.faults (device_after ⟦<H as House>⟧ result) }
@@ -90,6 +95,7 @@ fn serve_long<H: House>(
 fn serve_line<H: House, S: Source>(
     alloc: Global,
     desk: Desk<H>,
+    rows: &mut RowReader,
     reader: &mut LineReader,
     number: u64,
     outbox: &mut Outbox,
@@ -115,6 +121,8 @@ fn serve_line<H: House, S: Source>(
         (to_come reader.old (S.left source.old)) (to_come reader.new (S.left source.new)) reader.new.stopped
         h desk new (gathered outbox.old) (gathered outbox.new)) }
 
+    ensures lasts { (h : History) → H.stands true (H.device desk.house) desk.params h → LastsBeyond ⟦<H as House>⟧ desk.params h (H.device desk.house) result }
+
     // The run ends between two lines, or in one, of which nothing is replied then.
     ensures ended { IfErr result (λ ran. IsBetweenLines ran.ending ⊎ IsHouseEnding ran.ending) }
     ensures unsaid { OnErr result (gathered outbox.new ≡ gathered outbox.old) }
@@ -137,7 +145,15 @@ fn serve_line<H: House, S: Source>(
         × PassesNoLineFeed (to_come reader.old (S.left source.old)) (S.left source.new))) }
 {
     match reader.next_line(source) {
-        Line::Text => serve_text(alloc, desk, number, reader.text(), reader.ahead(), outbox),
+        Line::Text => serve_text(
+            alloc,
+            desk,
+            rows,
+            number,
+            reader.text(),
+            reader.ahead(),
+            outbox,
+        ),
         Line::Long => serve_long(alloc, desk, number, outbox),
         Line::End => Err(desk.ended(Ending::Fine)),
         Line::Fault => Err(desk.ended(Ending::ReadFault)),
@@ -203,6 +219,8 @@ pub fn serve<H: House, S: Source, K: Sink>(
         → H.stands whole (H.device desk.house) desk.params h →
         Ends ⟦<H as House>⟧ whole (K.tells sink.old) (K.tells sink.new) (S.tells source.new) desk.params (state_at ⟦<H as House>⟧ h desk)
         (S.left source.old) (S.left source.new) (H.device desk.house) result (K.written sink.old) (K.written sink.new) }
+    // The same of the history and of crashes, whatever the source gives.
+    ensures lasts { (h : History) → H.stands true (H.device desk.house) desk.params h → Lasts ⟦<H as House>⟧ desk.params h (H.device desk.house) result }
     ensures at_end { result.ending ≡ Ending.Fine → IsTrue (S.tells source.old) →
         (S.left source.new ≡ []) × (length (S.left source.old) < 2 ^ 40) }
     ensures tells { IsFlushed result.ending → IsTrue (K.tells sink.old) → IsTrue (K.tells sink.new) }
@@ -221,6 +239,8 @@ pub fn serve<H: House, S: Source, K: Sink>(
     whole_part_of_passed();
 
     let mut desk = desk;
+    // A house is moved from line to line; the readers have large buffers, and stay where they are.
+    let mut rows = RowReader::new(alloc);
     let mut reader = LineReader::new(INPUT_LIMIT);
     let mut outbox = Outbox::new(alloc);
     let mut number: u64 = 1;
@@ -228,7 +248,15 @@ pub fn serve<H: House, S: Source, K: Sink>(
         if !put_due(&mut outbox, reader.ahead(), sink) {
             return desk.ended(Ending::WriteFault);
         }
-        match serve_line(alloc, desk, &mut reader, number, &mut outbox, source) {
+        match serve_line(
+            alloc,
+            desk,
+            &mut rows,
+            &mut reader,
+            number,
+            &mut outbox,
+            source,
+        ) {
             Ok(next) => desk = next,
             Err(ran) => return close(ran, &mut outbox, sink),
         }

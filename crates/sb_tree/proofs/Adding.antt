@@ -22,7 +22,7 @@ use Rattle.sb_tree.specs.Stored.{IsStorable, IsStored, IsSecondOf}
 use Rattle.sb_tree.proofs.Nodes.{entries_on-spelled}
 use Rattle.sb_tree.proofs.Paths.{GoesBy-cut, inner_low, inner_high, inner_child}
 use Rattle.sb_tree.proofs.Order.{Ascends, ascends, first_low-later, EachStands-path}
-use Rattle.sb_tree.proofs.Footprints.{once_left, once_right}
+use Rattle.page_layout.specs.FootprintLaws.{once_left, once_right}
 use Rattle.sb_tree.proofs.Freeing.{own_pages, pages-step}
 use Rattle.sb_tree.proofs.Fitting.{Fitting, fitting, fitting_leaf, fitting_beside, beside_path, length-beside, length-takes_in, storable, second_within}
 use Rattle.sb_tree.proofs.Lists.{list_pages}

@@ -20,7 +20,7 @@ use Rattle.sb_tree.specs.Stands.{first_low, StandsBelow}
 use Rattle.sb_tree.proofs.Modular.{mod_under}
 use Rattle.sb_tree.proofs.Paths.{begun_value-append, begun_value-cons, All-head, All-tail}
 use Rattle.sb_tree.proofs.Order.{Ascends, first_low-append, EachStands-split, All-left, All-right}
-use Rattle.sb_tree.proofs.Footprints.{once_left, once_right, once_apart, once_join, apart_sym, named_by_neither}
+use Rattle.page_layout.specs.FootprintLaws.{once_left, once_right, once_apart, once_join, apart_sym, named_by_neither}
 use Rattle.sb_tree.proofs.Freeing.{own_pages}
 use Rattle.sb_tree.proofs.Proper.{ascends_left, ascends_right, first_low-raised, length-raised, All-raised}
 use Rattle.sb_tree.proofs.Fitting.{above_all, length-takes_in}

@@ -1,16 +1,15 @@
 -- Freeing the pages of a tree one child after another.
-use Rattle.std.proofs.Common.{◌≡◌, ℕ, zero, suc, ◌+◌, ◌-◌, ◌<◌, ◌≤◌, ◌^◌, ◌==◌, ◌||◌, ◌⊎◌, Bool, true, false, cond, inl, inr, List, [], ◌∷◌, ◌++◌, length, get_or, take, drop, map, Option, Some, None, IsSome, refl, sym, ap, ◌∙◌, subst, arith, drop-cons}
+use Rattle.std.proofs.Common.{◌≡◌, ℕ, zero, suc, ◌+◌, ◌-◌, ◌<◌, ◌≤◌, ◌^◌, ◌==◌, ◌⊎◌, true, false, inl, inr, List, [], ◌∷◌, ◌++◌, length, get_or, take, drop, map, Option, Some, None, IsSome, refl, sym, ap, ◌∙◌, subst, arith, drop-cons}
 use Rattle.std.proofs.Math.ListN.{get_or-map}
 use Rattle.std.specs.List.{flat_map}
 use Rattle.std.specs.Option.{option_map_or}
-use Rattle.std.proofs.lemmas.Bool.{cases_Bool, or_cases, or_left, or_right, or_parts, eq-eqb, eqb-true}
+use Rattle.std.proofs.lemmas.Bool.{cases_Bool, or_cases, or_left, or_right, eq-eqb}
 use Rattle.std.proofs.lemmas.List.{take-append-drop, length-map, get_or_default}
 use Rattle.std.proofs.lemmas.List.Concat.{flat_map-append}
-use Rattle.std.proofs.lemmas.List.Sums.{sum_by-append, sum_by-cons}
 use Rattle.page_ports.specs.Pages.{PageMap}
 use Rattle.page_ports.specs.Frame.{names_page, AgreeOn, AreInMap, Replaces}
 use Rattle.page_ports.specs.FrameLaws.{Replaces-beside, names_page-append}
-use Rattle.page_layout.specs.Footprint.{NamesNoneTwice, IsNamedTwice, times_named}
+use Rattle.page_layout.specs.Footprint.{IsNamedTwice, times_named}
 use Rattle.page_layout.specs.SbNode.{sb_node_page, sb_node_in}
 use Rattle.page_layout.specs.declared.sb_node.SbNode.{SbNode}
 use Rattle.page_layout.specs.declared.sb_node.SbEntry.{SbEntry}
@@ -21,7 +20,7 @@ use Rattle.sb_tree.specs.Stands.{EachStands, first_low, StandsBelow, RootStands,
 use Rattle.sb_tree.specs.Damage.{FitsLevel, IsDamagedFrom, IsDamagedInside, IsDamagedForFree}
 use Rattle.sb_tree.proofs.Nodes.{entries_on-spelled, same_spelled}
 use Rattle.sb_tree.proofs.Frames.{same_pages}
-use Rattle.sb_tree.proofs.Footprints.{flat_more}
+use Rattle.page_layout.specs.FootprintLaws.{flat_more, named_once, not_twice, times_append, times_cons}
 use Rattle.sb_tree.proofs.Sound.{level_where_stands}
 
 none_some : {bytes : List ℕ} → ◌≡◌ {A = Option (List ℕ)} None (Some bytes) → ⊥
@@ -90,40 +89,6 @@ there_step level page m0 mi es i d h r before there =
     let mine : AreInMap m0 pages = λ p named. subst IsSome (sym (agree p named)) (there p named) in
     let all = all_in_map (page ∷ flat_map (own_pages level m0) (take i es)) (own_pages level m0 (get_or es i d)) m0 before (subst (λ (ps : List ℕ). AreInMap m0 ps) (sym same) mine) in
     subst (λ (ps : List ℕ). AreInMap m0 (page ∷ ps)) (sym (flat_more (own_pages level m0) es i d h)) all
-
--- A page is named as often as by the parts.
-pub times_append : (xs ys : List ℕ) (p : ℕ) → times_named (xs ++ ys) p ≡ times_named xs p + times_named ys p
-times_append xs ys p = sum_by-append (λ (x : ℕ). cond (x == p) 1 0) xs ys
-
-abbrev one_if : Bool → ℕ
-one_if b = cond b 1 0
-
-times_cons : (x : ℕ) (xs : List ℕ) (p : ℕ) → times_named (x ∷ xs) p ≡ cond (x == p) 1 0 + times_named xs p
-times_cons x xs p = sum_by-cons (λ (y : ℕ). cond (y == p) 1 0) x xs
-
-pub named_once : (xs : List ℕ) (p : ℕ) → names_page xs p ≡ true → 1 ≤ times_named xs p
-named_once [] p named = absurd cc
-named_once (x ∷ xs) p named = elim (cases_Bool (x == p)) [
-  | inl here ↦ omega (arith, times_cons x xs p, ap one_if here)
-  | inr other ↦
-      let rest : names_page xs p ≡ true = sym (ap (λ (b : Bool). b || names_page xs p) other) ∙ named in
-      omega (arith, times_cons x xs p, named_once xs p rest)
-]
-
-unnamed : (xs : List ℕ) (p : ℕ) → names_page xs p ≡ false → times_named xs p ≡ 0
-unnamed [] p none = refl
-unnamed (x ∷ xs) p none =
-    let parts = or_parts (x == p) (names_page xs p) none in
-    omega (arith, times_cons x xs p, ap one_if parts.0, unnamed xs p parts.1)
-
-pub not_twice : (xs : List ℕ) (p : ℕ) → NamesNoneTwice xs → times_named xs p ≤ 1
-not_twice [] p once = omega arith
-not_twice (x ∷ xs) p once = elim (cases_Bool (x == p)) [
-  | inl here ↦
-      let none : names_page xs p ≡ false = subst (λ (q : ℕ). names_page xs q ≡ false) (eqb-true x p here) once.0 in
-      omega (arith, times_cons x xs p, ap one_if here, unnamed xs p none)
-  | inr other ↦ omega (arith, times_cons x xs p, ap one_if other, not_twice xs p once.1)
-]
 
 -- A map that lost pages names no page more often.
 flat_fewer : (level : ℕ) (m0 mi : PageMap) (p : ℕ) → ((page : ℕ) → times_named (pages_below level mi page) p ≤ times_named (pages_below level m0 page) p)

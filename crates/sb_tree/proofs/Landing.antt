@@ -23,7 +23,7 @@ use Rattle.sb_tree.proofs.Nodes.{node_on-spelled}
 use Rattle.sb_tree.proofs.Paths.{begun_value-begun}
 use Rattle.sb_tree.proofs.Order.{Ascends, first_low-append, All-right}
 use Rattle.sb_tree.proofs.Frames.{agree_left, agree_right}
-use Rattle.sb_tree.proofs.Footprints.{once_left, once_right, once_apart, once_join, named_by_neither}
+use Rattle.page_layout.specs.FootprintLaws.{once_left, once_right, once_apart, once_join, named_by_neither}
 use Rattle.sb_tree.proofs.Freeing.{own_pages}
 use Rattle.sb_tree.proofs.Proper.{Proper, in_order, proper_left, proper_right, proper_raised, ascends_left, ascends_right, ascends_raised, first_low-raised, length-raised, All-raised}
 use Rattle.sb_tree.proofs.Fitting.{Fitting, ascends_before, above_all}

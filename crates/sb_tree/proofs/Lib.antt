@@ -4,7 +4,6 @@ pub mod Balance
 pub mod EditLemmas
 pub mod Exits
 pub mod Fitting
-pub mod Footprints
 pub mod Frames
 pub mod Freeing
 pub mod Growing

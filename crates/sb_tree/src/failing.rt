@@ -1,7 +1,7 @@
 //! A stage of which one call fails.
 ghost use Rattle.std.specs.Prelude.{◌≡◌, ◌+◌, IsTrue};
-ghost use Rattle.counts.specs.Count.{Rose};
 
+use counts::raised;
 use page_ports::{Page, PageFault, Pages, Stage, StageFault};
 
 /// A stage that fails once, after so many calls: an allotment for want of memory, each other call for
@@ -20,12 +20,6 @@ fn fails(calls_left: &mut u64) -> bool {
     }
     *calls_left -= 1;
     false
-}
-
-fn more(faults: u64) -> u64
-    ensures { Rose faults result }
-{
-    faults.saturating_add(1)
 }
 
 impl<S: Stage + Drop> Pages for Failing<S> {
@@ -51,7 +45,7 @@ impl<S: Stage + Drop> Pages for Failing<S> {
 
     fn get(&mut self, page: u64, buf: &mut Page) -> Result<(), PageFault> {
         if fails(&mut self.calls_left) {
-            self.faults = more(self.faults);
+            self.faults = raised(self.faults);
             return Err(PageFault::Disk);
         }
         self.stage.get(page, buf)
@@ -76,7 +70,7 @@ impl<S: Stage + Drop> Stage for Failing<S> {
 
     fn put(&mut self, page: u64, buf: &Page) -> Result<(), StageFault> {
         if fails(&mut self.calls_left) {
-            self.faults = more(self.faults);
+            self.faults = raised(self.faults);
             return Err(StageFault::Disk);
         }
         self.stage.put(page, buf)
@@ -84,7 +78,7 @@ impl<S: Stage + Drop> Stage for Failing<S> {
 
     fn free(&mut self, page: u64) -> Result<(), StageFault> {
         if fails(&mut self.calls_left) {
-            self.faults = more(self.faults);
+            self.faults = raised(self.faults);
             return Err(StageFault::Disk);
         }
         self.stage.free(page)

@@ -3,7 +3,6 @@ pub mod Digits
 pub mod Sizes
 pub mod Wrapped
 pub mod Sums
-pub mod Bounds
 pub mod StandingLemmas
 pub mod LiveOf
 pub mod Ledger

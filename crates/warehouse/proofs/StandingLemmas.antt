@@ -21,7 +21,7 @@ use Rattle.warehouse.specs.declared.life.State.{State}
 use Rattle.warehouse.specs.declared.list_house.ListHouse.TheInside.{Inside}
 use Rattle.warehouse.proofs.Entered.{ledger_end, changes-push}
 use Rattle.warehouse.proofs.Judged.{mass_more}
-use Rattle.warehouse.proofs.Bounds.{integral_at_bound}
+use Rattle.history_laws.specs.Bounds.{IntegralsAreBounded}
 use Rattle.warehouse.proofs.Sizes.{fits_from_abs}
 
 -- at each version
@@ -36,10 +36,10 @@ objects_are_live h lives states version ledger at =
     ]
 
 -- the integral, read modulo 2^128
-pub integral_is : (a : Inside) (version : ℕ) (q : Query) (r : ℤ) → IsStanding a → version ≤ last_version (history_in a)
+pub integral_is : IntegralsAreBounded → (a : Inside) (version : ℕ) (q : Query) (r : ℤ) → IsStanding a → version ≤ last_version (history_in a)
     → r ≡ int_wrap w128 (int_sum_by (integral_over a.params q) (objects_at version a.lives.items)) → r ≡ integral_at a.params (history_in a) version q
-integral_is a version q r stands at is =
-    let bound = integral_at_bound a.params (history_in a) version q in
+integral_is bounded a version q r stands at is =
+    let bound = bounded a.params (history_in a) version q in
     let mass = stands.mass in
     let small = stands.mass_fits in
     is

@@ -1,5 +1,5 @@
 -- What a house answers, by cases.
-use Rattle.std.specs.Prelude.{◌≡◌, ◌⊎◌, ℕ, ◌+◌, ◌<◌, ◌≤◌, ⊤, ℤ, List, [], ◌∷◌, ◌++◌, Option, Some, None, Result, Ok, Err}
+use Rattle.std.specs.Prelude.{◌≡◌, ℕ, ◌<◌, ◌≤◌, ⊤, ℤ, List, [], ◌∷◌, ◌++◌, Option, Some, None, Result, Ok, Err}
 use Rattle.bw_types.specs.Answers.{answer}
 use Rattle.bw_types.specs.History.{History, flat, last_version}
 use Rattle.bw_types.specs.declared.params.Params.{Params}

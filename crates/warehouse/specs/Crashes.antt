@@ -1,5 +1,5 @@
 -- What a crash may leave, over any kind of images.
-use Rattle.std.specs.Prelude.{◌≡◌, ◌⊎◌, ℕ, ◌≤◌, List, ◌++◌}
+use Rattle.std.specs.Prelude.{◌⊎◌, ℕ, ◌≤◌}
 
 -- From the one list of moments to the other: whatever a crash since a time before may have left, it might have left
 -- already then, or it has P.

@@ -1,5 +1,5 @@
 //! A house: it keeps a history, on a device or in memory.
-ghost use Rattle.std.specs.Prelude.{◌≡◌, ◌⊎◌, ◌+◌, ◌≤◌, ℕ, Bool, true, List, length, Some, Ok, Err, IsTrue, IfOk, MatchResult};
+ghost use Rattle.std.specs.Prelude.{◌≡◌, ◌⊎◌, ◌+◌, ◌<◌, ◌≤◌, ℕ, Bool, true, List, length, Some, Ok, Err, IsTrue, IfOk, MatchResult};
 ghost use Rattle.std.specs.List.{list_all};
 ghost use Rattle.bw_types.specs.Fits.{IsInRange, row_fits, query_fits};
 ghost use Rattle.bw_types.specs.History.{History, last_version};
@@ -59,6 +59,13 @@ pub trait House: Drop {
     /// pages that it may ask for passes the limit.
     ghost lacks_pages: { Self.Device → Params → History → List Row → Type 0 };
 
+    /// The pages that count against the limit. A batch that is put last raises them by what it needs, and nothing
+    /// else changes them.
+    ghost charge: { Self.Device → ℕ };
+
+    /// The most pages that a batch of these rows needs on a history.
+    ghost need: { Params → History → List Row → ℕ };
+
     /// The most reads of a query on a history.
     ghost cost: { Params → History → Query → ℕ };
 
@@ -79,6 +86,7 @@ pub trait House: Drop {
             stands whole (device self.new) (params self.old) h }
         ensures moments { moments (device self.new) ≡ moments (device self.old) }
         ensures params { params self.new ≡ params self.old }
+        ensures charge { charge (device self.new) ≡ charge (device self.old) }
         ensures disk { result ≡ Err QueryFault.Disk → Rose (faults (device self.old)) (faults (device self.new)) }
         ensures faults { faults (device self.old) ≤ faults (device self.new) }
         ensures reads { (whole : Bool) (h : History) → stands whole (device self.old) (params self.old) h →
@@ -109,9 +117,13 @@ pub trait House: Drop {
             keeps x (params self) h ⊎ keeps x (params self) (after_commit (first_refusal (params self) h rows.now) h rows.now) }
         ensures at_limit { IfPageLimit result (λ house allotted. allotted ≡ (params self).pages) }
         ensures page_limit { (h : History) → stands true (device self) (params self) h → IfPageLimit result (λ house allotted.
-            lacks_pages (device house) (params self) h rows.now) }
+            lacks_pages (device house) (params self) h rows.now
+            × ((params self).pages < charge (device house) + need (params self) h rows.now)) }
         ensures refused { (h : History) (refusal : Refusal) → stands true (device self) (params self) h
             → first_refusal (params self) h rows.now ≡ Some refusal → moments (device_out device result) ≡ moments (device self) }
+        ensures charge_done { (h : History) → stands true (device self) (params self) h → IfDone result (λ house version.
+            charge (device house) ≤ charge (device self) + need (params self) h rows.now) }
+        ensures charge_kept { IfKept result (λ house. charge (device house) ≡ charge (device self)) }
         ensures moments_kept { IfKept result (λ house. moments (device house) ≡ moments (device self)) }
 
         ensures disk { IfDisk result (Rose (faults (device self)) (faults (device_out device result))) }

@@ -6,6 +6,7 @@ use crate::seen::SeenStates;
 use crate::totals::{count_total, integral_total, weight_total};
 use crate::{Committed, House, ListFault, NoVersion, QueryFault};
 use bw_types::{Change, Kind, Params, Query, Refusal, Row};
+use history_laws::answers_are_bounded;
 use session_book::first_refusal;
 use std::alloc::Global;
 use std::collections::BTreeMap;
@@ -107,7 +108,10 @@ impl ListHouse {
         match query.kind {
             Kind::Sum => Ok(weight_total(&self.lives, dims, query, version)),
             Kind::Count => Ok(count_total(&self.lives, dims, query, version)),
-            Kind::Integral => Ok(integral_total(&self.lives, &self.params, query, version)),
+            Kind::Integral => {
+                answers_are_bounded();
+                Ok(integral_total(&self.lives, &self.params, query, version))
+            }
         }
     }
 
@@ -182,6 +186,10 @@ impl House for ListHouse {
     ghost faults = { λ house. 0 };
 
     ghost lacks_pages = { λ house params h rows. ⊥ };
+
+    ghost charge = { λ house. 0 };
+
+    ghost need = { λ params h rows. 0 };
 
     ghost cost = { λ params h query. 0 };
 

@@ -1,5 +1,5 @@
 use Rattle.std.proofs.Common.{◌≡◌, ◌∙◌, true, [], refl, sym, ap, subst}
-use Rattle.csv_rows.specs.Lines.{lines}
+use Rattle.line_reader.specs.Lines.{lines}
 use Rattle.row_machine.specs.declared.ending.Ending.{Ending}
 use Rattle.row_machine.specs.Serving.{IsFlushed}
 use Rattle.boxsum_cli.proofs.Scratch.{ends_from_nothing, whole_text, fine_ending, input_ending, input_flushes, damaged_ending, limit_ending}
@@ -37,11 +37,8 @@ returns-clause-whole_lines g c = λ why told left_told tells.
     )
 
 pub returns-clause-sound : goal.returns-clause-sound
-returns-clause-sound g c = λ told.
-    let e = ends_from_nothing _ (g.K.Sink.tells c.args.sink.now) (g.K.Sink.tells c.serve.new.sink) (g.S.Source.tells c.serve.new.source)
-    (g.S.Source.left c.args.source.now) (g.S.Source.left c.serve.new.source) _ c.serve.result (g.K.Sink.written c.args.sink.now) (g.K.Sink.written c.serve.new.sink)
-    c.new-desk.result.params c.args.params.now c.new-desk.result.sessions (c.new-desk.ensures.params ∙ ap (λ h. h.params) c.new.ensures) c.new-desk.ensures.sessions
-    (c.serve.ensures.ends told true [] (c.machine_laws.ensures.may c.new-desk.result.params (lines (g.S.Source.left c.args.source.now))) (ap (λ h. h.history) (c.new-desk.ensures.house ∙ c.new.ensures))) in (
-      λ page s. e.undamaged page (damaged_ending c.serve.result.ending c.from.result page c.from.ensures s),
-      λ allotted s. (e.page_limit allotted (limit_ending c.serve.result.ending c.from.result allotted c.from.ensures s)).3,
+returns-clause-sound g c =
+    let lasts = c.serve.ensures.lasts [] (ap (λ h. h.history) (c.new-desk.ensures.house ∙ c.new.ensures)) in (
+      λ page s. lasts.undamaged page (damaged_ending c.serve.result.ending c.from.result page c.from.ensures s),
+      λ allotted s. (lasts.page_limit allotted (limit_ending c.serve.result.ending c.from.result allotted c.from.ensures s)).2,
     )

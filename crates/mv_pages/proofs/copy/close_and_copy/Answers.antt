@@ -16,9 +16,9 @@ returns-then-len-le-MOST_IN_ONE-clause-copied c =
 pub returns-clause-copied : goal.returns-clause-copied
 unfolding none
 returns-clause-copied c =
-    two_copies c.args.node.now c.with_entries-2.result c.with_entries-3.result c.as_slice.result.now c.copies-copies.result.items c.split_off-second.result.items c.as_slice-2.result.now c.args.version none
+    two_copies c.args.node.now c.with_entries-2.result c.with_entries-3.result c.as_slice.result.now c.copies-copies.result.items c.halve-second.result.items c.as_slice-2.result.now c.args.version none
     c.requires.entries c.requires.changeable c.as_slice.ensures.value c.copies-copies.ensures.items (omega (arith, c.if-len-le-MOST_IN_ONE.false, c.len.ensures.value)) c.copies-copies.ensures.few
-    (c.with_entries-2.ensures ∙ ap (with_entries c.args.node.now) c.split_off-second.ensures.first) c.with_entries-3.ensures c.split_off-second.ensures.second c.as_slice-2.ensures.value
+    (c.with_entries-2.ensures ∙ ap (with_entries c.args.node.now) c.halve-second.ensures.first) c.with_entries-3.ensures c.halve-second.ensures.second c.as_slice-2.ensures.value
 
 pub returns-then-len-le-MOST_IN_ONE-clause-typed : goal.returns-then-len-le-MOST_IN_ONE-clause-typed
 returns-then-len-le-MOST_IN_ONE-clause-typed c = λ all.
@@ -26,5 +26,5 @@ returns-then-len-le-MOST_IN_ONE-clause-typed c = λ all.
 
 pub returns-clause-typed : goal.returns-clause-typed
 returns-clause-typed c = λ all.
-    two_typed c.args.node.now c.with_entries-2.result c.with_entries-3.result c.as_slice.result.now c.copies-copies.result.items c.split_off-second.result.items c.args.version c.ranges.version.fits
-    c.as_slice.ensures.value c.copies-copies.ensures.items (c.with_entries-2.ensures ∙ ap (with_entries c.args.node.now) c.split_off-second.ensures.first) c.with_entries-3.ensures c.split_off-second.ensures.second all
+    two_typed c.args.node.now c.with_entries-2.result c.with_entries-3.result c.as_slice.result.now c.copies-copies.result.items c.halve-second.result.items c.args.version c.ranges.version.fits
+    c.as_slice.ensures.value c.copies-copies.ensures.items (c.with_entries-2.ensures ∙ ap (with_entries c.args.node.now) c.halve-second.ensures.first) c.with_entries-3.ensures c.halve-second.ensures.second all

@@ -1,5 +1,6 @@
-use Rattle.std.proofs.Common.{None, rules, ◌≡◌, ℕ, ◌∷◌, [], ◌∙◌, Bool, List, ap, sym, subst, length, inl, inr}
+use Rattle.std.proofs.Common.{None, rules, ◌≡◌, ℕ, ◌∷◌, [], ◌∙◌, Bool, List, ap, sym, subst, length}
 use Rattle.std.specs.Prelude.{IsTrue, IsSome}
+use Rattle.std.proofs.lemmas.Result.{on_ok_weaker}
 use Rattle.page_disk.specs.Image.{PageList, Image, written_at}
 use Rattle.page_disk.specs.SinceLaws.{LeavesOnly-same, LeavesOnly-then}
 use Rattle.redo_journal.specs.Images.{coming, image_list}
@@ -8,7 +9,7 @@ use Rattle.redo_journal.specs.Placing.{ImageList, homes_of, map_of, with_images,
 use Rattle.redo_journal.proofs.PlacingLemmas.{length-written}
 use Rattle.redo_journal.proofs.RestLemmas.{homes_start, homes_leave}
 use Rattle.redo_journal.proofs.HomeLemmas.{among_first, among_rest, synced_stretch, settled_by}
-use Rattle.redo_journal.proofs.CallLemmas.{went_on, no_call}
+use Rattle.redo_journal.proofs.CallLemmas.{no_call, on_either, went_on}
 use Rattle.redo_journal.proofs.committing.write_homes.Goals as goal
 
 pub loop-home-init : goal.loop-home-init
@@ -75,15 +76,6 @@ returns-in_err-put_home-clause-any_moment g c =
     let more = c.put_home.ensures.pends (map_of all) start some inv.goes.1 in
     LeavesOnly-then (IsInPlacing (map_of all) start) (g.D.Disk.moments d0) (g.D.Disk.moments d1) (g.D.Disk.moments d2) inv.goes.0 more.0
 
-pub returns-in_err-sync-clause-any_moment : goal.returns-in_err-sync-clause-any_moment
-returns-in_err-sync-clause-any_moment g c =
-    let start = g.D.Disk.image c.args.disk.now in
-    let images = map_of (image_list c.args.images.now) in
-    synced_stretch (HomesPend images start) (IsInPlacing images start) (homes_leave images start)
-    (g.D.Disk.tells c.loop-home.disk) (g.D.Disk.image c.loop-home.disk)
-    (g.D.Disk.moments c.args.disk.now) (g.D.Disk.moments c.loop-home.disk) (g.D.Disk.moments c.sync.new.self)
-    (g.met.D.Disk.tells_image c.loop-home.disk) c.loop-home.invariant.goes (inl c.in_err-sync.ensures.err)
-
 pub returns-clause-any_moment : goal.returns-clause-any_moment
 returns-clause-any_moment g c =
     let start = g.D.Disk.image c.args.disk.now in
@@ -91,16 +83,18 @@ returns-clause-any_moment g c =
     synced_stretch (HomesPend images start) (IsInPlacing images start) (homes_leave images start)
     (g.D.Disk.tells c.loop-home.disk) (g.D.Disk.image c.loop-home.disk)
     (g.D.Disk.moments c.args.disk.now) (g.D.Disk.moments c.loop-home.disk) (g.D.Disk.moments c.sync.new.self)
-    (g.met.D.Disk.tells_image c.loop-home.disk) c.loop-home.invariant.goes (inr c.in_ok-sync.ensures.ok)
+    (g.met.D.Disk.tells_image c.loop-home.disk) c.loop-home.invariant.goes (on_either c.sync.result c.sync.ensures.err c.sync.ensures.ok)
 
 pub returns-clause-settled : goal.returns-clause-settled
 returns-clause-settled g c =
+    on_ok_weaker c.sync.result (λ landed.
     settled_by (g.D.Disk.image c.loop-home.disk) (g.D.Disk.image c.sync.new.self) (g.D.Disk.moments c.loop-home.disk) (g.D.Disk.moments c.sync.new.self)
-    c.in_ok-sync.ensures.ok c.sync.ensures.image
+    landed c.sync.ensures.image) c.sync.ensures.ok
 
 pub returns-clause-placed : goal.returns-clause-placed
-returns-clause-placed g c = λ told.
+returns-clause-placed g c =
     let none : c.next.result ≡ None = search rules in
     let done : coming c.loop-home.rest ≡ [] = c.next.ensures.none none in
+    on_ok_weaker c.sync.result (λ landed told.
     ap (λ (x : Image). x.pages) c.sync.ensures.image
-    ∙ (ap (with_images (g.D.Disk.image c.loop-home.disk).pages) (sym done) ∙ c.loop-home.invariant.placed told)
+    ∙ (ap (with_images (g.D.Disk.image c.loop-home.disk).pages) (sym done) ∙ c.loop-home.invariant.placed told)) c.sync.ensures.ok

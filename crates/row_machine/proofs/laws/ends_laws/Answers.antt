@@ -1,4 +1,4 @@
-use Rattle.row_machine.proofs.Endings.{in_part, fine_serves, input_serves, fine_settles}
+use Rattle.row_machine.proofs.Endings.{in_part, fine_serves, input_serves, fine_settles, within_all}
 use Rattle.row_machine.proofs.laws.ends_laws.Goals as goal
 
 pub returns-clause-part : goal.returns-clause-part
@@ -12,3 +12,6 @@ returns-clause-input g c = input_serves g.H.House
 
 pub returns-clause-settles : goal.returns-clause-settles
 returns-clause-settles g c = fine_settles g.H.House
+
+pub returns-clause-within : goal.returns-clause-within
+returns-clause-within g c = within_all g.H.House

@@ -2,7 +2,7 @@ use Rattle.std.proofs.Common.{◌∙◌, ℕ, true, List, [], ◌∷◌, ap}
 use Rattle.bw_types.specs.declared.params.Params.{Params}
 use Rattle.row_machine.specs.Serving.{MayServe}
 use Rattle.csv_rows.specs.Machine.{State, begun, replies, state_after}
-use Rattle.csv_rows.specs.Lines.{lines}
+use Rattle.line_reader.specs.Lines.{lines}
 use Rattle.row_machine.proofs.Housing.{after_goes_on}
 use Rattle.row_machine.proofs.Replies.{replies-append, state_after-append}
 use Rattle.row_machine.proofs.laws.machine_laws.Goals as goal

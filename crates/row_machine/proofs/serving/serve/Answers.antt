@@ -1,7 +1,7 @@
 use Rattle.std.proofs.Common.{◌≡◌, ◌∙◌, ℕ, List, ◌++◌, ap, subst, true}
 use Rattle.row_machine.specs.Runs.{WritesPart}
 use Rattle.row_machine.proofs.Served.{LineLaws}
-use Rattle.row_machine.proofs.Going.{going_first, going_on, going_ends, going_put, going_stops, input_passes}
+use Rattle.row_machine.proofs.Going.{going_first, going_on, going_ends, going_ends_lasting, going_put, going_stops, going_stops_lasting, input_passes}
 use Rattle.row_machine.proofs.serving.serve.Goals as goal
 
 pub lines-init : goal.lines-init
@@ -20,7 +20,7 @@ lines-preserved g c =
     c.in-Ok.ensures.faults
     c.serve_line.ensures.seen_end
     (λ e. ((c.serve_line.ensures.stays e).0, ap g.S.Source.left (c.serve_line.ensures.stays e).1))
-    c.serve_line.ensures.counts c.in-Ok.ensures.served
+    c.serve_line.ensures.counts c.in-Ok.ensures.lasts c.in-Ok.ensures.served
 
 pub returns-then-not-put_due-clause-ends : goal.returns-then-not-put_due-clause-ends
 returns-then-not-put_due-clause-ends g c =
@@ -46,3 +46,12 @@ returns-in-Err-clause-ends g c =
     c.in-Err.ensures.breaks
     (λ told still. subst (λ (text : List ℕ). WritesPart (g.K.Sink.written c.put_due.new.sink) (g.K.Sink.written c.close.new.sink) text) c.in-Err.ensures.unsaid (c.close.ensures.part told still))
     (λ flushed told. c.close.ensures.flushed flushed told ∙ ap (λ (text : List ℕ). g.K.Sink.written c.put_due.new.sink ++ text) c.in-Err.ensures.unsaid)
+
+pub returns-then-not-put_due-clause-lasts : goal.returns-then-not-put_due-clause-lasts
+returns-then-not-put_due-clause-lasts g c = going_stops_lasting g.H.House _ _ _ _ _ _ _ _ _ _ c.lines.invariant c.ended.ensures.ending c.ended.ensures.disk
+
+pub returns-in-Err-clause-lasts : goal.returns-in-Err-clause-lasts
+returns-in-Err-clause-lasts g c =
+    going_ends_lasting g.H.House _ _ _ _ _ _ _ _ _ c.in-Err.ran c.close.result c.lines.invariant
+    (record { device = c.close.ensures.device; ending = c.close.ensures.ending })
+    c.in-Err.ensures.ended c.in-Err.ensures.between c.in-Err.ensures.lasts

@@ -18,7 +18,7 @@ returns-clause-serves g c = λ whole h line long stands.
     (text_served g.H.House whole c.args.desk.params h (record { state = state_at g.H.House h c.args.desk; reply = Some (Bad c.args.number) }) _ _ _ _
     (record { desk = c.args.desk; reply = Some (Bad c.args.number) }) _ _ c.reply_to.result
     (record { stands = stands; staged = refl }, refl)
-    (λ e. leaves_same g.H.House c.args.desk.params h h _ _ refl refl) (goes_on_same h) (λ reading. omega arith)
+    (λ e. leaves_same g.H.House c.args.desk.params h h _ _ refl refl) (goes_on_same h) (λ reading. omega arith) (λ e. omega arith)
     c.reply_to.ensures.same c.reply_to.ensures.gathers c.reply_to.ensures.ended)
 
 pub returns-clause-within : goal.returns-clause-within

@@ -1,9 +1,9 @@
-use Rattle.std.proofs.Common.{◌≡◌, ℕ, ◌+◌, ◌<◌, ◌≤◌, ◌∙◌, true, List, [], ◌∷◌, ◌++◌, length, reverse, slice_set, IsTrue, Option, Some, None, Result, Ok, Err, IfOk, OnOk, sym, ap, refl, arith}
+use Rattle.std.proofs.Common.{◌≡◌, ℕ, ◌+◌, ◌<◌, ◌≤◌, ◌∙◌, true, List, [], ◌∷◌, ◌++◌, length, IsTrue, Option, Some, None, Result, Ok, Err, IfOk, OnOk, ap, refl, arith}
 use Rattle.std.proofs.lemmas.List.{length_push}
-use Rattle.page_ports.specs.Pages.{PageMap, put_page, blank_bytes}
+use Rattle.page_ports.specs.Pages.{put_page, blank_bytes}
 use Rattle.page_ports.specs.Kept.{map_of}
 use Rattle.page_ports.specs.KeptLaws.{map_of-push, map_of-end}
-use Rattle.page_ports.specs.SpareLaws.{IsTaken, taken_first}
+use Rattle.page_ports.specs.SpareLaws.{taken_first}
 use Rattle.page_ports.specs.declared.page.StageFault.{StageFault}
 use Rattle.page_ports.proofs.mem_stage.MemStageStage.allot.Goals as goal
 

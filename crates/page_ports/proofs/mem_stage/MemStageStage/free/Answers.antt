@@ -1,4 +1,4 @@
-use Rattle.std.proofs.Common.{◌≡◌, ℕ, ◌+◌, ◌-◌, ◌≤◌, ◌∙◌, true, List, ◌∷◌, length, reverse, slice_set, Option, Some, None, sym, ap, subst, refl, arith}
+use Rattle.std.proofs.Common.{◌≡◌, ℕ, ◌+◌, ◌-◌, ◌≤◌, ◌∙◌, true, List, ◌∷◌, length, reverse, slice_set, Option, None, ap, refl, arith}
 use Rattle.std.proofs.lemmas.List.{length-set}
 use Rattle.page_ports.specs.Spare.{are_spare}
 use Rattle.page_ports.specs.SpareLaws.{are_spare-free, reverse_push}

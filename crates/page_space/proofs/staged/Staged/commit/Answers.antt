@@ -49,7 +49,7 @@ invariant_of-result-clause-agrees g c = λ told.
     renewed_agrees (image_map c.args.self.images) (kept_pages c.args.self.space.cache) (kept_pages c.renew_all.new.cache)
     (g.D.Disk.image c.args.self.space.disk).pages (g.D.Disk.image c.commit.new.disk).pages
     (on_ok c.commit.result _ (fine g c) c.commit.ensures.placed (before g c told))
-    c.renew_all.ensures (c.args.self.space.agrees (before g c told))
+    c.renew_all.ensures.pages (c.args.self.space.agrees (before g c told))
 
 -- the space of the stage, at the return
 made : (g : _) (c : goal.After-drop-images-2 g) → IsTrue (g.D.Disk.tells c.args.self.space.disk)

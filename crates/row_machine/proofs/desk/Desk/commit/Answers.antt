@@ -1,4 +1,4 @@
-use Rattle.std.proofs.Common.{rules, true, ◌∙◌, sym, subst}
+use Rattle.std.proofs.Common.{rules, true, ◌∙◌, refl, sym, subst}
 use Rattle.bw_types.specs.declared.params.Params.{Params}
 use Rattle.row_machine.specs.declared.ending.Ending.TheVariants.{DiskFault}
 use Rattle.row_machine.proofs.Housing.{leaves_lost}
@@ -22,6 +22,7 @@ returns-in-Disk g c = record {
       (g.H.House.device c.args.self.house) (record { ending = DiskFault; device = c.in-Disk.device }) c.args.self.same c.rows.ensures.rows
       (c.in-Disk.ensures.any_moment h (subst (λ (p : Params). g.H.House.stands true (g.H.House.device c.args.self.house) p h) (sym c.args.self.same) stands))
       (c.in-Disk.ensures.lost h (subst (λ (p : Params). g.H.House.stands true (g.H.House.device c.args.self.house) p h) (sym c.args.self.same) stands));
+  charge = λ h stands other. absurd (other refl);
   faults = search rules;
   own = search rules;
   disk = search rules;

@@ -9,6 +9,7 @@ returns-in-Err g c = record {
   stops = search rules;
   reads = search rules;
   leaves = λ h stands. leaves_kept g.H.House c.args.self.params h _ _ c.ended.result (step_goes_on c.args.self.params c.args.number (record { history = h; staged = c.args.self.sessions }) c.args.line.now) (ap g.H.House.moments c.ended.ensures.disk);
+  charge = λ h stands other. ap g.H.House.charge c.ended.ensures.disk;
   faults = search rules;
   own = search rules;
   disk = search rules;

@@ -22,6 +22,6 @@ returns-in-Integral c =
     let at : c.args.version ≤ last_version (history_in c.self.inside) =
     let same : last_version (history_in c.self.inside) ≡ last_version c.args.self.now.history = ap (λ (s : ListState). last_version s.history) c.self.view_is in
     omega arith in
-    let is = integral_is c.self.inside c.args.version c.args.query.now c.integral_total.result c.self.invariant at
+    let is = integral_is c.answers_are_bounded.ensures.integrals c.self.inside c.args.version c.args.query.now c.integral_total.result c.self.invariant at
     (c.integral_total.ensures ∙ ap (λ ls. int_wrap w128 (int_sum_by (integral_over c.self.inside.params c.args.query.now) (objects_at c.args.version ls))) c.deref-in-Integral.ensures.value) in
     (omega arith, to_z-of_z w128 c.integral_total.result fits ∙ is ∙ ap (λ (s : ListState). integral_at s.params s.history c.args.version c.args.query.now) c.self.view_is ∙ integral_answer c.args.self.now c.args.version c.args.query.now c.in-Integral.is)

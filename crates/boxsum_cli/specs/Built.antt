@@ -1,0 +1,15 @@
+-- Which commands this program carries out.
+use Rattle.std.specs.Prelude.{ℕ, Bool, true, false, List, Option}
+use Rattle.csv_rows.specs.Input.{given, provided}
+use Rattle.command_words.specs.Command.{command_of}
+use Rattle.command_words.specs.declared.command.Command.{Command}
+use Rattle.command_words.specs.declared.command.Command.TheVariants.{Scratch}
+
+-- the command is built already
+abbrev pub is_built : Command → Bool
+is_built (Scratch params) = true
+is_built _ = false
+
+-- the command that the words ask for, where it is built already
+abbrev pub built_command : List (List ℕ) → Option Command
+built_command words = given (command_of words) (λ command. provided (is_built command) command)

@@ -1,0 +1,75 @@
+-- The points of an entry added to a tree one after another.
+use Rattle.std.proofs.Common.{◌≡◌, ℕ, zero, suc, ◌+◌, ◌-◌, ◌*◌, ◌<◌, ◌≤◌, List, [], ◌∷◌, ◌++◌, length, refl, sym, ap, ◌∙◌, subst, arith, length-append}
+use Rattle.std.proofs.Math.Nat.{mul-le-mul_right}
+use Rattle.std.proofs.lemmas.List.{length-map}
+use Rattle.std.proofs.lemmas.List.FromFn.{length-range_with_len}
+use Rattle.std.specs.List.{range_with_len}
+use Rattle.bw_types.specs.Heights.{added_pages}
+use Rattle.bw_types.specs.HeightLaws.{adding_grows}
+use Rattle.bw_types.specs.declared.params.Params.{Params}
+use Rattle.bw_types.specs.declared.point.Point.{Point}
+use Rattle.bw_types.specs.declared.tree.Tree.{Tree}
+use Rattle.page_ports.specs.Pages.{PageMap}
+use Rattle.page_ports.specs.Frame.{Replaces}
+use Rattle.page_ports.specs.FrameLaws.{Replaces-then, Replaces-same}
+use Rattle.poly_moments.specs.PlaneSums.{Entered}
+use Rattle.dom_index.specs.Points.{IsNewPoint}
+use Rattle.dom_index.specs.declared.index.DomIndex.{Ghosts}
+use Rattle.corner_forest.specs.Entries.{entry_point, point_count}
+use Rattle.corner_forest.specs.Enters.{AreNewPoints, TreeEnters, points_from}
+
+-- one point more, before those of the later corners
+pub next_points : (params : Params) (e : Entered) (root n i corner : ℕ) → i < n → corner ≡ n - 1 - i
+    → points_from params e root (n - (i + 1)) (i + 1) ≡ entry_point params e root corner ∷ points_from params e root (n - i) i
+next_points params e root n i corner lt is =
+    let more : i + 1 ≡ suc i = omega arith in
+    let first : n - (i + 1) ≡ corner = omega (arith, is, lt) in
+    let later : corner + 1 ≡ n - i = omega (arith, is, lt) in
+    ap (λ (m : ℕ). points_from params e root (n - (i + 1)) m) more ∙ ap (λ (m : ℕ). points_from params e root m (suc i)) first
+    ∙ ap (λ (m : ℕ). entry_point params e root corner ∷ points_from params e root m i) later
+
+pub new_next : (params : Params) (e : Entered) (root n i corner : ℕ) (points : List Point) → n ≡ point_count params root → i < n → corner ≡ n - 1 - i
+    → AreNewPoints params e root points → IsNewPoint params.dims (points_from params e root (n - i) i ++ points) (entry_point params e root corner)
+new_next params e root n i corner points is_n lt is new =
+    let from : corner + 1 ≡ n - i = omega (arith, is, lt) in
+    let many : point_count params root - 1 - corner ≡ i = omega (arith, is, lt, is_n) in
+    let here = new corner (omega (arith, is, lt, is_n)) in
+    subst (λ (m : ℕ). IsNewPoint params.dims (points_from params e root m i ++ points) (entry_point params e root corner)) from
+    (subst (λ (m : ℕ). IsNewPoint params.dims (points_from params e root (corner + 1) m ++ points) (entry_point params e root corner)) many here)
+
+module _ {X : Type 0} (g : Ghosts X) where
+  pub none_added : (params : Params) (e : Entered) (root n : ℕ) (m : PageMap) (t : Tree) (points : List Point) → g.stands m params.dims t points
+      → TreeEnters g params.dims m m t t (points_from params e root (n - 0) 0) points
+  none_added params e root n m t points s = record { stands = s; change = Replaces-same (g.footprint m params.dims t) m; balanced = λ b. b }
+
+  pub one_added : (dims : ℕ) (m0 m1 m2 : PageMap) (t0 t1 t2 : Tree) (added more points : List Point) (p : Point) → TreeEnters g dims m0 m1 t0 t1 added points
+      → more ≡ p ∷ added → g.stands m2 dims t2 (p ∷ (added ++ points)) → Replaces (g.footprint m1 dims t1) (g.footprint m2 dims t2) m1 m2
+      → (g.balanced m1 dims t1 → g.balanced m2 dims t2) → TreeEnters g dims m0 m2 t0 t2 more points
+  one_added dims m0 m1 m2 t0 t1 t2 added more points p f is stands change low =
+      subst (λ (ps : List Point). TreeEnters g dims m0 m2 t0 t2 ps points) (sym is) (record {
+        stands = stands;
+        change = Replaces-then (g.footprint m0 dims t0) (g.footprint m1 dims t1) (g.footprint m2 dims t2) m0 m1 m2 f.change change;
+        balanced = λ b. low (f.balanced b);
+      })
+
+  -- what one addition gives out
+  pub growth_within : (dims levels count i n most size : ℕ) → g.growth dims levels count ≤ added_pages dims count → count ≡ i + size → i < n → most ≡ added_pages dims (size + n)
+      → g.growth dims levels count ≤ most
+  growth_within dims levels count i n most size law is lt is_most =
+      let grows : added_pages dims count ≤ added_pages dims (size + n) = adding_grows dims count (size + n) (omega (arith, is, lt)) in
+      omega (arith, law, grows, is_most)
+
+pub added_length : (params : Params) (e : Entered) (root from n : ℕ) (points : List Point) → length (points_from params e root from n ++ points) ≡ n + length points
+added_length params e root from n points =
+    let first : length (points_from params e root from n) ≡ n = length-map (range_with_len from n) (entry_point params e root) ∙ length-range_with_len from n in
+    let whole = length-append (points_from params e root from n) points in
+    omega (arith, first, whole)
+
+pub more_pages : (i most : ℕ) → i * most + most ≡ (i + 1) * most
+more_pages i most = let more : i + 1 ≡ suc i = omega arith in rw more (omega arith)
+
+pub most_pages : (i n most part : ℕ) → i < n → part ≤ most → i * most + part ≤ n * most
+most_pages i n most part lt le =
+    let whole = more_pages i most in
+    let all : (i + 1) * most ≤ n * most = mul-le-mul_right most (omega (arith, lt)) in
+    omega (arith, whole, all, le)

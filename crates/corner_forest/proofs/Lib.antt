@@ -1,0 +1,15 @@
+pub mod Adding
+pub mod Changing
+pub mod Entering
+pub mod Exits
+pub mod Footprints
+pub mod ForestLaws
+pub mod HistoryTotals
+pub mod KeyBounds
+pub mod Lists
+pub mod MetSums
+pub mod Newness
+pub mod Places
+pub mod PlaneTotals
+pub mod Stages
+pub mod TreePoints

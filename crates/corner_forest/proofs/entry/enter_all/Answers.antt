@@ -1,0 +1,127 @@
+use Rattle.std.proofs.Common.{◌≡◌, ℕ, ◌+◌, ◌*◌, ◌<◌, ◌≤◌, Err, Ok, IsTrue, List, [], ◌∷◌, ◌++◌, length, get_or, drop, rules, refl, ap, sym, ◌∙◌, subst, arith}
+use Rattle.std.specs.List.{All}
+use Rattle.std.proofs.lemmas.Result.{err_from_is_err_and}
+use Rattle.std.proofs.lemmas.List.Elements.{All-push}
+use Rattle.bw_types.specs.Empty.{empty_tree}
+use Rattle.bw_types.specs.Heights.{added_pages}
+use Rattle.bw_types.specs.declared.tree.Tree.{Tree}
+use Rattle.page_ports.specs.Calls.{Changes}
+use Rattle.page_ports.specs.declared.page.StageFault.TheVariants.{Damaged}
+use Rattle.page_layout.specs.TreeValue.{tree_fits}
+use Rattle.corner_forest.specs.Enters.{IsEntering, entered, root_growth, sum_below}
+use Rattle.corner_forest.specs.Entries.{point_count, root_count, root_points}
+use Rattle.corner_forest.proofs.Entering.{begins, ends, goes_on, next_tree}
+use Rattle.corner_forest.proofs.Exits.{exit_error}
+use Rattle.corner_forest.proofs.Lists.{growth_here, list_end, list_next, list_push, list_start, sum_grows, sum_next}
+use Rattle.corner_forest.proofs.Newness.{next_is_new}
+use Rattle.corner_forest.proofs.Stages.{changes_then, refused, went_then}
+use Rattle.corner_forest.proofs.entry.enter_all.Goals as goal
+
+pub loop-place-init : goal.loop-place-init
+loop-place-init g c = record {
+  len = search rules;
+  went = search rules;
+  enters = λ tells entries stands once next.
+      subst (λ (l : List Tree). IsEntering g.X.DomIndex c.args.params.now (g.S.Pages.map c.args.stage.now) (g.S.Pages.map c.args.stage.now) c.args.old.now l entries (entered c.args.object.now c.args.stamp) 0)
+      (list_start c.new-roots.result.items c.args.old.now c.new-roots.ensures)
+      (begins g.X.DomIndex c.index_laws.ensures.by_its_pages c.index_laws.ensures.balance c.index_laws.ensures.in_map c.index_laws.ensures.once c.args.params.now (g.S.Pages.map c.args.stage.now) c.args.old.now entries (entered c.args.object.now c.args.stamp) stands once);
+  rules = search rules;
+  growth = search rules;
+}
+
+pub returns-in_err-enter_root-clause-sound : goal.returns-in_err-enter_root-clause-sound
+returns-in_err-enter_root-clause-sound g c = λ entries page tells stands once next low order asked.
+    let p = err_from_is_err_and c.from_residual.result c.from_residual.ensures.1 in
+    let same = exit_error c.from_residual.result c.in_err-enter_root.field-0.0 (Damaged page) p asked in
+    let params = c.args.params.now in
+    let e = entered c.args.object.now c.args.stamp in
+    let old = c.args.old.now in
+    let k = c.loop-place.place in
+    let items = c.loop-place.roots.items in
+    let before = g.S.Pages.map c.args.stage.now in
+    let mid = g.S.Pages.map c.loop-place.stage in
+    let after = g.S.Pages.map c.enter_root.new.stage in
+    let lt : k < length old = omega (arith, c.loop-place-test.true, c.root_count-count.ensures.count, c.requires.roots) in
+    let now = subst (λ (l : List Tree). IsEntering g.X.DomIndex params before mid old l entries e k) (list_next items old k empty_tree lt) (c.loop-place.invariant.enters tells entries stands once next) in
+    let tree = next_tree g.X.DomIndex c.index_laws.ensures.by_its_pages c.index_laws.ensures.balance c.index_laws.ensures.in_map c.index_laws.ensures.once params before mid old items (get_or old k empty_tree) (drop (k + 1) old) entries e k c.loop-place.invariant.len now in
+    let new = next_is_new params entries e k c.requires.in_range.dims stands.fits c.requires.event next in
+    c.in_err-enter_root.ensures.sound (root_points params entries k) page (search rules) tree.0 new (tree.1 low) (c.loop-place.invariant.went.free_in_order tells order) (ap Err same)
+
+pub returns-in_err-enter_root-clause-growth : goal.returns-in_err-enter_root-clause-growth
+returns-in_err-enter_root-clause-growth g c = λ tells entries stands once next low.
+    let p = err_from_is_err_and c.from_residual.result c.from_residual.ensures.1 in
+    let params = c.args.params.now in
+    let e = entered c.args.object.now c.args.stamp in
+    let old = c.args.old.now in
+    let k = c.loop-place.place in
+    let items = c.loop-place.roots.items in
+    let before = g.S.Pages.map c.args.stage.now in
+    let mid = g.S.Pages.map c.loop-place.stage in
+    let after = g.S.Pages.map c.enter_root.new.stage in
+    let lt : k < length old = omega (arith, c.loop-place-test.true, c.root_count-count.ensures.count, c.requires.roots) in
+    let now = subst (λ (l : List Tree). IsEntering g.X.DomIndex params before mid old l entries e k) (list_next items old k empty_tree lt) (c.loop-place.invariant.enters tells entries stands once next) in
+    let tree = next_tree g.X.DomIndex c.index_laws.ensures.by_its_pages c.index_laws.ensures.balance c.index_laws.ensures.in_map c.index_laws.ensures.once params before mid old items (get_or old k empty_tree) (drop (k + 1) old) entries e k c.loop-place.invariant.len now in
+    let new = next_is_new params entries e k c.requires.in_range.dims stands.fits c.requires.event next in
+    let adds = c.in_err-enter_root.ensures.growth (search rules) (root_points params entries k) tree.0 new (tree.1 low) in
+    let so_far = c.loop-place.invariant.growth tells entries stands once next low in
+    let f = root_growth params (length entries) in
+    let part = point_count params k * added_pages params.dims (length (root_points params entries k) + point_count params k) in
+    let is_part : part ≡ f k = growth_here params entries k in
+    let inside : k < root_count params = omega (arith, lt, c.requires.roots) in
+    let most = sum_grows f k (root_count params) inside in
+    refused g.S.Pages (sum_below (root_count params) f) c.args.stage.now c.enter_root.new.stage c.from_residual.result c.in_err-enter_root.field-0.0 p
+    (changes_then g.S.Pages (sum_below k f) part (sum_below (root_count params) f) c.args.stage.now c.loop-place.stage c.enter_root.new.stage (Err c.in_err-enter_root.field-0.0) so_far adds
+    (omega (arith, most, is_part)))
+
+pub loop-place-preserved : goal.loop-place-preserved
+loop-place-preserved g c =
+    let params = c.args.params.now in
+    let e = entered c.args.object.now c.args.stamp in
+    let old = c.args.old.now in
+    let k = c.loop-place.place in
+    let items = c.loop-place.roots.items in
+    let before = g.S.Pages.map c.args.stage.now in
+    let mid = g.S.Pages.map c.loop-place.stage in
+    let after = g.S.Pages.map c.enter_root.new.stage in
+    let lt : k < length old = omega (arith, c.loop-place-test.true, c.root_count-count.ensures.count, c.requires.roots) in
+    record {
+      len = search rules;
+      went = search rules;
+      enters = λ tells entries stands once next.
+          let now = subst (λ (l : List Tree). IsEntering g.X.DomIndex params before mid old l entries e k) (list_next items old k empty_tree lt) (c.loop-place.invariant.enters tells entries stands once next) in
+          let tree = next_tree g.X.DomIndex c.index_laws.ensures.by_its_pages c.index_laws.ensures.balance c.index_laws.ensures.in_map c.index_laws.ensures.once params before mid old items (get_or old k empty_tree) (drop (k + 1) old) entries e k c.loop-place.invariant.len now in
+          let new = next_is_new params entries e k c.requires.in_range.dims stands.fits c.requires.event next in
+          let entering = c.in_ok-enter_root.ensures.enters (search rules) (root_points params entries k) tree.0 new in
+          subst (λ (l : List Tree). IsEntering g.X.DomIndex params before after old l entries e (k + 1)) (list_push items c.push.new.self.items (drop (k + 1) old) c.enter_root.new.root c.push.ensures.items)
+          (goes_on g.X.DomIndex c.index_laws.ensures.by_its_pages c.index_laws.ensures.balance c.index_laws.ensures.in_map c.index_laws.ensures.once params before mid after old items (get_or old k empty_tree) c.enter_root.new.root (drop (k + 1) old) entries e k c.loop-place.invariant.len now entering);
+      rules = λ all.
+          subst (λ (l : List Tree). All (λ (t : Tree). IsTrue (tree_fits t)) l) (sym c.push.ensures.items)
+          (All-push (λ (t : Tree). IsTrue (tree_fits t)) items c.enter_root.new.root (c.loop-place.invariant.rules all) (c.in_ok-enter_root.ensures.rules (all k empty_tree lt)));
+      growth = λ tells entries stands once next low.
+          let now = subst (λ (l : List Tree). IsEntering g.X.DomIndex params before mid old l entries e k) (list_next items old k empty_tree lt) (c.loop-place.invariant.enters tells entries stands once next) in
+          let tree = next_tree g.X.DomIndex c.index_laws.ensures.by_its_pages c.index_laws.ensures.balance c.index_laws.ensures.in_map c.index_laws.ensures.once params before mid old items (get_or old k empty_tree) (drop (k + 1) old) entries e k c.loop-place.invariant.len now in
+          let new = next_is_new params entries e k c.requires.in_range.dims stands.fits c.requires.event next in
+          let adds = c.in_ok-enter_root.ensures.growth (search rules) (root_points params entries k) tree.0 new (tree.1 low) in
+          let so_far = c.loop-place.invariant.growth tells entries stands once next low in
+          let f = root_growth params (length entries) in
+          let part = point_count params k * added_pages params.dims (length (root_points params entries k) + point_count params k) in
+          let is_part : part ≡ f k = growth_here params entries k in
+          let first = so_far.at_most in
+          let second = adds.went_on.at_most in
+          let whole = sum_next f k in
+          went_then g.S.Pages (sum_below k f) part (sum_below (k + 1) f) c.args.stage.now c.loop-place.stage c.enter_root.new.stage so_far adds.went_on (omega (arith, first, second, whole, is_part));
+    }
+
+pub returns-clause-enters : goal.returns-clause-enters
+returns-clause-enters g c = λ tells entries stands once next.
+    let params = c.args.params.now in
+    let e = entered c.args.object.now c.args.stamp in
+    let old = c.args.old.now in
+    let k = c.loop-place.place in
+    let items = c.loop-place.roots.items in
+    let before = g.S.Pages.map c.args.stage.now in
+    let now = g.S.Pages.map c.loop-place.stage in
+    let is_count : k ≡ root_count params = omega (arith, c.loop-place-test.false, c.loop-place.auto.place-end, c.root_count-count.ensures.count) in
+    let le : length old ≤ k = omega (arith, is_count, c.requires.roots) in
+    ends g.X.DomIndex c.index_laws.ensures.by_its_pages c.index_laws.ensures.balance c.index_laws.ensures.in_map c.index_laws.ensures.once params before now old items entries e k c.loop-place.invariant.len is_count stands.fits (c.requires.fits, c.requires.event)
+    (subst (λ (l : List Tree). IsEntering g.X.DomIndex params before now old l entries e k) (list_end items old k le) (c.loop-place.invariant.enters tells entries stands once next))

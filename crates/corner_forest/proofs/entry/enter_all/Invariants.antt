@@ -1,0 +1,28 @@
+use Rattle.std.proofs.Common.{◌≡◌, ◌+◌, IsTrue, List, ◌++◌, drop, length}
+use Rattle.std.specs.List.{All}
+use Rattle.page_ports.specs.Calls.{WentOn}
+use Rattle.page_layout.specs.Footprint.{NamesNoneTwice}
+use Rattle.page_layout.specs.TreeValue.{tree_fits}
+use Rattle.poly_moments.specs.PlaneSums.{Entered}
+use Rattle.corner_forest.specs.Enters.{IsEntering, entered, root_growth, sum_below}
+use Rattle.corner_forest.specs.Entries.{IsNextEntry}
+use Rattle.corner_forest.specs.Stands.{AreBalanced, ForestStands, forest_pages}
+use Rattle.corner_forest.proofs.entry.enter_all.Given as goal
+
+abbrev pub invariant-loop-place : goal.invariant-loop-place
+invariant-loop-place g l =
+    let pages = g.S.Pages in
+    let index = g.X.DomIndex in
+    let before = pages.map l.fn.stage in
+    let params = l.fn.params in
+    let e = entered l.fn.object l.fn.stamp in
+    record {
+      len : length l.roots.items ≡ l.place;
+      went : WentOn pages (pages.allotted l.stage + 1) l.fn.stage l.stage;
+      enters : IsTrue (pages.tells l.fn.stage) → (entries : List Entered) → ForestStands index before params l.fn.old entries → NamesNoneTwice (forest_pages index before params l.fn.old)
+          → IsNextEntry params entries e → IsEntering index params before (pages.map l.stage) l.fn.old (l.roots.items ++ drop l.place l.fn.old) entries e l.place;
+      rules : All (λ t. IsTrue (tree_fits t)) l.fn.old → All (λ t. IsTrue (tree_fits t)) l.roots.items;
+      growth : IsTrue (pages.tells l.fn.stage) → (entries : List Entered) → ForestStands index before params l.fn.old entries → NamesNoneTwice (forest_pages index before params l.fn.old)
+          → IsNextEntry params entries e → AreBalanced index before params l.fn.old
+          → WentOn pages (sum_below l.place (root_growth params (length entries))) l.fn.stage l.stage;
+    }

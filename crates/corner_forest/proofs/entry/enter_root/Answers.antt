@@ -1,0 +1,112 @@
+use Rattle.std.proofs.Common.{◌≡◌, ℕ, ◌+◌, ◌-◌, ◌*◌, ◌<◌, ◌≤◌, Err, Ok, List, ◌∷◌, ◌++◌, length, rules, refl, ap, sym, ◌∙◌, subst, arith}
+use Rattle.std.proofs.lemmas.Result.{err_from_is_err_and}
+use Rattle.bw_types.specs.Heights.{added_pages}
+use Rattle.bw_types.specs.declared.point.Point.{Point}
+use Rattle.page_ports.specs.Calls.{Changes}
+use Rattle.page_ports.specs.declared.page.StageFault.TheVariants.{Damaged}
+use Rattle.dom_index.specs.Points.{IsNewPoint}
+use Rattle.corner_forest.specs.Enters.{TreeEnters, entered, points_from}
+use Rattle.corner_forest.proofs.Adding.{added_length, growth_within, more_pages, most_pages, new_next, next_points, one_added}
+use Rattle.corner_forest.proofs.Exits.{exit_error}
+use Rattle.corner_forest.proofs.Stages.{changes_then, refused, went_then}
+use Rattle.corner_forest.proofs.entry.enter_root.Goals as goal
+
+pub returns-in_err-add-clause-sound : goal.returns-in_err-add-clause-sound
+returns-in_err-add-clause-sound g c = λ points page tells stands new low order asked.
+    let p = err_from_is_err_and c.from_residual.result c.from_residual.ensures.1 in
+    let same = exit_error c.from_residual.result c.in_err-add.field-0.0 (Damaged page) p asked in
+    let params = c.args.params.now in
+    let dims = params.dims in
+    let e = entered c.args.object.now c.args.stamp in
+    let n = c.point_count-count.result in
+    let i = c.loop-i.i in
+    let before = g.S.Pages.map c.args.stage.now in
+    let mid = g.S.Pages.map c.loop-i.stage in
+    let added = points_from params e c.args.place (n - i) i in
+    let lt : i < n = c.loop-i-test.true in
+    let entered_so_far = c.loop-i.invariant.enters tells points stands new in
+    let is_new = subst (λ (q : Point). IsNewPoint dims (added ++ points) q) (sym c.entry_point-point.ensures.point)
+    (new_next params e c.args.place n i (n - 1 - i) points c.point_count-count.ensures.count lt refl new) in
+    c.in_err-add.ensures.sound (added ++ points) page (search rules) entered_so_far.stands is_new (entered_so_far.balanced low)
+    (c.loop-i.invariant.went.free_in_order tells order) (ap Err same)
+
+pub returns-in_err-add-clause-growth : goal.returns-in_err-add-clause-growth
+returns-in_err-add-clause-growth g c = λ tells points stands new low.
+    let p = err_from_is_err_and c.from_residual.result c.from_residual.ensures.1 in
+    let params = c.args.params.now in
+    let dims = params.dims in
+    let e = entered c.args.object.now c.args.stamp in
+    let n = c.point_count-count.result in
+    let i = c.loop-i.i in
+    let before = g.S.Pages.map c.args.stage.now in
+    let mid = g.S.Pages.map c.loop-i.stage in
+    let added = points_from params e c.args.place (n - i) i in
+    let lt : i < n = c.loop-i-test.true in
+    let entered_so_far = c.loop-i.invariant.enters tells points stands new in
+    let is_new = subst (λ (q : Point). IsNewPoint dims (added ++ points) q) (sym c.entry_point-point.ensures.point)
+    (new_next params e c.args.place n i (n - 1 - i) points c.point_count-count.ensures.count lt refl new) in
+    let most = added_pages dims (length points + n) in
+    let counted = c.index_laws.ensures.counted mid dims c.loop-i.root (added ++ points) entered_so_far.stands in
+    let within = growth_within g.X.DomIndex dims c.loop-i.root.levels c.loop-i.root.count i n most (length points)
+    (c.index_laws.ensures.growth dims c.loop-i.root.levels c.loop-i.root.count c.requires.in_range.some_dims c.requires.dims)
+    (counted.0 ∙ added_length params e c.args.place (n - i) i points) lt refl in
+    let adds = c.in_err-add.ensures.growth (search rules) (added ++ points) entered_so_far.stands is_new (entered_so_far.balanced low) in
+    let so_far = c.loop-i.invariant.growth tells points stands new low in
+    subst (λ (m : ℕ). Changes g.S.Pages (m * added_pages dims (length points + m)) c.args.stage.now c.add.new.stage c.from_residual.result) c.point_count-count.ensures.count
+    (refused g.S.Pages (n * most) c.args.stage.now c.add.new.stage c.from_residual.result c.in_err-add.field-0.0 p
+    (changes_then g.S.Pages (i * most) (g.X.DomIndex.growth dims c.loop-i.root.levels c.loop-i.root.count) (n * most) c.args.stage.now c.loop-i.stage c.add.new.stage (Err c.in_err-add.field-0.0)
+    so_far adds (most_pages i n most (g.X.DomIndex.growth dims c.loop-i.root.levels c.loop-i.root.count) lt within)))
+
+pub loop-i-preserved : goal.loop-i-preserved
+loop-i-preserved g c =
+    let params = c.args.params.now in
+    let dims = params.dims in
+    let e = entered c.args.object.now c.args.stamp in
+    let n = c.point_count-count.result in
+    let i = c.loop-i.i in
+    let before = g.S.Pages.map c.args.stage.now in
+    let mid = g.S.Pages.map c.loop-i.stage in
+    let added = points_from params e c.args.place (n - i) i in
+    let lt : i < n = c.loop-i-test.true in
+    record {
+      went = search rules;
+      enters = λ tells points stands new.
+          let entered_so_far = c.loop-i.invariant.enters tells points stands new in
+          let is_new = subst (λ (q : Point). IsNewPoint dims (added ++ points) q) (sym c.entry_point-point.ensures.point)
+          (new_next params e c.args.place n i (n - 1 - i) points c.point_count-count.ensures.count lt refl new) in
+          one_added g.X.DomIndex dims before mid (g.S.Pages.map c.add.new.stage) c.args.root.now c.loop-i.root c.add.new.tree added (points_from params e c.args.place (n - (i + 1)) (i + 1)) points c.entry_point-point.result
+          entered_so_far
+          (next_points params e c.args.place n i (n - 1 - i) lt refl ∙ ap (λ (q : Point). q ∷ added) (sym c.entry_point-point.ensures.point))
+          (c.in_ok-add.ensures.stands (search rules) (added ++ points) entered_so_far.stands is_new)
+          (c.in_ok-add.ensures.change (search rules) (added ++ points) entered_so_far.stands is_new)
+          (λ low. c.in_ok-add.ensures.balanced (search rules) (added ++ points) entered_so_far.stands is_new low);
+      rules = search rules;
+      growth = λ tells points stands new low.
+          let entered_so_far = c.loop-i.invariant.enters tells points stands new in
+          let is_new = subst (λ (q : Point). IsNewPoint dims (added ++ points) q) (sym c.entry_point-point.ensures.point)
+          (new_next params e c.args.place n i (n - 1 - i) points c.point_count-count.ensures.count lt refl new) in
+          let most = added_pages dims (length points + n) in
+          let counted = c.index_laws.ensures.counted mid dims c.loop-i.root (added ++ points) entered_so_far.stands in
+          let within = growth_within g.X.DomIndex dims c.loop-i.root.levels c.loop-i.root.count i n most (length points)
+          (c.index_laws.ensures.growth dims c.loop-i.root.levels c.loop-i.root.count c.requires.in_range.some_dims c.requires.dims)
+          (counted.0 ∙ added_length params e c.args.place (n - i) i points) lt refl in
+          let adds = c.in_ok-add.ensures.growth (search rules) (added ++ points) entered_so_far.stands is_new (entered_so_far.balanced low) in
+          let so_far = c.loop-i.invariant.growth tells points stands new low in
+          let first = so_far.at_most in
+          let second = adds.went_on.at_most in
+          let whole = more_pages i most in
+          went_then g.S.Pages (i * most) (g.X.DomIndex.growth dims c.loop-i.root.levels c.loop-i.root.count) ((i + 1) * most) c.args.stage.now c.loop-i.stage c.add.new.stage so_far adds.went_on
+          (omega (arith, first, second, within, whole));
+    }
+
+pub returns-clause-enters : goal.returns-clause-enters
+returns-clause-enters g c = λ tells points stands new.
+    let params = c.args.params.now in
+    let e = entered c.args.object.now c.args.stamp in
+    let n = c.point_count-count.result in
+    let done : c.loop-i.i ≡ n = omega (arith, c.loop-i-test.false, c.loop-i.auto.i-end) in
+    let none : n - c.loop-i.i ≡ 0 = omega (arith, done) in
+    let all = c.loop-i.invariant.enters tells points stands new in
+    let at_end = subst (λ (m : ℕ). TreeEnters g.X.DomIndex params.dims (g.S.Pages.map c.args.stage.now) (g.S.Pages.map c.loop-i.stage) c.args.root.now c.loop-i.root (points_from params e c.args.place m c.loop-i.i) points) none all in
+    subst (λ (m : ℕ). TreeEnters g.X.DomIndex params.dims (g.S.Pages.map c.args.stage.now) (g.S.Pages.map c.loop-i.stage) c.args.root.now c.loop-i.root (points_from params e c.args.place 0 m) points)
+    (done ∙ c.point_count-count.ensures.count) at_end

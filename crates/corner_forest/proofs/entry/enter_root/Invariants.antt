@@ -1,0 +1,23 @@
+use Rattle.std.proofs.Common.{◌≡◌, ℕ, ◌+◌, ◌-◌, ◌*◌, ◌≤◌, IsTrue, List, length}
+use Rattle.bw_types.specs.Heights.{added_pages}
+use Rattle.bw_types.specs.declared.point.Point.{Point}
+use Rattle.page_ports.specs.Calls.{WentOn}
+use Rattle.page_layout.specs.TreeValue.{tree_fits}
+use Rattle.corner_forest.specs.Enters.{AreNewPoints, TreeEnters, entered, points_from}
+use Rattle.corner_forest.proofs.entry.enter_root.Given as goal
+
+abbrev pub invariant-loop-i : goal.invariant-loop-i
+invariant-loop-i g l =
+    let pages = g.S.Pages in
+    let index = g.X.DomIndex in
+    let before = pages.map l.fn.stage in
+    let dims = l.fn.params.dims in
+    let e = entered l.fn.object l.fn.stamp in
+    record {
+      went : WentOn pages (pages.allotted l.stage + 1) l.fn.stage l.stage;
+      enters : IsTrue (pages.tells l.fn.stage) → (points : List Point) → index.stands before dims l.fn.root points → AreNewPoints l.fn.params e l.fn.place points
+          → TreeEnters index dims before (pages.map l.stage) l.fn.root l.root (points_from l.fn.params e l.fn.place (l.count - l.i) l.i) points;
+      rules : IsTrue (tree_fits l.fn.root) → IsTrue (tree_fits l.root);
+      growth : IsTrue (pages.tells l.fn.stage) → (points : List Point) → index.stands before dims l.fn.root points → AreNewPoints l.fn.params e l.fn.place points
+          → index.balanced before dims l.fn.root → WentOn pages (l.i * added_pages dims (length points + l.count)) l.fn.stage l.stage;
+    }

@@ -1,0 +1,66 @@
+use Rattle.std.proofs.Common.{◌+◌, ◌<◌, Err, length, rules, ap, ◌∙◌, arith}
+use Rattle.std.proofs.lemmas.Result.{err_from_is_err_and}
+use Rattle.page_ports.specs.declared.page.PageFault.TheVariants.{Damaged}
+use Rattle.box_corners.specs.Subsets.{residue_signed_by}
+use Rattle.corner_forest.specs.Corners.{value_at}
+use Rattle.corner_forest.specs.Entries.{corner_count}
+use Rattle.corner_forest.proofs.Exits.{exit_error}
+use Rattle.corner_forest.proofs.Places.{balanced_here, cost_here, more_cost, most_cost, next_sum, stands_here}
+use Rattle.corner_forest.proofs.meet.signed_sum.Goals as goal
+
+pub returns-in_err-value-clause-sound : goal.returns-in_err-value-clause-sound
+returns-in_err-value-clause-sound g c = λ points page tells each e.
+    let p = err_from_is_err_and c.from_residual.result c.from_residual.ensures.1 in
+    let same = exit_error c.from_residual.result c.in_err-value.field-0.0 (Damaged page) p e in
+    let forest = c.args.forest.now in
+    let k = c.args.first + c.loop-subset.subset in
+    let below : k < length forest.roots.items = omega (arith, c.requires.roots, c.loop-subset-test.true, c.corner_count-subset-end.ensures.count) in
+    c.in_err-value.ensures.sound (points k) page (search rules)
+    (stands_here g.X.DomIndex (g.P.Pages.map c.args.pages.now) (g.P.Pages.map c.loop-subset.pages) forest.params.dims points forest.roots.items c.as_slice-roots.result.now k
+    (c.from.result + c.from-in-loop-subset.result) _ c.loop-subset.invariant.went.map c.as_slice-roots.ensures.value (omega (arith, c.from.ensures, c.from-in-loop-subset.ensures)) each below) (ap Err same)
+
+pub returns-in_err-value-clause-cost : goal.returns-in_err-value-clause-cost
+returns-in_err-value-clause-cost g c = λ tells points n each balanced counts.
+    let forest = c.args.forest.now in
+    let k = c.args.first + c.loop-subset.subset in
+    let below : k < length forest.roots.items = omega (arith, c.requires.roots, c.loop-subset-test.true, c.corner_count-subset-end.ensures.count) in
+    let stands = (stands_here g.X.DomIndex (g.P.Pages.map c.args.pages.now) (g.P.Pages.map c.loop-subset.pages) forest.params.dims points forest.roots.items c.as_slice-roots.result.now k
+    (c.from.result + c.from-in-loop-subset.result) _ c.loop-subset.invariant.went.map c.as_slice-roots.ensures.value (omega (arith, c.from.ensures, c.from-in-loop-subset.ensures)) each below) in
+    let low = (balanced_here g.X.DomIndex (g.P.Pages.map c.args.pages.now) (g.P.Pages.map c.loop-subset.pages) forest.params.dims forest.roots.items c.as_slice-roots.result.now k
+    (c.from.result + c.from-in-loop-subset.result) _ c.loop-subset.invariant.went.map c.as_slice-roots.ensures.value (omega (arith, c.from.ensures, c.from-in-loop-subset.ensures)) balanced below) in
+    let inside : c.loop-subset.subset < corner_count forest.params = omega (arith, c.loop-subset-test.true, c.corner_count-subset-end.ensures.count) in
+    let counted = c.index_laws.ensures.counted (g.P.Pages.map c.loop-subset.pages) forest.params.dims _ (points k) stands in
+    let before = c.loop-subset.invariant.cost tells points n each balanced counts in
+    let after = cost_here g.X.DomIndex forest.params.dims _ (length (points k)) n (g.P.Pages.gets c.loop-subset.pages) (g.P.Pages.gets c.value_at.new.pages) counted.0 (counts c.loop-subset.subset inside)
+    (c.in_err-value.ensures.cost (search rules) (points k) stands low) in
+    let more = more_cost c.loop-subset.subset (g.X.DomIndex.cost forest.params.dims n) (g.P.Pages.gets c.args.pages.now) (g.P.Pages.gets c.loop-subset.pages) (g.P.Pages.gets c.value_at.new.pages) before after in
+    most_cost c.loop-subset.subset (corner_count forest.params) (g.X.DomIndex.cost forest.params.dims n) (g.P.Pages.gets c.args.pages.now) (g.P.Pages.gets c.value_at.new.pages) more inside
+
+pub loop-subset-preserved : goal.loop-subset-preserved
+loop-subset-preserved g c =
+    let forest = c.args.forest.now in
+    let k = c.args.first + c.loop-subset.subset in
+    let below : k < length forest.roots.items = omega (arith, c.requires.roots, c.loop-subset-test.true, c.corner_count-subset-end.ensures.count) in
+    record {
+      went = search rules;
+      total = λ tells points each.
+          next_sum (λ subset. residue_signed_by subset (value_at forest.params.dims c.args.query.now c.args.version (points (c.args.first + subset)) subset))
+          c.loop-subset.subset c.loop-subset.total c.sign.result c.res_add-total.result (c.loop-subset.invariant.total tells points each)
+          (c.sign.ensures ∙ ap (residue_signed_by c.loop-subset.subset)
+          (c.in_ok-value.ensures.value (search rules) (points k)
+          (stands_here g.X.DomIndex (g.P.Pages.map c.args.pages.now) (g.P.Pages.map c.loop-subset.pages) forest.params.dims points forest.roots.items c.as_slice-roots.result.now k
+          (c.from.result + c.from-in-loop-subset.result) _ c.loop-subset.invariant.went.map c.as_slice-roots.ensures.value (omega (arith, c.from.ensures, c.from-in-loop-subset.ensures)) each below)))
+          c.res_add-total.ensures;
+      cost = λ tells points n each balanced counts.
+          let stands = (stands_here g.X.DomIndex (g.P.Pages.map c.args.pages.now) (g.P.Pages.map c.loop-subset.pages) forest.params.dims points forest.roots.items c.as_slice-roots.result.now k
+          (c.from.result + c.from-in-loop-subset.result) _ c.loop-subset.invariant.went.map c.as_slice-roots.ensures.value (omega (arith, c.from.ensures, c.from-in-loop-subset.ensures)) each below) in
+          let low = (balanced_here g.X.DomIndex (g.P.Pages.map c.args.pages.now) (g.P.Pages.map c.loop-subset.pages) forest.params.dims forest.roots.items c.as_slice-roots.result.now k
+          (c.from.result + c.from-in-loop-subset.result) _ c.loop-subset.invariant.went.map c.as_slice-roots.ensures.value (omega (arith, c.from.ensures, c.from-in-loop-subset.ensures)) balanced below) in
+          let inside : c.loop-subset.subset < corner_count forest.params = omega (arith, c.loop-subset-test.true, c.corner_count-subset-end.ensures.count) in
+          let counted = c.index_laws.ensures.counted (g.P.Pages.map c.loop-subset.pages) forest.params.dims _ (points k) stands in
+          let before = c.loop-subset.invariant.cost tells points n each balanced counts in
+          let after = cost_here g.X.DomIndex forest.params.dims _ (length (points k)) n (g.P.Pages.gets c.loop-subset.pages) (g.P.Pages.gets c.value_at.new.pages) counted.0 (counts c.loop-subset.subset inside)
+          (c.in_ok-value.ensures.cost (search rules) (points k) stands low) in
+          let more = more_cost c.loop-subset.subset (g.X.DomIndex.cost forest.params.dims n) (g.P.Pages.gets c.args.pages.now) (g.P.Pages.gets c.loop-subset.pages) (g.P.Pages.gets c.value_at.new.pages) before after in
+          more;
+    }

@@ -1,0 +1,73 @@
+-- One entry more in a forest.
+use Rattle.std.specs.Prelude.{◌≡◌, ℕ, zero, suc, ◌+◌, ◌-◌, ◌*◌, ◌<◌, Bool, nat_lt, if◌then◌else◌, List, ◌∷◌, ◌++◌, length, map}
+use Rattle.std.specs.List.{range_with_len}
+use Rattle.bw_types.specs.Heights.{added_pages}
+use Rattle.bw_types.specs.declared.object.Object.{Object}
+use Rattle.bw_types.specs.declared.params.Params.{Params}
+use Rattle.bw_types.specs.declared.point.Point.{Point}
+use Rattle.bw_types.specs.declared.tree.Tree.{Tree}
+use Rattle.page_ports.specs.Frame.{Replaces}
+use Rattle.page_ports.specs.Pages.{PageMap}
+use Rattle.page_layout.specs.Footprint.{NamesNoneTwice}
+use Rattle.poly_moments.specs.PlaneSums.{Entered}
+use Rattle.dom_index.specs.Points.{IsNewPoint}
+use Rattle.dom_index.specs.declared.index.DomIndex.{Ghosts}
+use Rattle.corner_forest.specs.Entries.{entry_point, point_count, root_count, root_points}
+use Rattle.corner_forest.specs.Stands.{ForestStands, AreBalanced, forest_pages}
+use Rattle.corner_forest.specs.Trees.{EachStands}
+use Rattle.corner_forest.specs.declared.stamp.Stamp.{Stamp}
+
+-- the object with what is told of its entry
+abbrev pub entered : Object → Stamp → Entered
+entered o stamp = record { object = o; event = stamp.event; version = stamp.version; minus = stamp.minus }
+
+-- the entry that `enter` makes of its arguments
+abbrev pub entry_of : Object → Bool → ℕ → ℕ → Entered
+entry_of o minus event version = record { object = o; event = event; version = version; minus = minus }
+
+-- so many of the entry's points in a tree, from that of this corner on
+abbrev pub points_from : Params → Entered → ℕ → ℕ → ℕ → List Point
+points_from params e root from n = map (entry_point params e root) (range_with_len from n)
+
+-- Each of the entry's points in the tree is new there, after those of the later corners.
+abbrev pub AreNewPoints : Params → Entered → ℕ → List Point → Type 0
+AreNewPoints params e root points =
+    (corner : ℕ) → corner < point_count params root
+    → IsNewPoint params.dims (points_from params e root (corner + 1) (point_count params root - 1 - corner) ++ points) (entry_point params e root corner)
+
+-- The tree stood for the points, and stands for these besides.
+pub record TreeEnters {X : Type 0} (g : Ghosts X) (dims : ℕ) (before after : PageMap) (old new : Tree) (added points : List Point) : Type 0 where
+  pub stands : g.stands after dims new (added ++ points)
+  pub change : Replaces (g.footprint before dims old) (g.footprint after dims new) before after
+  pub balanced : g.balanced before dims old → g.balanced after dims new
+
+-- the sum of f k over the numbers k below n
+abbrev pub sum_below : ℕ → (ℕ → ℕ) → ℕ
+sum_below zero f = 0
+sum_below (suc n) f = sum_below n f + f n
+
+-- the most page numbers that the additions to a tree give out, after so many entries
+abbrev pub root_growth : Params → ℕ → ℕ → ℕ
+root_growth params entries root = point_count params root * added_pages params.dims ((entries + 1) * point_count params root)
+
+-- those of all trees together
+abbrev pub entry_growth : Params → ℕ → ℕ
+entry_growth params entries = sum_below (root_count params) (root_growth params entries)
+
+-- The forest stood for the entries, and stands for one more.
+pub record ForestEnters {X : Type 0} (g : Ghosts X) (params : Params) (before after : PageMap) (old new : List Tree) (entries : List Entered) (e : Entered) : Type 0 where
+  pub stands : ForestStands g after params new (e ∷ entries)
+  pub once : NamesNoneTwice (forest_pages g after params new)
+  pub change : Replaces (forest_pages g before params old) (forest_pages g after params new) before after
+  pub balanced : AreBalanced g before params old → AreBalanced g after params new
+
+-- the points of a tree while an entry is made: those of the trees before `reached` have it
+abbrev pub points_reached : Params → List Entered → Entered → ℕ → ℕ → List Point
+points_reached params entries e reached root = if nat_lt root reached then root_points params (e ∷ entries) root else root_points params entries root
+
+-- The entry is made in the trees before `reached`. Each is balanced where all were.
+pub record IsEntering {X : Type 0} (g : Ghosts X) (params : Params) (before after : PageMap) (old new : List Tree) (entries : List Entered) (e : Entered) (reached : ℕ) : Type 0 where
+  pub stands : EachStands (λ tree points. g.stands after params.dims tree points × (AreBalanced g before params old → g.balanced after params.dims tree))
+      (points_reached params entries e reached) 0 new
+  pub once : NamesNoneTwice (forest_pages g after params new)
+  pub change : Replaces (forest_pages g before params old) (forest_pages g after params new) before after

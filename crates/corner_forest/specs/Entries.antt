@@ -1,0 +1,58 @@
+-- What is entered into a forest, and the points that an entry has in each of its trees.
+--
+-- The trees stand in this order: for each subset of the dimensions one of weights, for each subset one of counts, and one
+-- for each plane. Subsets and planes are told by their numbers.
+use Rattle.std.specs.Prelude.{ℕ, ◌+◌, ◌-◌, ◌*◌, ◌^◌, ◌<◌, ◌≤◌, Bool, nat_lt, if◌then◌else◌, List, length, map}
+use Rattle.std.specs.List.{All, flat_map, range_with_len}
+use Rattle.bw_types.specs.Residues.{residue, opposite_residue}
+use Rattle.bw_types.specs.declared.params.Params.{Params}
+use Rattle.bw_types.specs.declared.point.Point.{Point}
+use Rattle.box_corners.specs.Entries.{Entry, corner_point}
+use Rattle.poly_moments.specs.Planes.{plane_count}
+use Rattle.poly_moments.specs.PlaneSums.{Entered, plane_point}
+
+-- how many subsets of the dimensions there are, and so corners of a box
+abbrev pub corner_count : Params → ℕ
+corner_count params = 2 ^ params.dims
+
+-- how many trees there are
+abbrev pub root_count : Params → ℕ
+root_count params = 2 * corner_count params + plane_count params
+
+-- the residue, or its opposite where the entry takes an object out
+abbrev pub entered_residue : Bool → ℕ → ℕ
+entered_residue minus weight = if minus then opposite_residue weight else weight
+
+-- the entry as an object with its weight
+abbrev pub as_weighed : Entered → Entry
+as_weighed e = record { object = e.object; number = e.event; version = e.version; weight = entered_residue e.minus (residue e.object.weight) }
+
+-- the entry as an object that counts 1
+abbrev pub as_counted : Entered → Entry
+as_counted e = record { object = e.object; number = e.event; version = e.version; weight = entered_residue e.minus 1 }
+
+-- how many points an entry has in this tree: one, or in a plane one for each corner
+abbrev pub point_count : Params → ℕ → ℕ
+point_count params root = if nat_lt root (2 * corner_count params) then 1 else corner_count params
+
+-- the entry's point in this tree; in a plane that of this corner
+abbrev pub entry_point : Params → Entered → ℕ → ℕ → Point
+entry_point params e root corner =
+    if nat_lt root (corner_count params) then corner_point params.dims root (as_weighed e)
+    else if nat_lt root (2 * corner_count params) then corner_point params.dims (root - corner_count params) (as_counted e)
+    else plane_point params (root - 2 * corner_count params) corner e
+
+-- all points of the entry in this tree
+abbrev pub entry_points : Params → ℕ → Entered → List Point
+entry_points params root e = map (entry_point params e root) (range_with_len 0 (point_count params root))
+
+-- the points of all entries in this tree
+abbrev pub root_points : Params → List Entered → ℕ → List Point
+root_points params entries root = flat_map (entry_points params root) entries
+
+-- The entry may follow the others: its event is after all of theirs, of which no two are one, its version is no earlier,
+-- and their events keep the rule.
+pub record IsNextEntry (params : Params) (entries : List Entered) (e : Entered) : Type 0 where
+  pub after : All (λ f. f.event < e.event) entries
+  pub last : All (λ f. f.version ≤ e.version) entries
+  pub few : length entries ≤ e.event

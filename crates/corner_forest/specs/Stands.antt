@@ -1,0 +1,30 @@
+-- When a forest stands for what was entered.
+use Rattle.std.specs.Prelude.{◌≡◌, ℕ, ◌<◌, List, length, get_or}
+use Rattle.std.specs.List.{All}
+use Rattle.bw_types.specs.Empty.{empty_tree}
+use Rattle.bw_types.specs.declared.params.Params.{Params}
+use Rattle.bw_types.specs.declared.tree.Tree.{Tree}
+use Rattle.page_ports.specs.Pages.{PageMap}
+use Rattle.poly_moments.specs.PlaneSums.{Entered, EnteredFits}
+use Rattle.dom_index.specs.declared.index.DomIndex.{Ghosts}
+use Rattle.corner_forest.specs.Entries.{root_count, root_points}
+use Rattle.corner_forest.specs.Trees.{EachStands, trees_pages}
+
+-- In these pages each tree stands for its list of corner points of the entries, which keep the rules.
+pub record ForestStands {X : Type 0} (g : Ghosts X) (pages : PageMap) (params : Params) (roots : List Tree) (entries : List Entered) : Type 0 where
+  pub count : length roots ≡ root_count params
+  pub fits : All (EnteredFits params) entries
+  pub trees : EachStands (g.stands pages params.dims) (root_points params entries) 0 roots
+
+-- Each tree is balanced.
+abbrev pub AreBalanced : {X : Type 0} → Ghosts X → PageMap → Params → List Tree → Type 0
+AreBalanced g pages params roots = All (g.balanced pages params.dims) roots
+
+-- the pages of all trees together
+abbrev pub forest_pages : {X : Type 0} → Ghosts X → PageMap → Params → List Tree → List ℕ
+forest_pages g pages params roots = trees_pages (g.footprint pages params.dims) roots
+
+-- The page is one that a sum in one of the trees may call damaged.
+abbrev pub IsDamagedForSum : {X : Type 0} → Ghosts X → PageMap → Params → List Tree → ℕ → ℕ → Type 0
+IsDamagedForSum g pages params roots version damaged =
+    (root : ℕ) × (keys : List ℕ) × (root < length roots) × g.damaged_for_sum pages params.dims (get_or roots root empty_tree) keys version damaged

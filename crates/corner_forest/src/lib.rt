@@ -1,0 +1,24 @@
+//! Sums, counts and integrals over boxes, by the signed corners of a forest of indexes.
+//!
+//! An object is entered as one point at each of its corners, in a tree for each corner; a query adds up the
+//! dominance sums at its own corners with their signs. What an entry with `minus` takes out counts with the
+//! opposite sign from its version on, so every past version stays as it was. The calls are generic over the
+//! index, and their contracts speak of objects and queries alone.
+#![tactic(auto)]
+
+mod entry;
+mod forest;
+pub mod laws;
+mod meet;
+mod planes;
+mod points;
+#[cfg(test)]
+mod random_tests;
+mod stamp;
+#[cfg(test)]
+mod tests;
+
+pub use entry::enter;
+pub use forest::Forest;
+pub use meet::{count, sum};
+pub use planes::integral;

@@ -1,0 +1,95 @@
+//! The points of an entry.
+ghost use Rattle.std.specs.Prelude.{◌≡◌, ◌+◌, ◌*◌, ◌^◌, ◌<◌, ◌≤◌, IsTrue, IsSome, nat_lt, if◌then◌else◌};
+ghost use Rattle.bw_types.specs.Fits.{IsInRange, object_fits};
+ghost use Rattle.bw_types.specs.Keys.{point_key as key_of_point};
+ghost use Rattle.box_corners.specs.Corners.{corner_keys};
+ghost use Rattle.dom_index.specs.Points.{AreKeysBelow};
+ghost use Rattle.corner_forest.specs.Enters.{entered};
+ghost use Rattle.corner_forest.specs.Entries.{corner_count as count_of_corners, entered_residue, entry_point as point_of_entry, root_count};
+
+use crate::forest::corner_count;
+use crate::stamp::Stamp;
+use box_corners::object_corner;
+use bw_types::{Object, Params, Point, point_key, res_neg, res_of};
+use poly_moments::plane_weight;
+
+/// The entry's point in a tree; in a plane that of this corner.
+pub fn entry_point(params: &Params, object: &Object, stamp: Stamp, root: u8, corner: u8) -> Point
+    requires in_range { IsInRange params.now }
+    requires fits { IsTrue (object_fits params.now object.now) }
+    requires event { stamp.event < 2 ^ 28 }
+    requires root { root < root_count params.now }
+    requires corner { corner < count_of_corners params.now }
+    ensures point { result ≡ point_of_entry params.now (entered object.now stamp) root corner }
+    ensures keys { AreKeysBelow params.now.dims result.keys }
+{
+    let corners = corner_count(params);
+    if root < corners {
+        let weight = weighed(stamp, res_of(i128::from(object.weight)));
+        return corner_point(params, object, stamp.event, stamp.version, root, weight);
+    }
+    if root < 2 * corners {
+        return corner_point(
+            params,
+            object,
+            stamp.event,
+            stamp.version,
+            root - corners,
+            weighed(stamp, 1),
+        );
+    }
+    let number = stamp.event * u32::from(corners) + u32::from(corner);
+    let weight = weighed(
+        stamp,
+        plane_weight(object, params, corner, root - 2 * corners),
+    );
+    corner_point(params, object, number, stamp.version, corner, weight)
+}
+
+// The residue, or its opposite where the entry takes its object out.
+fn weighed(stamp: Stamp, residue: u128) -> u128
+    ensures { result ≡ entered_residue stamp.minus residue }
+{
+    if stamp.minus {
+        res_neg(residue)
+    } else {
+        residue
+    }
+}
+
+// The point with this number at the object's corner of the subset.
+fn corner_point(
+    params: &Params,
+    object: &Object,
+    number: u32,
+    version: u32,
+    subset: u8,
+    weight: u128,
+) -> Point
+    requires fits { IsTrue (object_fits params.now object.now) }
+    ensures keys { result.keys ≡ corner_keys params.now.dims object.now number subset }
+    ensures version { result.version ≡ version }
+    ensures weight { result.weight ≡ weight }
+    ensures below { AreKeysBelow params.now.dims result.keys }
+{
+    let corner = object_corner(object, subset);
+    Point {
+        keys: [
+            key_within(params.dims, 0, corner[0], number),
+            key_within(params.dims, 1, corner[1], number),
+            key_within(params.dims, 2, corner[2], number),
+        ],
+        version,
+        weight,
+    }
+}
+
+fn key_within(dims: u8, i: u8, coord: u32, number: u32) -> u64
+    ensures { result ≡ (if nat_lt i dims then key_of_point coord number else 0) }
+{
+    if i < dims {
+        point_key(coord, number)
+    } else {
+        0
+    }
+}

@@ -1,0 +1,167 @@
+//! Forests over lists of points, beside plain sums over the objects.
+ghost use Rattle.std.specs.Prelude.{◌≡◌, IsTrue, length};
+ghost use Rattle.bw_types.specs.Fits.{IsInRange};
+ghost use Rattle.corner_forest.specs.Entries.{root_count as count_of_roots};
+
+use crate::forest::root_count;
+use crate::{Forest, count, enter, integral, sum};
+use bw_types::{Kind, Object, Params, Query, object_fits, query_fits};
+use dom_index::PointList;
+use page_ports::MemStage;
+use std::alloc::Global;
+use std::test::Fail;
+
+// The params of so many dimensions, at most 3, and of this degree.
+pub fn params_of(dims: u8, degree: Option<u8>) -> Params
+    ensures { IsInRange result }
+{
+    Params {
+        dims: dims.clamp(1, 3),
+        degree: degree.map(|g| g.min(2)),
+        events: 1000000,
+        pages: 1048576,
+        origin: 0,
+    }
+}
+
+// Whether the forest can be asked and entered into.
+fn is_sound(forest: &Forest) -> bool
+    ensures range { IsTrue result → IsInRange forest.now.params }
+    ensures roots { IsTrue result → length forest.now.roots.items ≡ count_of_roots forest.now.params }
+{
+    let params = &forest.params;
+    if params.dims < 1 || params.dims > 3 {
+        return false;
+    }
+    if params.degree.unwrap_or(0) > 2 {
+        return false;
+    }
+    if params.events < 1 || params.events > 268435456 {
+        return false;
+    }
+    if params.pages < 3 || params.pages > 4294967295 {
+        return false;
+    }
+    if params.origin != 0 {
+        return false;
+    }
+    forest.roots.len() == root_count(params)
+}
+
+pub fn object_of(low: [u32; 3], high: [u32; 3], weight: i64) -> Object {
+    Object {
+        id: 1,
+        low,
+        high,
+        weight,
+        coeffs: [0; 27],
+    }
+}
+
+// A forest in memory. Events count from 0.
+#[derive(Drop)]
+pub struct Entered {
+    stage: MemStage,
+    forest: Forest,
+    event: u32,
+}
+
+pub fn empty(alloc: Global, params: &Params) -> Entered
+    requires { IsInRange params.now }
+{
+    Entered {
+        stage: MemStage::new(alloc, 4294967295),
+        forest: Forest::new(params),
+        event: 0,
+    }
+}
+
+pub fn put(entered: &mut Entered, object: &Object, minus: bool, version: u32) -> bool {
+    let event = entered.event;
+    if event >= 1000000 || version >= 1000000 {
+        return false;
+    }
+    if !is_sound(&entered.forest) || !object_fits(object, &entered.forest.params) {
+        return false;
+    }
+    entered.event = event + 1;
+    enter::<PointList, MemStage>(
+        &mut entered.stage,
+        &mut entered.forest,
+        object,
+        minus,
+        event,
+        version,
+    )
+    .is_ok()
+}
+
+pub fn ask(entered: &mut Entered, query: &Query, version: u32) -> Option<i128> {
+    if !is_sound(&entered.forest) || !query_fits(query, &entered.forest.params) {
+        return None;
+    }
+    let stage = &mut entered.stage;
+    let forest = &entered.forest;
+    let answer = match query.kind {
+        Kind::Sum => sum::<PointList, MemStage>(stage, forest, query, version),
+        Kind::Count => count::<PointList, MemStage>(stage, forest, query, version),
+        Kind::Integral => integral::<PointList, MemStage>(stage, forest, query, version),
+    };
+    answer.ok()
+}
+
+pub fn query_of(kind: Kind, low: [u32; 3], high: [u32; 3]) -> Query {
+    Query { kind, low, high }
+}
+
+#[test]
+fn touching_boxes_meet(rt: HostRuntime) -> Result<(), Fail> {
+    let mut entered = empty(rt.alloc(), &params_of(1, None));
+    let first = object_of([2, 0, 0], [5, 0, 0], 10);
+    let second = object_of([5, 0, 0], [9, 0, 0], 7);
+    assert!(rt; put(&mut entered, &first, false, 1));
+    assert!(rt; put(&mut entered, &second, false, 1));
+    assert!(rt; put(&mut entered, &first, true, 2));
+    let five = query_of(Kind::Sum, [5, 0, 0], [5, 0, 0]);
+    assert_eq!(rt; ask(&mut entered, &five, 0), Some(0));
+    assert_eq!(rt; ask(&mut entered, &five, 1), Some(17));
+    assert_eq!(rt; ask(&mut entered, &five, 2), Some(7));
+    let six = query_of(Kind::Sum, [6, 0, 0], [6, 0, 0]);
+    assert_eq!(rt; ask(&mut entered, &six, 1), Some(7));
+    let below = query_of(Kind::Sum, [0, 0, 0], [1, 0, 0]);
+    assert_eq!(rt; ask(&mut entered, &below, 1), Some(0));
+    let all = query_of(Kind::Count, [0, 0, 0], [9, 0, 0]);
+    assert_eq!(rt; ask(&mut entered, &all, 1), Some(2));
+    assert_eq!(rt; ask(&mut entered, &all, 2), Some(1));
+    Ok(())
+}
+
+#[test]
+fn integrals_of_powers(rt: HostRuntime) -> Result<(), Fail> {
+    let mut entered = empty(rt.alloc(), &params_of(1, Some(2)));
+    let mut square = object_of([0, 0, 0], [3, 0, 0], 1);
+    square.coeffs[2] = 1;
+    assert!(rt; put(&mut entered, &square, false, 1));
+    let part = query_of(Kind::Integral, [1, 0, 0], [2, 0, 0]);
+    assert_eq!(rt; ask(&mut entered, &part, 1), Some(14));
+    let mut plane = empty(rt.alloc(), &params_of(2, Some(1)));
+    let mut product = object_of([0, 0, 0], [2, 2, 0], 1);
+    product.coeffs[3] = 1;
+    assert!(rt; put(&mut plane, &product, false, 1));
+    let part = query_of(Kind::Integral, [1, 0, 0], [2, 1, 0]);
+    assert_eq!(rt; ask(&mut plane, &part, 1), Some(27));
+    Ok(())
+}
+
+// Terms past 128 bits cancel.
+#[test]
+fn far_corners_cancel(rt: HostRuntime) -> Result<(), Fail> {
+    let mut entered = empty(rt.alloc(), &params_of(3, Some(2)));
+    let mut cube = object_of([0, 0, 0], [1, 1, 1], 1);
+    cube.coeffs[26] = 1;
+    assert!(rt; put(&mut entered, &cube, false, 1));
+    let far = 4294967294;
+    let all = query_of(Kind::Integral, [0, 0, 0], [far, far, far]);
+    assert_eq!(rt; ask(&mut entered, &all, 1), Some(8));
+    Ok(())
+}

@@ -1,0 +1,14 @@
+-- The entries of lives when one begins or ends.
+use Rattle.std.specs.Prelude.{◌≡◌, ◌≢◌, ℕ, List, [], ◌∷◌, ◌++◌, IsPermutation}
+use Rattle.bw_types.specs.declared.dated.Dated.{Dated}
+use Rattle.history_entries.specs.Entries.{begun_entry, ended_entry, entries_of}
+
+-- A life more, not ended yet, is one entry more.
+abbrev pub EntriesGrowByAdd : Type 0
+EntriesGrowByAdd = (ds : List Dated) (d : Dated) → d.withdrawn ≡ 0 → entries_of (ds ++ d ∷ []) ≡ entries_of ds ++ begun_entry d ∷ []
+
+-- Where one life of a list ends, the entries are those of before and the one of its end.
+abbrev pub EntriesGrowByEnd : Type 0
+EntriesGrowByEnd = (before after : List Dated) (d : Dated) (version event : ℕ) → d.withdrawn ≡ 0 → version ≢ 0
+    → IsPermutation (entries_of (before ++ record d { withdrawn = version; withdraw_event = event } ∷ after))
+    (ended_entry (record d { withdrawn = version; withdraw_event = event }) ∷ entries_of (before ++ d ∷ after))

@@ -1,0 +1,4 @@
+pub mod Lawful
+pub mod Living
+pub mod Growing
+pub mod Bounds

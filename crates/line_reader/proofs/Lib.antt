@@ -1,0 +1,6 @@
+pub mod BufferLemmas
+pub mod CalmLemmas
+pub mod LinesLemmas
+pub mod ReaderLemmas
+pub mod SearchLemmas
+pub mod SkipLemmas

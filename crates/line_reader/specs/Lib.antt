@@ -1,0 +1,4 @@
+pub mod Lines
+pub mod Intake
+pub mod Reader
+pub mod Skip

@@ -1,0 +1,131 @@
+-- What a node on the way of a key and a version tells of the value there, and of damage below it.
+use Rattle.std.proofs.Common.{◌≡◌, ◌≢◌, ℕ, zero, suc, ◌+◌, ◌-◌, ◌%◌, ◌^◌, ◌≤◌, ◌==◌, inl, inr, true, List, Option, Some, None, refl, sym, ap, ◌∙◌, subst, arith}
+use Rattle.std.specs.Option.{option_map_or}
+use Rattle.std.proofs.Math.Nat.{add-mod-mod, mod-add-mod}
+use Rattle.std.proofs.lemmas.Bool.{cases_Bool, eqb-true, eq-eqb, cond-true, cond-false}
+use Rattle.page_ports.specs.Pages.{PageMap}
+use Rattle.page_layout.specs.Damage.{HoldsNoNode, IsDamagedBelow, NothingBeside}
+use Rattle.page_layout.specs.DamageLaws as laws
+use Rattle.page_layout.specs.declared.mv_node.MvNode.{MvNode}
+use Rattle.page_layout.specs.MvNode.{IsMvNode, IsTyped, mv_node_page}
+use Rattle.mv_pages.specs.Alive.{child_of, node_value, value_of, or_later, path_child}
+use Rattle.mv_pages.specs.Lows.{alive_lows, low_above, low_at}
+use Rattle.mvsb_tree.specs.declared.place.Place.{Place}
+use Rattle.mvsb_tree.specs.Damage.{FitsPlace, LeadsTo, IsDamagedFromRoot, IsDamagedPast, IsInPlace}
+use Rattle.mvsb_tree.specs.Steps.{node_on, node_total, root_level, total_below}
+use Rattle.mvsb_tree.proofs.Nodes.{node_on-spelled, same_spelled}
+
+-- The total of a page is that of the node that it spells.
+pub total_at : (pages : PageMap) (level page key v : ℕ) (node : MvNode) → 1 ≤ level
+    → IsTyped node → IsMvNode node → node.level ≡ level → pages page ≡ Some (mv_node_page node)
+    → total_below level pages page key v ≡ node_total pages node key v
+total_at pages zero page key v node some typed rules at there = absurd (omega (arith, some))
+total_at pages (suc level) page key v node some typed rules at there =
+    let same : node_on pages page ≡ node = node_on-spelled pages page node typed rules there in
+    let less : node.level - 1 ≡ level = omega (arith, at) in
+    let total : ℕ → MvNode → ℕ = λ l n. value_of n.entries.items key v + option_map_or (λ child. total_below l pages child key v) (child_of n key v) 0 in
+    ap (λ (n : MvNode). total level n) same ∙ ap (λ (l : ℕ). total l node) (sym less)
+
+pub leaf_value : (pages : PageMap) (node : MvNode) (key v value : ℕ) → child_of node key v ≡ None → value ≡ node_value node key v
+    → value ≡ node_total pages node key v % 2 ^ 128
+leaf_value pages node key v value none is_value =
+    let nothing : option_map_or (λ child. total_below (node.level - 1) pages child key v) (child_of node key v) 0 ≡ 0 =
+    ap (λ (o : Option ℕ). option_map_or (λ child. total_below (node.level - 1) pages child key v) o 0) none in
+    let whole : node_total pages node key v ≡ value_of node.entries.items key v = omega (arith, nothing) in
+    is_value ∙ ap (λ (n : ℕ). n % 2 ^ 128) (sym whole)
+
+pub index_value : (pages : PageMap) (node below_node : MvNode) (key v value below child : ℕ) → child_of node key v ≡ Some child
+    → total_below (node.level - 1) pages child key v ≡ node_total pages below_node key v
+    → value ≡ node_value node key v → below ≡ node_total pages below_node key v % 2 ^ 128
+    → (value + below) % 2 ^ 128 ≡ node_total pages node key v % 2 ^ 128
+index_value pages node below_node key v value below child leads total is_value is_below =
+    let s : ℕ = value_of node.entries.items key v in
+    let t : ℕ = node_total pages below_node key v in
+    let rest : option_map_or (λ child. total_below (node.level - 1) pages child key v) (child_of node key v) 0 ≡ t =
+    ap (λ (o : Option ℕ). option_map_or (λ child. total_below (node.level - 1) pages child key v) o 0) leads ∙ total in
+    let whole : node_total pages node key v ≡ s + t = ap (λ (n : ℕ). s + n) rest in
+    ap (λ (n : ℕ). (n + below) % 2 ^ 128) is_value ∙ ap (λ (n : ℕ). (s % 2 ^ 128 + n) % 2 ^ 128) is_below
+    ∙ mod-add-mod s (2 ^ 128) (t % 2 ^ 128) ∙ add-mod-mod s t (2 ^ 128) ∙ ap (λ (n : ℕ). n % 2 ^ 128) (sym whole)
+
+-- A leaf leads to no child.
+pub index_leads : (node : MvNode) (key v child : ℕ) → child_of node key v ≡ Some child → node.level ≢ 1
+index_leads node key v child leads leaf =
+    let here : (node.level == 1) ≡ true = eq-eqb node.level 1 leaf in
+    let none : child_of node key v ≡ None = cond-true (node.level == 1) None (path_child node.entries.items key v) here in
+    let both : ◌≡◌ {A = Option ℕ} (Some child) None = sym leads ∙ none in
+    cc
+
+-- The level of a root that is no 0 is that of the node.
+pub level_of_root : (pages : PageMap) (root : ℕ) (node : MvNode) → root ≢ 0 → IsTyped node → IsMvNode node → pages root ≡ Some (mv_node_page node)
+    → root_level pages root ≡ node.level
+level_of_root pages root node some typed rules there = elim (cases_Bool (root == 0)) [
+  | inl none ↦ absurd (some (eqb-true root 0 none))
+  | inr other ↦ cond-false (root == 0) 0 (node_on pages root).level other ∙ ap (λ (n : MvNode). n.level) (node_on-spelled pages root node typed rules there)
+]
+
+-- The child that is reached, with its place, is where the node leads to.
+pub leads_there : (place inner : Place) (node : MvNode) (child low : ℕ) (next : Option ℕ) → Some child ≡ child_of node place.key place.version
+    → Some low ≡ low_at (alive_lows node.entries.items place.version) place.key
+    → next ≡ low_above (alive_lows node.entries.items place.version) place.key
+    → inner.low ≡ low → inner.high ≡ or_later place.high next → inner.key ≡ place.key → inner.version ≡ place.version
+    → LeadsTo place node child inner
+leads_there place inner node child low next is_child is_low is_next in_low in_high in_key in_version = record {
+  child_is = sym is_child;
+  low = in_low ∙ ap (λ (o : Option ℕ). option_map_or (λ l. l) o place.low) is_low;
+  high = in_high ∙ ap (λ (o : Option ℕ). or_later place.high o) is_next;
+  key = in_key;
+  version = in_version;
+}
+
+-- The child itself is damaged.
+pub past_here : (pages : PageMap) (place inner : Place) (node : MvNode) (child damaged : ℕ) → 1 ≤ node.level - 1 → LeadsTo place node child inner
+    → damaged ≡ child → HoldsNoNode FitsPlace pages (node.level - 1) inner child → IsDamagedPast pages place node damaged
+past_here pages place inner node child damaged some leads same none =
+    (child, inner, leads, laws.damaged_here FitsPlace LeadsTo NothingBeside pages (node.level - 1) inner child damaged some same none)
+
+-- A node below the child is damaged.
+pub past_further : (pages : PageMap) (place inner : Place) (node below_node : MvNode) (child damaged : ℕ) (bytes : List ℕ) → 1 ≤ node.level - 1 → LeadsTo place node child inner
+    → pages child ≡ Some bytes → FitsPlace (node.level - 1) inner below_node bytes
+    → IsDamagedPast pages inner below_node damaged → IsDamagedPast pages place node damaged
+past_further pages place inner node below_node child damaged bytes some leads there fits past =
+    let less : below_node.level - 1 ≡ node.level - 1 - 1 = ap (λ (l : ℕ). l - 1) fits.fits.at_level in
+    let below = subst (λ (l : ℕ). IsDamagedBelow FitsPlace LeadsTo NothingBeside pages l past.1 past.0 damaged) less past.3 in
+    (child, inner, leads, laws.damaged_further FitsPlace LeadsTo NothingBeside pages (node.level - 1) inner child damaged below_node bytes past.0 past.1 some there fits past.2 below)
+
+-- The node of a page is damaged where one below it is.
+pub root_further : (pages : PageMap) (place : Place) (node : MvNode) (level page damaged : ℕ) (bytes : List ℕ) → 1 ≤ level
+    → pages page ≡ Some bytes → FitsPlace level place node bytes
+    → IsDamagedPast pages place node damaged → IsDamagedBelow FitsPlace LeadsTo NothingBeside pages level place page damaged
+root_further pages place node level page damaged bytes some there fits past =
+    let less : node.level - 1 ≡ level - 1 = ap (λ (l : ℕ). l - 1) fits.fits.at_level in
+    let below = subst (λ (l : ℕ). IsDamagedBelow FitsPlace LeadsTo NothingBeside pages l past.1 past.0 damaged) less past.3 in
+    laws.damaged_further FitsPlace LeadsTo NothingBeside pages level place page damaged node bytes past.0 past.1 some there fits past.2 below
+
+-- A root that spells a node which does not keep to the place is damaged.
+pub root_unfit : (pages : PageMap) (root : ℕ) (place : Place) (node : MvNode) (damaged : ℕ) → root ≢ 0 → IsTyped node → IsMvNode node → pages root ≡ Some (mv_node_page node)
+    → (IsInPlace node.level place node → ⊥) → damaged ≡ root → IsDamagedFromRoot pages root place damaged
+root_unfit pages root place node damaged some typed rules there unfit same =
+    let level : root_level pages root ≡ node.level = level_of_root pages root node some typed rules there in
+    inr (laws.damaged_here FitsPlace LeadsTo NothingBeside pages (root_level pages root) place root damaged (omega (arith, level, rules.low_level)) same
+    (λ other bytes here fits.
+    let is : other ≡ node = sym (same_spelled pages root node other bytes typed rules there fits.fits.typed fits.fits.rules fits.fits.spelled here) in
+    let at = subst (λ (n : MvNode). IsInPlace (root_level pages root) place n) is fits.admitted in
+    unfit (subst (λ (l : ℕ). IsInPlace l place node) level at)))
+
+-- A root whose node fits is damaged where a node below it is.
+pub root_past : (pages : PageMap) (root : ℕ) (place : Place) (node : MvNode) (damaged : ℕ) → root ≢ 0 → IsTyped node → IsMvNode node → pages root ≡ Some (mv_node_page node)
+    → IsInPlace node.level place node → IsDamagedPast pages place node damaged → IsDamagedFromRoot pages root place damaged
+root_past pages root place node damaged some typed rules there fits past =
+    let level : root_level pages root ≡ node.level = level_of_root pages root node some typed rules there in
+    inr (root_further pages place node (root_level pages root) root damaged (mv_node_page node) (omega (arith, level, rules.low_level)) there
+    (record {
+      fits = record { spelled = refl; rules = rules; typed = typed; at_level = sym level };
+      admitted = subst (λ (l : ℕ). IsInPlace l place node) (sym level) fits;
+    }) past)
+
+-- The total from a root is that of its node.
+pub root_total_is : (pages : PageMap) (root key v : ℕ) (node : MvNode) → root ≢ 0 → IsTyped node → IsMvNode node → pages root ≡ Some (mv_node_page node)
+    → total_below (root_level pages root) pages root key v ≡ node_total pages node key v
+root_total_is pages root key v node some typed rules there =
+    let level : root_level pages root ≡ node.level = level_of_root pages root node some typed rules there in
+    total_at pages (root_level pages root) root key v node (omega (arith, level, rules.low_level)) typed rules (sym level) there

@@ -1,0 +1,125 @@
+use Rattle.std.proofs.Common.{◌≡◌, ◌-◌, ℕ, suc, IsTrue, Option, nat_le, refl, ◌∙◌, subst, arith, rules}
+use Rattle.std.proofs.lemmas.Bool.{and_from, le-leb}
+use Rattle.std.proofs.lemmas.Result.{IfOk-weaker}
+use Rattle.page_ports.specs.Pages.{PageMap}
+use Rattle.mv_pages.specs.Lows.{alive_lows}
+use Rattle.mvsb_tree.specs.Changed.{cut_of}
+use Rattle.sb_tree.specs.Stored.{OthersStay}
+use Rattle.mvsb_tree.specs.Stands.{ends_after, inner_low}
+use Rattle.mvsb_tree.specs.Ways.{way_pages}
+use Rattle.mvsb_tree.proofs.Assembling.{AddsBelow, both_apart, cut_inside_too, first_apart, index_added, leaf_added, leaf_here, of_cut, outer_fits, stored_apart}
+use Rattle.mvsb_tree.proofs.Splitting.{lies_in, lows_within, split_fits}
+use Rattle.mvsb_tree.proofs.below.+add_on.Goals as goal
+
+pub returns-in_default-clause-fits : goal.returns-in_default-clause-fits
+returns-in_default-clause-fits g t c = IfOk-weaker c.store.result _ _ (λ r split.
+    split_fits c.add_to_leaf.new.node c.args.place.version c.args.place.low c.args.place.high r
+    (c.add_to_leaf.ensures.each (lies_in c.args.place.low c.args.place.high)
+    (and_from (nat_le c.args.place.low c.args.place.key) (ends_after c.args.place.high c.args.place.key) (le-leb c.args.place.low c.args.place.key c.requires.key.0) c.requires.key.1)
+    (lows_within c.args.place c.args.node.entries.items c.requires.placed.within)) split) c.store.ensures.split
+
+pub change-requires-clause-replaced : goal.change-requires-clause-replaced
+change-requires-clause-replaced g t c =
+    outer_fits (alive_lows c.args.node.entries.items c.args.place.version) c.args.place.key c.in-Some.step.place.low c.args.place.high c.in-Some.step.place.high c.in_ok-replaced.replaced
+    c.in-Some.ensures.low c.in-Some.ensures.leads.high c.in_ok-replaced.ensures.fits
+
+pub returns-clause-fits : goal.returns-clause-fits
+returns-clause-fits g t c = IfOk-weaker c.store-2.result _ _ (λ r split.
+    let within = lows_within c.args.place c.args.node.entries.items c.requires.placed.within in
+    split_fits c.change.new.node c.args.place.version c.args.place.low c.args.place.high r
+    (c.change.ensures.each (lies_in c.args.place.low c.args.place.high)
+    (of_cut _ (λ x. IsTrue (lies_in c.args.place.low c.args.place.high x)) (cut_of c.in_ok-replaced.replaced)
+    (λ x h. and_from (nat_le c.args.place.low x) (ends_after c.args.place.high x) (le-leb c.args.place.low x h.0) h.1)
+    (cut_inside_too (alive_lows c.args.node.entries.items c.args.place.version) c.args.place.key c.in-Some.step.place.low c.args.place.high c.in-Some.step.place.high c.args.place.low c.in_ok-replaced.replaced
+    within c.in-Some.ensures.low c.in-Some.ensures.leads.high c.in_ok-replaced.ensures.fits)) within) split) c.store-2.ensures.split
+
+pub returns-in_default-clause-added : goal.returns-in_default-clause-added
+returns-in_default-clause-added g t c = IfOk-weaker c.store.result _ _ (λ r stored tells test places least key_test s h ways.
+    let place = c.args.place in
+    leaf_added (g.S.Pages.map c.args.stage.now) (g.S.Pages.map c.store.new.stage) c.args.page c.args.node c.add_to_leaf.new.node place.version place.key c.args.value place.low place.high c.args.last.now c.store.new.last r
+    (leaf_here c.args.node place.key place.version c.requires.placed.leads (c.in_default.ensures.none refl)) c.requires.rules c.requires.typed (c.requires.there tells)
+    c.add_to_leaf.ensures.storable c.add_to_leaf.ensures.past c.add_to_leaf.ensures.value c.add_to_leaf.ensures.tests c.add_to_leaf.ensures.cut
+    (record { from = c.requires.key.0; before = c.requires.key.1; fits = c.requires.key_fits }) (stored tells) test places least key_test s h ways) c.store.ensures.stored
+
+pub returns-in_default-clause-apart : goal.returns-in_default-clause-apart
+returns-in_default-clause-apart g t c = IfOk-weaker c.store.result _ _ (λ r stored tells p off some.
+    stored_apart (g.S.Pages.map c.args.stage.now) (g.S.Pages.map c.store.new.stage) c.args.page c.add_to_leaf.new.node c.args.place.version c.args.last.now c.store.new.last r (stored tells) p
+    (first_apart c.args.node.level (g.S.Pages.map c.args.stage.now) c.args.page c.args.place.key c.args.place.version p c.requires.rules.low_level off) some) c.store.ensures.stored
+
+pub returns-clause-apart : goal.returns-clause-apart
+returns-clause-apart g t c = IfOk-weaker c.store-2.result _ _ (λ r stored tells p off some.
+    let m0 : PageMap = g.S.Pages.map c.args.stage.now in
+    let m1 : PageMap = g.S.Pages.map c.add_on.new.stage in
+    let place = c.args.place in
+    let step = c.in-Some.step in
+    let child = c.in_ok-child.child in
+    let map_is = c.read_in_place.ensures.reads.read.map in
+    let a0 : OthersStay (way_pages child.level (g.S.Pages.map c.read_in_place.new.pages) step.child step.place.key step.place.version) (g.S.Pages.map c.read_in_place.new.pages) m1 = c.in_ok-replaced.ensures.apart (search rules) in
+    let a1 = subst (λ (m : PageMap). OthersStay (way_pages child.level m step.child step.place.key step.place.version) m m1) map_is a0 in
+    let a2 = subst (λ (k : ℕ). OthersStay (way_pages child.level m0 step.child k step.place.version) m0 m1) c.in-Some.ensures.leads.key a1 in
+    let a3 = subst (λ (w : ℕ). OthersStay (way_pages child.level m0 step.child place.key w) m0 m1) c.in-Some.ensures.leads.version a2 in
+    let a4 = subst (λ (l : ℕ). OthersStay (way_pages l m0 step.child place.key place.version) m0 m1) c.in_ok-child.ensures.node.fits.at_level a3 in
+    both_apart m0 m1 (g.S.Pages.map c.store-2.new.stage) c.args.node.level c.args.page step.child c.args.node c.change.new.node place.version place.key c.add_on.new.last c.store-2.new.last r
+    c.in-Some.ensures.level c.requires.rules c.requires.typed (c.requires.there tells) c.in-Some.ensures.leads.child_is a4 (stored (search rules)) p off some) c.store-2.ensures.stored
+
+pub returns-clause-added : goal.returns-clause-added
+returns-clause-added g t c = IfOk-weaker c.store-2.result _ _ (λ r stored tells test places least key_test s h ways.
+    let m0 : PageMap = g.S.Pages.map c.args.stage.now in
+    let m1 : PageMap = g.S.Pages.map c.add_on.new.stage in
+    let place = c.args.place in
+    let step = c.in-Some.step in
+    let child = c.in_ok-child.child in
+    let node = c.args.node in
+    let value = c.args.value in
+    let last = c.args.last.now in
+    let last1 = c.add_on.new.last in
+    let replaced = c.in_ok-replaced.replaced in
+    let v = place.version in
+    let key = place.key in
+    let lows = alive_lows node.entries.items v in
+    let level : ℕ = node.level - 2 in
+    let at_level : node.level ≡ suc (suc level) = omega (arith, c.in-Some.ensures.level) in
+    let child_level : child.level ≡ suc level = c.in_ok-child.ensures.node.fits.at_level ∙ (let e : node.level - 1 ≡ suc level = omega (arith, c.in-Some.ensures.level) in e) in
+    let map_is = c.read_in_place.ensures.reads.read.map in
+    let r0 : AddsBelow child.level (g.S.Pages.map c.read_in_place.new.pages) m1 step.child step.place.version step.place.key value step.place.low step.place.high last last1 replaced = c.in_ok-replaced.ensures.added (search rules) in
+    let r1 = subst (λ (m : PageMap). AddsBelow child.level m m1 step.child step.place.version step.place.key value step.place.low step.place.high last last1 replaced) map_is r0 in
+    let r2 = subst (λ (l : ℕ). AddsBelow l m0 m1 step.child step.place.version step.place.key value step.place.low step.place.high last last1 replaced) child_level r1 in
+    let r3 = subst (λ (w : ℕ). AddsBelow (suc level) m0 m1 step.child w step.place.key value step.place.low step.place.high last last1 replaced) c.in-Some.ensures.leads.version r2 in
+    let r4 = subst (λ (k : ℕ). AddsBelow (suc level) m0 m1 step.child v k value step.place.low step.place.high last last1 replaced) c.in-Some.ensures.leads.key r3 in
+    let r5 = subst (λ (l : ℕ). AddsBelow (suc level) m0 m1 step.child v key value l step.place.high last last1 replaced) c.in-Some.ensures.leads.low r4 in
+    let r6 = subst (λ (e : Option ℕ). AddsBelow (suc level) m0 m1 step.child v key value (inner_low place.low lows key) e last last1 replaced) c.in-Some.ensures.leads.high r5 in
+    let a0 : OthersStay (way_pages child.level (g.S.Pages.map c.read_in_place.new.pages) step.child step.place.key step.place.version) (g.S.Pages.map c.read_in_place.new.pages) m1 = c.in_ok-replaced.ensures.apart (search rules) in
+    let a1 = subst (λ (m : PageMap). OthersStay (way_pages child.level m step.child step.place.key step.place.version) m m1) map_is a0 in
+    let a2 = subst (λ (k : ℕ). OthersStay (way_pages child.level m0 step.child k step.place.version) m0 m1) c.in-Some.ensures.leads.key a1 in
+    let a3 = subst (λ (w : ℕ). OthersStay (way_pages child.level m0 step.child key w) m0 m1) c.in-Some.ensures.leads.version a2 in
+    let a4 = subst (λ (l : ℕ). OthersStay (way_pages l m0 step.child key v) m0 m1) child_level a3 in
+    let fits = outer_fits lows key step.place.low place.high step.place.high replaced c.in-Some.ensures.low c.in-Some.ensures.leads.high c.in_ok-replaced.ensures.fits in
+    let cut_fits = cut_inside_too lows key step.place.low place.high step.place.high place.low replaced (lows_within place node.entries.items c.requires.placed.within) c.in-Some.ensures.low c.in-Some.ensures.leads.high c.in_ok-replaced.ensures.fits in
+    index_added m0 m1 (g.S.Pages.map c.store-2.new.stage) c.args.page step.child node c.change.new.node v key value place.low place.high last last1 c.store-2.new.last replaced r level
+    at_level c.requires.rules c.requires.typed (c.requires.there tells) c.in-Some.ensures.leads.child_is fits r6 a4 c.change.ensures.storable c.change.ensures.past c.change.ensures.value c.change.ensures.led c.change.ensures.others
+    c.change.ensures.lows c.change.ensures.around c.change.ensures.cut cut_fits c.step_from.ensures.same
+    (record { from = c.requires.key.0; before = c.requires.key.1; fits = c.requires.key_fits }) (stored (search rules)) test places least key_test s h ways) c.store-2.ensures.stored
+
+pub returns-clause-grows : goal.returns-clause-grows
+returns-clause-grows g t c =
+    let read = c.read_in_place.ensures.reads.read in
+    let rec = c.add_on.ensures.grows in
+    let put = c.store-2.ensures.grows in
+    let level = c.in_ok-child.ensures.node.fits.at_level in
+    let two = c.in-Some.ensures.level in
+    record {
+      went_on = record {
+        tells = put.went_on.tells ∙ rec.went_on.tells ∙ read.tells;
+        base = put.went_on.base ∙ rec.went_on.base ∙ read.base;
+        limit = put.went_on.limit ∙ rec.went_on.limit ∙ read.limit;
+        free_in_order = search rules;
+        none_forgotten = search rules;
+        allotted = omega (arith, put.went_on.allotted, rec.went_on.allotted, read.allotted);
+        at_most = omega (arith, put.went_on.at_most, rec.went_on.at_most, read.allotted, level, two);
+        gets = omega (arith, put.went_on.gets, rec.went_on.gets, read.gets);
+        faults = omega (arith, put.went_on.faults, rec.went_on.faults, read.faults);
+      };
+      keeps = search rules;
+      disk = search rules;
+      page_limit = λ n e. let d = put.page_limit n e in (d.0 ∙ rec.went_on.limit ∙ read.limit, d.1, omega (arith, d.2, rec.went_on.at_most, read.allotted, level, two));
+    }

@@ -1,0 +1,63 @@
+//! Additions to a node and below it.
+ghost use Rattle.std.specs.Prelude.{◌≡◌, ◌+◌, ◌^◌, ◌<◌, ◌≤◌, ℕ, Bool, IsTrue, IfOk, Some};
+ghost use Rattle.page_layout.specs.MvNode.{IsMvNode, IsTyped, mv_node_page};
+ghost use Rattle.page_ports.specs.Calls.{Grows};
+ghost use Rattle.mv_pages.specs.Alive.{IsChangeable};
+ghost use Rattle.sb_tree.specs.Stored.{OthersStay};
+ghost use Rattle.mvsb_tree.specs.Changed.{ReplacedFits};
+ghost use Rattle.mvsb_tree.specs.Damage.{IsInPlace};
+ghost use Rattle.mvsb_tree.specs.Grown.{NodesHold};
+ghost use Rattle.mvsb_tree.specs.Stands.{ChainStands, ends_after};
+ghost use Rattle.mvsb_tree.specs.Steps.{chain_from};
+ghost use Rattle.mvsb_tree.specs.Ways.{IsAdded, WaysStand, way_pages};
+
+use crate::change::{add_to_leaf, change};
+use crate::place::Place;
+use crate::replaced::Replaced;
+use crate::step::step_from;
+use crate::store::store;
+use mv_pages::is_changeable;
+use page_access::read_in_place;
+use page_layout::MvNode;
+use page_ports::{Stage, StageFault};
+
+/// Adds a value from a key and a version on to the node of the page and below it. Where the node is
+/// closed, the result is what takes its part.
+pub fn add_on<S: Stage>(
+    stage: &mut S,
+    page: u64,
+    node: MvNode,
+    place: Place,
+    value: u128,
+    last: &mut u64,
+) -> Result<Option<Replaced>, StageFault>
+    requires number { 3 ≤ page }
+    requires rules { IsMvNode node }
+    requires typed { IsTyped node }
+    requires changeable { IsChangeable place.version node.entries.items }
+    requires placed { IsInPlace node.level place node }
+    requires key { (place.low ≤ place.key) × IsTrue (ends_after place.high place.key) }
+    requires key_fits { place.key < 2 ^ 64 }
+    requires there { IsTrue (S.tells stage.old) → S.map stage.old page ≡ Some (mv_node_page node) }
+    ensures fits { IfOk result (λ replaced. ReplacedFits (Some place.low) place.high replaced) }
+    ensures added { IfOk result (λ replaced. IsTrue (S.tells stage.old) → (test : ℕ → Bool) (places least : ℕ) → IsTrue (test place.key)
+        → ChainStands places (S.map stage.old) last.old → NodesHold place.version test (S.map stage.old) (chain_from places (S.map stage.old) last.old)
+        → WaysStand node.level (S.map stage.old) (chain_from places (S.map stage.old) last.old) page place.version place.low place.high least
+        → IsAdded node.level test (S.map stage.old) (S.map stage.new) page place.version place.key value place.low place.high least places last.old last.new replaced) }
+    ensures apart { IfOk result (λ replaced. IsTrue (S.tells stage.old)
+        → OthersStay (way_pages node.level (S.map stage.old) page place.key place.version) (S.map stage.old) (S.map stage.new)) }
+    ensures grows { Grows S.Pages (node.level + node.level) stage.old stage.new result }
+{
+    let mut node = node;
+    let Some(step) = step_from(&node, place) else {
+        add_to_leaf(&mut node, place.key, place.version, value);
+        return store(stage, page, &node, place.version, last);
+    };
+    let child: MvNode = read_in_place(stage, step.child, node.level - 1, step.place)?;
+    if !is_changeable(&child, place.version) {
+        return Err(StageFault::Damaged(step.child));
+    }
+    let replaced = add_on(stage, step.child, child, step.place, value, last)?;
+    change(&mut node, place.key, place.version, value, replaced);
+    store(stage, page, &node, place.version, last)
+}

@@ -1,0 +1,14 @@
+//! The laws of multiversion trees.
+ghost use Rattle.mvsb_tree.specs.Laws.{EmptyTreeStands, PagesAreThere, StandsByItsPages, StandsInAnyOrder};
+
+use sb_tree::tree_laws;
+
+/// Proves what holds of every tree that stands; it does nothing when it runs.
+pub fn mv_laws()
+    ensures by_its_pages { StandsByItsPages }
+    ensures in_map { PagesAreThere }
+    ensures any_order { StandsInAnyOrder }
+    ensures empty { EmptyTreeStands }
+{
+    tree_laws();
+}

@@ -1,0 +1,30 @@
+//! Multiversion trees over keys: each version of a step function of the key, kept in pages.
+//!
+//! A tree stands for a list of weighted points: its value at a key and a version is the sum of the
+//! weights of the points at or below both, modulo `2^128`. Points are added in order of version, and
+//! every version stays readable. A directory of roots, a tree over versions, names the root of each
+//! version; from there a value is read down one path. (Yang and Widom, "Incremental Computation and
+//! Maintenance of Temporal Aggregates", 2001; Zhang, Markowetz, Tsotras, Gunopulos and Seeger,
+//! "Efficient Computation of Temporal Aggregates with Range Predicates", 2001.)
+//!
+//! The calls work over any `Pages` and `Stage`, on any content: what they find broken they name.
+#![tactic(auto)]
+
+mod below;
+mod chain;
+mod change;
+mod directory;
+mod free;
+mod laws;
+mod place;
+mod replaced;
+mod step;
+mod store;
+#[cfg(test)]
+mod tests;
+mod top;
+mod value;
+
+pub use free::mv_free;
+pub use laws::mv_laws;
+pub use value::mv_value;

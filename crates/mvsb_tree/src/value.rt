@@ -1,0 +1,90 @@
+//! The value at a key and a version.
+ghost use Rattle.std.specs.Prelude.{◌≡◌, ◌≢◌, ◌+◌, ◌-◌, ◌%◌, ◌^◌, ◌≤◌, ℕ, List, [], ◌∷◌, Err, IsTrue, IfOk};
+ghost use Rattle.bw_types.specs.Dominance.{dominance_sum};
+ghost use Rattle.bw_types.specs.Heights.{digit_count};
+ghost use Rattle.bw_types.specs.declared.point.Point.{Point};
+ghost use Rattle.page_ports.specs.Calls.{OnlyReads};
+ghost use Rattle.mvsb_tree.specs.Damage.{IsDamagedForValue, IsDamagedFromRoot, IsDamagedPast, root_place as spec_root_place};
+ghost use Rattle.mvsb_tree.specs.Stands.{IsBalanced, MvStands, RootStands};
+ghost use Rattle.mvsb_tree.specs.Steps.{node_total, root_level, total_below, tree_value};
+
+use crate::directory::root_at;
+use crate::place::{Place, inner_place, root_place};
+use bw_types::Tree;
+use mv_pages::{reached_at, value_at};
+use page_access::{PlaceFor, read_in_place, read_page};
+use page_layout::MvNode;
+use page_ports::{PageFault, Pages};
+
+/// The value of the tree at a key and a version: the sum of what was added at or below that key and at
+/// or before that version, modulo `2^128`.
+///
+/// It gets at most as many pages as the directory and the root of the version have levels. `Disk` comes
+/// only where the count of faults rose. `Damaged` carries a page on the way through the directory or
+/// down from the root that is missing, is no node of its level, or does not keep to the place by which
+/// it is reached; or the directory's root, where what the directory tells is no number of a page.
+pub fn mv_value<P: Pages>(
+    pages: &mut P,
+    tree: &Tree,
+    key: u64,
+    version: u32,
+) -> Result<u128, PageFault>
+    // What the pages tell is read, whatever they hold.
+    ensures value { IfOk result (λ value. IsTrue (P.tells pages.old) → value ≡ tree_value (P.map pages.old) tree.now key version) }
+    // Where the tree stands, this is the sum over its points.
+    ensures sum { IfOk result (λ value. IsTrue (P.tells pages.old) → (points : List Point)
+        → MvStands (P.map pages.old) tree.now points → value ≡ dominance_sum 1 points (key ∷ []) version) }
+    ensures damaged { (page : ℕ) → result ≡ Err (PageFault.Damaged page) → IsTrue (P.tells pages.old)
+        → IsDamagedForValue (P.map pages.old) tree.now key version page }
+    ensures sound { (points : List Point) (page : ℕ) → IsTrue (P.tells pages.old)
+        → MvStands (P.map pages.old) tree.now points → result ≢ Err (PageFault.Damaged page) }
+    // No root has more than 16 levels; of a balanced tree the count bounds them.
+    ensures reads { OnlyReads P.Pages (tree.now.levels + 16) pages.old pages.new result }
+    ensures cost { (points : List Point) → IsTrue (P.tells pages.old) → MvStands (P.map pages.old) tree.now points → IsBalanced (P.map pages.old) tree.now
+        → P.gets pages.new ≤ P.gets pages.old + (digit_count 32 tree.now.count + digit_count 24 tree.now.count) }
+{
+    let root = root_at(pages, tree, version)?;
+    if root == 0 {
+        return Ok(0);
+    }
+    value_from(pages, root, root_place(key, version))
+}
+
+// The value from a root down, which tells its level.
+fn value_from<P: Pages>(pages: &mut P, root: u64, place: Place) -> Result<u128, PageFault>
+    requires { root ≢ 0 }
+    ensures value { IfOk result (λ value. IsTrue (P.tells pages.old)
+        → value ≡ total_below (root_level (P.map pages.old) root) (P.map pages.old) root place.key place.version % 2 ^ 128) }
+    ensures damaged { (damaged : ℕ) → result ≡ Err (PageFault.Damaged damaged) → IsTrue (P.tells pages.old)
+        → IsDamagedFromRoot (P.map pages.old) root place damaged }
+    ensures sound { (nodes : List ℕ) (page : ℕ) → IsTrue (P.tells pages.old) → place ≡ spec_root_place place.key place.version
+        → RootStands (P.map pages.old) nodes root place.version place.key → result ≢ Err (PageFault.Damaged page) }
+    ensures reads { OnlyReads P.Pages 16 pages.old pages.new result }
+    ensures cost { IsTrue (P.tells pages.old) → 1 ≤ root_level (P.map pages.old) root
+        → P.gets pages.new ≤ P.gets pages.old + root_level (P.map pages.old) root }
+{
+    let node: MvNode = read_page(pages, root)?;
+    if !place.admits(node.level, &node) {
+        return Err(PageFault::Damaged(root));
+    }
+    value_on(pages, &node, place)
+}
+
+// The value of the node, and of those below it, at the key and the version sought.
+fn value_on<P: Pages>(pages: &mut P, node: &MvNode, place: Place) -> Result<u128, PageFault>
+    requires { 1 ≤ node.now.level }
+    ensures value { IfOk result (λ value. IsTrue (P.tells pages.old)
+        → value ≡ node_total (P.map pages.old) node.now place.key place.version % 2 ^ 128) }
+    ensures damaged { (damaged : ℕ) → result ≡ Err (PageFault.Damaged damaged) → IsTrue (P.tells pages.old)
+        → IsDamagedPast (P.map pages.old) place node.now damaged }
+    ensures reads { OnlyReads P.Pages (node.now.level - 1) pages.old pages.new result }
+{
+    let value = value_at(node, place.key, place.version);
+    let Some(reached) = reached_at(node, place.key, place.version) else {
+        return Ok(value);
+    };
+    let inner = inner_place(reached, place);
+    let child: MvNode = read_in_place(pages, reached.child, node.level - 1, inner)?;
+    let below = value_on(pages, &child, inner)?;
+    Ok(value.wrapping_add(below))
+}

@@ -1,0 +1,205 @@
+-- Bytes that are the spelling of what they may spell, where some of them are named by no field and have to be 0.
+use Rattle.std.specs.Prelude.{◌≡◌, ◌≢◌, ℕ, zero, suc, ◌+◌, ◌-◌, ◌*◌, ◌≤◌, ◌==◌, ◌↔◌, List, [], ◌∷◌, ◌++◌, length, take, drop, slice_index, refl}
+use Rattle.std.specs.List.{flat_map}
+use Rattle.std.proofs.Common.{sym, ap, ◌∙◌, subst, append_assoc, drop-cons, inl, inr, arith}
+use Rattle.std.proofs.Math.Nat.{zero-mul, suc-mul}
+use Rattle.std.proofs.lemmas.Bool.{cases_eq, cond-true, cond-false, eq-eqb, ne_eqb}
+use Rattle.std.proofs.lemmas.List.{drop_at, drop-drop, take-append-drop}
+use Rattle.bw_types.specs.declared.ba_entry.Outside.{Outside}
+use Rattle.page_layout.specs.Numbers.{spelled, number_in, zeros, length-zeros, past-spelled, past_more, next_number}
+use Rattle.page_layout.specs.Bytes.{AreBytes, bytes-drop}
+use Rattle.page_layout.specs.Entries.{entries_at}
+use Rattle.page_layout.specs.Respelled.{respelled, respelled_at, number_in-lt, two_more, length-read, each_of}
+use Rattle.page_layout.specs.CutNode.{cut_node_bytes, cut_node_at, IsCutNodeTyped}
+use Rattle.page_layout.specs.TreeValue.{tree_bytes, tree_at, IsTreeTyped, length-tree}
+use Rattle.page_layout.specs.BaEntry.{outside_bytes, outside_at, pocket_at, trees_at, IsOutsideTyped, ba_entry_bytes, ba_entry_at, IsBaEntryTyped}
+
+-- The bytes at the front are the spelling of the value that is read of them.
+abbrev pub IsExact : {X : Type 0} → (X → List ℕ) → (List ℕ → X) → ℕ → List ℕ → Type 0
+IsExact spelling f size bytes = spelling (f bytes) ++ drop size bytes ≡ bytes
+
+-- So many times in a row.
+abbrev pub EachExact : {X : Type 0} → (X → List ℕ) → (List ℕ → X) → ℕ → ℕ → List ℕ → Type 0
+EachExact spelling f size zero bytes = Unit {0}
+EachExact spelling f size (suc n) bytes = IsExact spelling f size bytes × EachExact spelling f size n (drop size bytes)
+
+-- So many bytes from this place on are 0.
+abbrev pub AreZerosAt : ℕ → ℕ → List ℕ → Type 0
+AreZerosAt place many bytes = take many (drop place bytes) ≡ zeros many
+
+module _ {X : Type 0} (spelling : X → List ℕ) (f : List ℕ → X) (size : ℕ) where
+  -- exact bytes in a row are the spelling of their values in a row
+  pub row_exact : (n : ℕ) (bytes : List ℕ) → EachExact spelling f size n bytes → flat_map spelling (entries_at f size n bytes) ++ drop (n * size) bytes ≡ bytes
+  unfolding entries_at
+  row_exact zero bytes h = ap (λ (k : ℕ). drop k bytes) (zero-mul size)
+  row_exact (suc n) bytes h =
+      let product : suc n * size ≡ n * size + size = suc-mul n size in
+      let others : List ℕ = flat_map spelling (entries_at f size n (drop size bytes)) in
+      let places : suc n * size ≡ size + n * size = omega (arith, product) in
+      let next : drop (suc n * size) bytes ≡ drop (n * size) (drop size bytes) = ap (λ (k : ℕ). drop k bytes) places ∙ sym (drop-drop (n * size) size bytes) in
+      append_assoc (spelling (f bytes)) others (drop (suc n * size) bytes)
+      ∙ ap (λ (b : List ℕ). spelling (f bytes) ++ (others ++ b)) next
+      ∙ ap (λ (b : List ℕ). spelling (f bytes) ++ b) (row_exact n (drop size bytes) h.1)
+      ∙ h.0
+
+  -- and the spelling of values in a row is exact at each of them
+  pub exact_row : ((bytes : List ℕ) → AreBytes bytes → length (spelling (f bytes)) ≡ size) → (n : ℕ) (bytes rest : List ℕ) → AreBytes bytes
+      → flat_map spelling (entries_at f size n bytes) ++ rest ≡ bytes → EachExact spelling f size n bytes × (rest ≡ drop (n * size) bytes)
+  unfolding entries_at
+  exact_row sized zero bytes rest h e = (tt, e ∙ sym (ap (λ (k : ℕ). drop k bytes) (zero-mul size)))
+  exact_row sized (suc n) bytes rest h e =
+      let product : suc n * size ≡ n * size + size = suc-mul n size in
+      let first : List ℕ = spelling (f bytes) in
+      let others : List ℕ = flat_map spelling (entries_at f size n (drop size bytes)) in
+      let right : first ++ (others ++ rest) ≡ bytes = sym (append_assoc first others rest) ∙ e in
+      let later : others ++ rest ≡ drop size bytes = sym (drop_at first (others ++ rest) size (sized bytes h)) ∙ ap (λ (b : List ℕ). drop size b) right in
+      let more = exact_row sized n (drop size bytes) rest (bytes-drop size bytes h) later in
+      let places : size + n * size ≡ suc n * size = omega (arith, product) in (
+        (ap (λ (b : List ℕ). first ++ b) (sym later) ∙ right, more.0),
+        more.1 ∙ drop-drop (n * size) size bytes ∙ ap (λ (k : ℕ). drop k bytes) places,
+      )
+
+  pub each_exact-step : (n : ℕ) (bytes : List ℕ) → n ≢ 0 → EachExact spelling f size n bytes ↔ (IsExact spelling f size bytes × EachExact spelling f size (n - 1) (drop size bytes))
+  each_exact-step zero bytes some = absurd (some refl)
+  each_exact-step (suc n) bytes some =
+      let less : suc n - 1 ≡ n = omega arith in (
+        λ h. (h.0, subst (λ (k : ℕ). EachExact spelling f size k (drop size bytes)) (sym less) h.1),
+        λ h. (h.0, subst (λ (k : ℕ). EachExact spelling f size k (drop size bytes)) less h.1),
+      )
+
+  pub each_exact-at : (m n : ℕ) (a b : List ℕ) → n ≡ m → b ≡ a → EachExact spelling f size n b ↔ EachExact spelling f size m a
+  each_exact-at m n a b is_n is_b = (
+    λ h. subst (λ (k : ℕ). EachExact spelling f size k a) is_n (subst (λ (x : List ℕ). EachExact spelling f size n x) is_b h),
+    λ h. subst (λ (x : List ℕ). EachExact spelling f size n x) (sym is_b) (subst (λ (k : ℕ). EachExact spelling f size k a) (sym is_n) h),
+  )
+
+zeros_then : (m k : ℕ) (b : List ℕ) → AreZerosAt m k b → zeros k ++ drop (m + k) b ≡ drop m b
+zeros_then m k b z =
+    ap (λ (p : List ℕ). p ++ drop (m + k) b) (sym z) ∙ ap (λ (r : List ℕ). take k (drop m b) ++ r) (sym (drop-drop k m b)) ∙ take-append-drop k (drop m b)
+
+three_zeros : (m : ℕ) (b : List ℕ) → AreZerosAt m 3 b → 0 ∷ 0 ∷ 0 ∷ drop (m + 3) b ≡ drop m b
+unfolding zeros
+three_zeros m b z = zeros_then m 3 b z
+
+six_zeros : (m : ℕ) (b : List ℕ) → AreZerosAt m 6 b → 0 ∷ 0 ∷ 0 ∷ 0 ∷ 0 ∷ 0 ∷ drop (m + 6) b ≡ drop m b
+unfolding zeros
+six_zeros m b z = zeros_then m 6 b z
+
+take_three : (r : List ℕ) → take 3 (0 ∷ 0 ∷ 0 ∷ r) ≡ zeros 3
+unfolding zeros
+take_three r = refl
+
+take_six : (r : List ℕ) → take 6 (0 ∷ 0 ∷ 0 ∷ 0 ∷ 0 ∷ 0 ∷ r) ≡ zeros 6
+unfolding zeros
+take_six r = refl
+
+take_front : (p q : List ℕ) → take (length p) (p ++ q) ≡ p
+take_front [] q = refl
+take_front (x ∷ p) q = ap (λ (r : List ℕ). x ∷ r) (take_front p q)
+
+-- A node of cuts is exact where its six unnamed bytes are 0.
+pub node_exact : (b : List ℕ) → AreBytes b → 16 ≤ length b → AreZerosAt 2 6 b ↔ IsExact cut_node_bytes cut_node_at 16 b
+node_exact b h room =
+    let tag : ℕ = slice_index b 0 in
+    let dimension : ℕ = slice_index b 1 in
+    let key : List ℕ = spelled 8 (number_in 8 (drop 8 b)) in (
+      λ z. ap (λ (r : List ℕ). tag ∷ dimension ∷ 0 ∷ 0 ∷ 0 ∷ 0 ∷ 0 ∷ 0 ∷ r) (respelled_at 8 8 b h room)
+          ∙ ap (λ (r : List ℕ). tag ∷ dimension ∷ r) (six_zeros 2 b z) ∙ two_more tag dimension b refl refl (omega arith),
+      λ e. ap (λ (x : List ℕ). take 6 (drop 2 x)) (sym e) ∙ take_six (key ++ drop 16 b),
+    )
+
+-- A tree is exact where its three unnamed bytes are 0.
+pub tree_exact : (b : List ℕ) → AreBytes b → 28 ≤ length b → AreZerosAt 9 3 b ↔ IsExact tree_bytes tree_at 28 b
+tree_exact b h room =
+    let root : List ℕ = spelled 8 (number_in 8 b) in
+    let levels : ℕ = slice_index b 8 in
+    let count : List ℕ = spelled 4 (number_in 4 (drop 12 b)) in
+    let changes : List ℕ = spelled 4 (number_in 4 (drop 16 b)) in
+    let last : List ℕ = spelled 8 (number_in 8 (drop 20 b)) in
+    let right : tree_bytes (tree_at b) ++ drop 28 b ≡ root ++ (levels ∷ 0 ∷ 0 ∷ 0 ∷ ((count ++ (changes ++ last)) ++ drop 28 b)) =
+    append_assoc root (levels ∷ 0 ∷ 0 ∷ 0 ∷ (count ++ (changes ++ last))) (drop 28 b) in
+    let behind : (count ++ (changes ++ last)) ++ drop 28 b ≡ drop 12 b =
+    append_assoc count (changes ++ last) (drop 28 b) ∙ ap (λ (r : List ℕ). count ++ r) (append_assoc changes last (drop 28 b))
+    ∙ ap (λ (r : List ℕ). count ++ (changes ++ r)) (respelled_at 20 8 b h room)
+    ∙ ap (λ (r : List ℕ). count ++ r) (respelled_at 16 4 b h (omega arith)) ∙ respelled_at 12 4 b h (omega arith) in (
+      λ z. right ∙ ap (λ (r : List ℕ). root ++ (levels ∷ 0 ∷ 0 ∷ 0 ∷ r)) behind
+          ∙ ap (λ (r : List ℕ). root ++ (levels ∷ r)) (three_zeros 9 b z)
+          ∙ ap (λ (r : List ℕ). root ++ r) (sym (drop-cons b 8 0 (omega arith))) ∙ respelled 8 b h (omega arith),
+      λ e. ap (λ (x : List ℕ). take 3 (drop 9 x)) (sym e ∙ right)
+          ∙ ap (λ (x : List ℕ). take 3 x) (past_more 8 1 (number_in 8 b) (levels ∷ 0 ∷ 0 ∷ 0 ∷ ((count ++ (changes ++ last)) ++ drop 28 b)))
+          ∙ take_three ((count ++ (changes ++ last)) ++ drop 28 b),
+    )
+
+-- A pocket is exact where its unnamed bytes are 0.
+pocket_exact : (b : List ℕ) → AreBytes b → 112 ≤ length b → slice_index b 8 ≡ 255
+    → (AreZerosAt 9 3 b × AreZerosAt 16 96 b) ↔ (outside_bytes (pocket_at b) ++ drop 112 b ≡ b)
+pocket_exact b h room mark =
+    let page : List ℕ = spelled 8 (number_in 8 b) in
+    let count : List ℕ = spelled 4 (number_in 4 (drop 12 b)) in
+    let pad : List ℕ = zeros 96 in
+    let whole : List ℕ = outside_bytes (pocket_at b) ++ drop 112 b in
+    let right : whole ≡ page ++ (255 ∷ 0 ∷ 0 ∷ 0 ∷ ((count ++ pad) ++ drop 112 b)) =
+    append_assoc page (255 ∷ 0 ∷ 0 ∷ 0 ∷ (count ++ pad)) (drop 112 b) in (
+      λ z. right
+          ∙ ap (λ (r : List ℕ). page ++ (255 ∷ 0 ∷ 0 ∷ 0 ∷ r)) (append_assoc count pad (drop 112 b) ∙ ap (λ (r : List ℕ). count ++ r) (zeros_then 16 96 b z.1) ∙ respelled_at 12 4 b h (omega arith))
+          ∙ ap (λ (r : List ℕ). page ++ (255 ∷ r)) (three_zeros 9 b z.0)
+          ∙ ap (λ (n : ℕ). page ++ (n ∷ drop 9 b)) (sym mark)
+          ∙ ap (λ (r : List ℕ). page ++ r) (sym (drop-cons b 8 0 (omega arith))) ∙ respelled 8 b h (omega arith),
+      λ e. (
+        ap (λ (x : List ℕ). take 3 (drop 9 x)) (sym e ∙ right)
+            ∙ ap (λ (x : List ℕ). take 3 x) (past_more 8 1 (number_in 8 b) (255 ∷ 0 ∷ 0 ∷ 0 ∷ ((count ++ pad) ++ drop 112 b)))
+            ∙ take_three ((count ++ pad) ++ drop 112 b),
+        let at12 : drop 12 whole ≡ count ++ (pad ++ drop 112 b) =
+            ap (λ (x : List ℕ). drop 12 x) right ∙ past_more 8 4 (number_in 8 b) (255 ∷ 0 ∷ 0 ∷ 0 ∷ ((count ++ pad) ++ drop 112 b)) ∙ append_assoc count pad (drop 112 b) in
+            let at16 : drop 16 whole ≡ pad ++ drop 112 b = next_number whole (number_in 4 (drop 12 b)) (pad ++ drop 112 b) 12 4 at12 in
+            ap (λ (x : List ℕ). take 96 (drop 16 x)) (sym e) ∙ ap (λ (x : List ℕ). take 96 x) at16
+            ∙ ap (λ (n : ℕ). take n (pad ++ drop 112 b)) (sym (length-zeros 96)) ∙ take_front pad (drop 112 b),
+      ),
+    )
+
+tree_sized : (b : List ℕ) → AreBytes b → length (tree_bytes (tree_at b)) ≡ 28
+tree_sized b h = length-tree (tree_at b)
+
+trees_exact : (b : List ℕ) → AreBytes b → EachExact tree_bytes tree_at 28 4 b ↔ (outside_bytes (trees_at b) ++ drop 112 b ≡ b)
+unfolding entries_at
+trees_exact b h = (λ each. row_exact tree_bytes tree_at 28 4 b each, λ e. (exact_row tree_bytes tree_at 28 tree_sized 4 b (drop 112 b) h e).0)
+
+-- What stands outside is exact as a pocket or as trees.
+pub outside_exact-pocket : (b : List ℕ) → AreBytes b → 112 ≤ length b → slice_index b 8 ≡ 255
+    → (AreZerosAt 9 3 b × AreZerosAt 16 96 b) ↔ IsExact outside_bytes outside_at 112 b
+outside_exact-pocket b h room mark =
+    subst (λ (o : Outside). (AreZerosAt 9 3 b × AreZerosAt 16 96 b) ↔ (outside_bytes o ++ drop 112 b ≡ b))
+    (sym (cond-true (slice_index b 8 == 255) (pocket_at b) (trees_at b) (eq-eqb (slice_index b 8) 255 mark))) (pocket_exact b h room mark)
+
+pub outside_exact-trees : (b : List ℕ) → AreBytes b → slice_index b 8 ≢ 255 → EachExact tree_bytes tree_at 28 4 b ↔ IsExact outside_bytes outside_at 112 b
+outside_exact-trees b h other =
+    subst (λ (o : Outside). EachExact tree_bytes tree_at 28 4 b ↔ (outside_bytes o ++ drop 112 b ≡ b))
+    (sym (cond-false (slice_index b 8 == 255) (pocket_at b) (trees_at b) (ne_eqb (slice_index b 8) 255 other))) (trees_exact b h)
+
+-- An entry is exact where what stands outside is.
+pub entry_exact : (b : List ℕ) → AreBytes b → 120 ≤ length b → IsExact outside_bytes outside_at 112 (drop 8 b) ↔ IsExact ba_entry_bytes ba_entry_at 120 b
+entry_exact b h room =
+    let child : List ℕ = spelled 8 (number_in 8 b) in
+    let outside : List ℕ = outside_bytes (outside_at (drop 8 b)) in
+    let right : (child ++ outside) ++ drop 120 b ≡ child ++ (outside ++ drop 112 (drop 8 b)) =
+    append_assoc child outside (drop 120 b) ∙ ap (λ (r : List ℕ). child ++ (outside ++ r)) (sym (drop-drop 112 8 b)) in (
+      λ o. right ∙ ap (λ (r : List ℕ). child ++ r) o ∙ respelled 8 b h (omega arith),
+      λ e. sym (past-spelled 8 (number_in 8 b) (outside ++ drop 112 (drop 8 b))) ∙ ap (λ (x : List ℕ). drop 8 x) (sym right ∙ e),
+    )
+
+tree-typed : (b : List ℕ) → AreBytes b → IsTreeTyped (tree_at b)
+tree-typed b h = (number_in-lt 8 b h, number_in-lt 4 (drop 12 b) (bytes-drop 12 b h), number_in-lt 4 (drop 16 b) (bytes-drop 16 b h), number_in-lt 8 (drop 20 b) (bytes-drop 20 b h))
+
+outside-typed : (b : List ℕ) → AreBytes b → IsOutsideTyped (outside_at b)
+outside-typed b h = elim (cases_eq (slice_index b 8) 255) [
+  | inl mark ↦ subst (λ (o : Outside). IsOutsideTyped o) (sym (cond-true (slice_index b 8 == 255) (pocket_at b) (trees_at b) (eq-eqb (slice_index b 8) 255 mark)))
+      (number_in-lt 8 b h, number_in-lt 4 (drop 12 b) (bytes-drop 12 b h))
+  | inr other ↦ subst (λ (o : Outside). IsOutsideTyped o) (sym (cond-false (slice_index b 8 == 255) (pocket_at b) (trees_at b) (ne_eqb (slice_index b 8) 255 other)))
+      (tree-typed b h, length-read tree_at 28 3 (drop 28 b), each_of IsTreeTyped tree_at 28 tree-typed 3 (drop 28 b) (bytes-drop 28 b h))
+]
+
+pub entry-typed : (b : List ℕ) → AreBytes b → IsBaEntryTyped (ba_entry_at b)
+entry-typed b h = (number_in-lt 8 b h, outside-typed (drop 8 b) (bytes-drop 8 b h))
+
+pub node-typed : (b : List ℕ) → AreBytes b → IsCutNodeTyped (cut_node_at b)
+node-typed b h = number_in-lt 8 (drop 8 b) (bytes-drop 8 b h)

@@ -1,0 +1,26 @@
+//! What is so of every disk that holds a history.
+ghost use Rattle.page_warehouse.specs.Laws.{HoldsByPages, HoldsForQueries, HoldsTreesByPages, NewHoldsNothing};
+
+use dom_index::DomIndex;
+use object_table::table_laws;
+use page_space::created_holds as created_space_holds;
+use redo_journal::settling_laws;
+
+/// Proves that a new warehouse holds the empty history; it does nothing when it runs.
+pub fn created_holds<X: DomIndex>()
+    ensures { NewHoldsNothing X.DomIndex }
+{
+    X::index_laws();
+    table_laws();
+    created_space_holds();
+}
+
+/// Proves that a disk holds a history by the pages that it stands for, and that queries need less; it does
+/// nothing when it runs.
+pub fn holding_laws<X: DomIndex>()
+    ensures queries { HoldsForQueries X.DomIndex }
+    ensures by_pages { HoldsByPages X.DomIndex }
+    ensures trees_by_pages { HoldsTreesByPages X.DomIndex }
+{
+    settling_laws();
+}

@@ -1,0 +1,19 @@
+//! A warehouse on a disk.
+//!
+//! Its pages are those of a space: an object table, which keeps every life that was ever added, and the trees
+//! of a forest, which alone answer queries. What a disk holds is said by `Holds`, a history under the params
+//! of its superblock; queries need less, `HoldsTrees`. A disk that `create` made holds the empty history, and
+//! opening a disk, at whatever moment the program was stopped, gives the history that it holds.
+#![tactic(auto)]
+
+mod creating;
+mod laws;
+mod opening;
+mod querying;
+mod state;
+#[cfg(test)]
+mod tests;
+
+pub use creating::{Created, create};
+pub use laws::{created_holds, holding_laws};
+pub use state::Warehouse;

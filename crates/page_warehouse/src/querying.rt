@@ -1,0 +1,86 @@
+//! Queries, which read the trees alone.
+ghost use Rattle.std.specs.Prelude.{◌≡◌, ◌≢◌, ◌+◌, ◌≤◌, ℕ, Bool, Ok, Err, IsTrue, IfOk};
+ghost use Rattle.bw_types.specs.Answers.{answer};
+ghost use Rattle.bw_types.specs.Fits.{query_fits};
+ghost use Rattle.bw_types.specs.History.{History};
+ghost use Rattle.counts.specs.Count.{Rose};
+ghost use Rattle.page_ports.specs.Calls.{OnlyReads};
+ghost use Rattle.warehouse.specs.Committed.{Answers};
+ghost use Rattle.page_warehouse.specs.Costs.{query_cost};
+ghost use Rattle.page_warehouse.specs.Holds.{HoldsTrees};
+
+use crate::Warehouse;
+use bw_types::{Kind, Query};
+use corner_forest::{count, integral, sum};
+use dom_index::DomIndex;
+use history_entries::entries_give_answers;
+use history_laws::{answers_are_bounded, lawful_histories_have_room};
+use page_disk::Disk;
+use page_ports::{PageFault, Pages};
+use page_space::{Space, holds_one};
+use warehouse::QueryFault;
+
+impl<D: Disk, X: DomIndex> Warehouse<D, X> {
+    ghost use Rattle.page_warehouse.specs.Shown.{HoldsHistory, disk_in, meta_in, params_in, space_in};
+
+    // What the trees answer, at whatever version.
+    fn total(&mut self, query: &Query, version: u32) -> Result<i128, PageFault>
+        requires { IsTrue (query_fits (params_in self.old) query.now) }
+        ensures answers { IfOk result (λ value. IsTrue (D.tells (disk_in self.old)) → (h : History)
+            → HoldsTrees X.DomIndex (D.image (disk_in self.old)) (params_in self.old) h → value ≡ answer (params_in self.old) h version query.now) }
+        ensures sound { (h : History) (page : ℕ) → IsTrue (D.tells (disk_in self.old))
+            → HoldsTrees X.DomIndex (D.image (disk_in self.old)) (params_in self.old) h → result ≢ Err (PageFault.Damaged page) }
+        ensures reads { OnlyReads ⟦<Space<D> as Pages>⟧ (D.reads (disk_in self.new)) (space_in self.old) (space_in self.new) result }
+        ensures cost { (h : History) → IsTrue (D.tells (disk_in self.old)) → HoldsTrees X.DomIndex (D.image (disk_in self.old)) (params_in self.old) h
+            → D.reads (disk_in self.new) ≤ D.reads (disk_in self.old) + query_cost X.cost (params_in self.old) h query.now }
+    {
+        // The trees are those of the history, and no answer is too great.
+        holds_one();
+        entries_give_answers();
+        answers_are_bounded();
+        lawful_histories_have_room();
+        self.space.is_held();
+        match query.kind {
+            Kind::Sum => sum::<X, Space<D>>(&mut self.space, &self.forest, query, version),
+            Kind::Count => count::<X, Space<D>>(&mut self.space, &self.forest, query, version),
+            Kind::Integral => integral::<X, Space<D>>(
+                &mut self.space,
+                &self.forest,
+                query,
+                version,
+            ),
+        }
+    }
+
+    /// What the query answers at the version. It takes no memory, and changes neither history nor image.
+    ///
+    /// `NoVersion` comes exactly where the version is above the last, which it carries, and before any call on
+    /// the disk. `Disk` comes only where the count of faults rose, `Damaged` only where the disk holds no history.
+    pub fn query(&mut self, query: &Query, version: u32) -> Result<i128, QueryFault>
+        requires { IsTrue (query_fits (params_in self.old) query.now) }
+        ensures answers { (whole : Bool) (h : History) → HoldsHistory D.Disk X.DomIndex whole (disk_in self.old) (params_in self.old) h
+            → Answers (params_in self.old) h version query.now result }
+        ensures stands { (whole : Bool) (h : History) → HoldsHistory D.Disk X.DomIndex whole (disk_in self.old) (params_in self.old) h
+            → HoldsHistory D.Disk X.DomIndex whole (disk_in self.new) (params_in self.old) h }
+        ensures moments { D.moments (disk_in self.new) ≡ D.moments (disk_in self.old) }
+        ensures params { params_in self.new ≡ params_in self.old }
+        ensures meta { meta_in self.new ≡ meta_in self.old }
+        ensures disk { result ≡ Err QueryFault.Disk → Rose (D.faults (disk_in self.old)) (D.faults (disk_in self.new)) }
+        ensures faults { D.faults (disk_in self.old) ≤ D.faults (disk_in self.new) }
+        ensures reads { (whole : Bool) (h : History) → HoldsHistory D.Disk X.DomIndex whole (disk_in self.old) (params_in self.old) h
+            → D.reads (disk_in self.new) ≤ D.reads (disk_in self.old) + query_cost X.cost (params_in self.old) h query.now }
+        ensures no_reads { (last : ℕ) → result ≡ Err (QueryFault.NoVersion last) → D.reads (disk_in self.new) ≡ D.reads (disk_in self.old) }
+    {
+        holds_one();
+        self.space.is_held();
+        let last = self.last();
+        if version > last {
+            return Err(QueryFault::NoVersion(last));
+        }
+        match self.total(query, version) {
+            Ok(value) => Ok(value),
+            Err(PageFault::Disk) => Err(QueryFault::Disk),
+            Err(PageFault::Damaged(page)) => Err(QueryFault::Damaged(page)),
+        }
+    }
+}

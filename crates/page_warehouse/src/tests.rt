@@ -1,0 +1,132 @@
+//! Warehouses on a recording disk: made, opened, queried, and stopped after each call.
+ghost use Rattle.std.specs.Prelude.{◌≡◌};
+ghost use Rattle.bw_types.specs.Fits.{IsInRange};
+
+use crate::{Created, Warehouse, create};
+use bw_types::{Kind, Params, Query, query_fits};
+use dom_index::PointList;
+use page_disk::{Area, Disk, MemDisk, PlainDisk, Torn};
+use page_ports::{Page, blank_page};
+use page_space::OpenFault;
+use std::alloc::Global;
+use std::test::Fail;
+use warehouse::QueryFault;
+
+const KINDS: [Torn; 5] = [
+    Torn::Lost,
+    Torn::Landed,
+    Torn::Filled(0),
+    Torn::Filled(1),
+    Torn::Filled(255),
+];
+
+fn params_of(dims: u8, degree: Option<u8>, origin: u32) -> Params {
+    Params {
+        dims,
+        degree,
+        events: 1000000,
+        pages: 1048576,
+        origin,
+    }
+}
+
+const PLAIN: Params = Params {
+    dims: 2,
+    degree: None,
+    events: 1000000,
+    pages: 1048576,
+    origin: 0,
+};
+
+// A disk on which a warehouse was made, and whether that was done before it stopped after so many calls.
+fn made(alloc: Global, calls: u64) -> (MemDisk, bool) {
+    let mut disk = MemDisk::blank(alloc);
+    disk.stop_after(calls);
+    let (mut disk, done) = match create(disk, &PLAIN) {
+        Created::Done(disk) => (disk, true),
+        Created::AlreadyThere(disk) => (disk, false),
+        Created::Disk(disk) => (disk, false),
+    };
+    disk.stop_after(u64::MAX);
+    (disk, done)
+}
+
+fn opened(alloc: Global, disk: MemDisk) -> Result<Warehouse<MemDisk, PointList>, OpenFault> {
+    match Warehouse::open_on(alloc, disk) {
+        Ok(house) => Ok(house),
+        Err(refused) => Err(refused.fault),
+    }
+}
+
+fn everywhere(kind: Kind) -> Query {
+    Query {
+        kind,
+        low: [0, 0, 0],
+        high: [4294967294, 4294967294, 0],
+    }
+}
+
+fn asked(
+    house: &mut Warehouse<MemDisk, PointList>,
+    query: &Query,
+    version: u32,
+) -> Option<Result<i128, QueryFault>> {
+    if !query_fits(query, &house.params()) {
+        return None;
+    }
+    Some(house.query(query, version))
+}
+
+#[test]
+fn a_new_warehouse_is_empty(rt: HostRuntime) -> Result<(), Fail> {
+    let (disk, done) = made(rt.alloc(), u64::MAX);
+    assert!(rt; done);
+    let mut house = opened(rt.alloc(), disk)?;
+    assert_eq!(rt; house.params(), PLAIN);
+    assert_eq!(rt; house.last(), 0);
+    let (sum, count) = (everywhere(Kind::Sum), everywhere(Kind::Count));
+    assert!(rt; asked(&mut house, &sum, 0) == Some(Ok(0)));
+    assert!(rt; asked(&mut house, &count, 0) == Some(Ok(0)));
+    assert!(rt; asked(&mut house, &sum, 1) == Some(Err(QueryFault::NoVersion(0))));
+    // An integral is asked only where there is a degree.
+    assert!(rt; asked(&mut house, &everywhere(Kind::Integral), 0) == None);
+    Ok(())
+}
+
+#[test]
+fn a_second_warehouse_is_refused(rt: HostRuntime) -> Result<(), Fail> {
+    let (disk, done) = made(rt.alloc(), u64::MAX);
+    assert!(rt; done);
+    let there = match create(disk, &PLAIN) {
+        Created::AlreadyThere(disk) => Some(disk),
+        _ => None,
+    };
+    assert!(rt; there.is_some());
+    Ok(())
+}
+
+#[test]
+fn disks_without_a_warehouse(rt: HostRuntime) -> Result<(), Fail> {
+    let blank = opened(rt.alloc(), MemDisk::blank(rt.alloc()));
+    assert!(rt; matches!(blank, Err(OpenFault::Empty)));
+    Ok(())
+}
+
+// A stop leaves no warehouse, or a new one.
+fn is_all_or_none(alloc: Global, disk: MemDisk) -> bool {
+    match opened(alloc, disk) {
+        Ok(house) => house.last() == 0 && house.params() == PLAIN,
+        Err(fault) => fault == OpenFault::Empty,
+    }
+}
+
+#[test]
+fn a_making_that_is_stopped(rt: HostRuntime) -> Result<(), Fail> {
+    for torn in KINDS {
+        for calls in 0..16 {
+            let (disk, _) = made(rt.alloc(), calls);
+            assert!(rt; is_all_or_none(rt.alloc(), disk.crash(torn)));
+        }
+    }
+    Ok(())
+}
