@@ -1,5 +1,5 @@
 -- An entry made in one tree after another.
-use Rattle.std.proofs.Common.{◌≡◌, ℕ, zero, suc, ◌+◌, ◌*◌, ◌<◌, ◌≤◌, Bool, true, false, nat_lt, if◌then◌else◌, inl, inr, List, [], ◌∷◌, ◌++◌, length, get_or, drop, refl, sym, ap, ◌∙◌, subst, arith}
+use Rattle.std.proofs.Common.{◌≡◌, ℕ, suc, ◌+◌, ◌<◌, ◌≤◌, Bool, if◌then◌else◌, inl, inr, List, [], ◌∷◌, ◌++◌, length, sym, ap, ◌∙◌, subst, arith}
 use Rattle.std.specs.List.{All}
 use Rattle.std.proofs.lemmas.Bool.{cases_lt, lt-ltb, le-ltb}
 use Rattle.std.proofs.lemmas.List.Elements.{All-cons, All-nil, All-head, All-tail}
@@ -7,7 +7,7 @@ use Rattle.bw_types.specs.declared.params.Params.{Params}
 use Rattle.bw_types.specs.declared.point.Point.{Point}
 use Rattle.bw_types.specs.declared.tree.Tree.{Tree}
 use Rattle.page_ports.specs.Pages.{PageMap}
-use Rattle.page_ports.specs.Frame.{AgreeOn, AreInMap, Replaces}
+use Rattle.page_ports.specs.Frame.{AgreeOn, AreInMap}
 use Rattle.page_ports.specs.FrameLaws.{Replaces-then, Replaces-same}
 use Rattle.page_layout.specs.Footprint.{NamesNoneTwice}
 use Rattle.poly_moments.specs.PlaneSums.{Entered, EnteredFits}
@@ -16,7 +16,7 @@ use Rattle.corner_forest.specs.Entries.{entry_points, root_count, root_points}
 use Rattle.corner_forest.specs.Enters.{ForestEnters, IsEntering, TreeEnters, points_reached}
 use Rattle.corner_forest.specs.Stands.{AreBalanced, ForestStands, forest_pages}
 use Rattle.corner_forest.specs.Trees.{EachStands}
-use Rattle.corner_forest.proofs.Changing.{EachChanged, change_at, each_same}
+use Rattle.corner_forest.proofs.Changing.{change_at, each_same}
 
 -- what was reached before
 reached_before : (params : Params) (es : List Entered) (e : Entered) (k j : ℕ) → j < k → points_reached params es e k j ≡ root_points params (e ∷ es) j

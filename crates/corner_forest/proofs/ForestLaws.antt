@@ -1,12 +1,11 @@
 -- The laws of forests.
-use Rattle.std.proofs.Common.{◌≡◌, ℕ, zero, suc, ◌+◌, ◌<◌, ◌≤◌, List, [], ◌∷◌, ◌++◌, length, replicate, refl, sym, ap, ◌∙◌, subst, arith, append_assoc, IsPermutation}
+use Rattle.std.proofs.Common.{◌≡◌, ℕ, zero, suc, ◌≤◌, List, [], ◌∷◌, ◌++◌, replicate, refl, sym, ap, ◌∙◌, subst, append_assoc, IsPermutation}
 use Rattle.std.specs.List.{All, flat_map}
 use Rattle.std.proofs.lemmas.List.{length-replicate}
 use Rattle.std.proofs.lemmas.List.Elements.{All-cons, All-nil}
 use Rattle.std.proofs.lemmas.List.Sorted.{All-permutation, IsPermutation-append_comm, IsPermutation-append_left, IsPermutation-middle, IsPermutation-sym}
 use Rattle.std.proofs.lemmas.List.Concat.{flat_map-append}
 use Rattle.bw_types.specs.Empty.{empty_tree}
-use Rattle.bw_types.specs.Fits.{IsInRange}
 use Rattle.bw_types.specs.declared.params.Params.{Params}
 use Rattle.bw_types.specs.declared.point.Point.{Point}
 use Rattle.bw_types.specs.declared.tree.Tree.{Tree}
@@ -17,7 +16,7 @@ use Rattle.poly_moments.specs.PlaneSums.{Entered, EnteredFits}
 use Rattle.dom_index.specs.declared.index.DomIndex.{Ghosts}
 use Rattle.corner_forest.specs.Entries.{entry_points, root_count, root_points}
 use Rattle.corner_forest.specs.Laws.{EmptyForestStands, ForestPagesAreThere, ForestStandsByItsPages, EntryStandsAnywhere}
-use Rattle.corner_forest.specs.Stands.{AreBalanced, ForestStands, forest_pages}
+use Rattle.corner_forest.specs.Stands.{AreBalanced}
 use Rattle.corner_forest.specs.Trees.{EachStands, trees_pages}
 use Rattle.corner_forest.proofs.Changing.{each_by_pages, each_there}
 use Rattle.corner_forest.proofs.Entering.{each_low, each_with, each_without}

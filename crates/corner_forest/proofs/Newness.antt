@@ -1,8 +1,8 @@
 -- The points of the next entry are new to each tree.
-use Rattle.std.proofs.Common.{◌≡◌, ℕ, zero, suc, ◌+◌, ◌-◌, ◌*◌, ◌^◌, ◌<◌, ◌≤◌, ◌==◌, ◌&&◌, Bool, true, false, not, nat_lt, if◌then◌else◌, IsTrue, inl, inr, List, [], ◌∷◌, ◌++◌, length, map, get_or, slice_index, refl, sym, ap, ◌∙◌, subst, arith, length-append}
+use Rattle.std.proofs.Common.{◌≡◌, ℕ, zero, suc, ◌+◌, ◌-◌, ◌*◌, ◌^◌, ◌<◌, ◌≤◌, ◌==◌, Bool, true, false, not, nat_lt, if◌then◌else◌, IsTrue, inl, inr, List, [], ◌∷◌, length, get_or, slice_index, refl, sym, ap, ◌∙◌, arith, length-append}
 use Rattle.std.specs.List.{All, flat_map, range_with_len}
 use Rattle.std.proofs.Math.Nat.{mul-le-mul_right, mul-le-mul_left, pow-le-pow_right}
-use Rattle.std.proofs.lemmas.Bool.{cases_lt, cases_eq, lt-ltb, le-ltb, ne_eqb}
+use Rattle.std.proofs.lemmas.Bool.{cases_lt, lt-ltb, le-ltb, ne_eqb}
 use Rattle.std.proofs.lemmas.List.{length-map}
 use Rattle.std.proofs.lemmas.List.FromFn.{length-range_with_len}
 use Rattle.std.proofs.lemmas.List.Elements.{All-append, All-cons, All-head, All-map, All-nil, All-tail}
@@ -14,7 +14,7 @@ use Rattle.bw_types.specs.declared.point.Point.{Point}
 use Rattle.box_corners.specs.Corners.{corner_keys, object_end, of_first_dimensions}
 use Rattle.box_corners.specs.Entries.{corner_point}
 use Rattle.poly_moments.specs.PlaneSums.{Entered, EnteredFits, corner_number, plane_point}
-use Rattle.dom_index.specs.Points.{IsNewPoint, keys_differ}
+use Rattle.dom_index.specs.Points.{keys_differ}
 use Rattle.corner_forest.specs.Enters.{AreNewPoints, points_from}
 use Rattle.corner_forest.specs.Entries.{IsNextEntry, as_counted, as_weighed, corner_count, entry_point, entry_points, point_count, root_points}
 

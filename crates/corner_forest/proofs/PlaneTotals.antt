@@ -1,5 +1,5 @@
 -- The planes' sums of the points of entries come to their integrals.
-use Rattle.std.proofs.Common.{◌≡◌, ℕ, suc, ◌+◌, ◌*◌, ◌^◌, ◌<◌, ◌≤◌, true, false, nat_lt, if◌then◌else◌, Bool, IsSome, List, [], ◌∷◌, length, map, refl, sym, ap, ◌∙◌, arith}
+use Rattle.std.proofs.Common.{◌≡◌, ℕ, ◌+◌, ◌*◌, ◌<◌, true, false, nat_lt, if◌then◌else◌, Bool, IsSome, List, [], ◌∷◌, length, map, refl, ap, ◌∙◌, arith}
 use Rattle.std.specs.List.{All, range_with_len}
 use Rattle.std.proofs.lemmas.Bool.{le-ltb}
 use Rattle.bw_types.specs.Dominance.{dominance_sum}
@@ -16,7 +16,7 @@ use Rattle.poly_moments.specs.Integrals.{query_corner}
 use Rattle.poly_moments.specs.Planes.{plane_count, planes_value}
 use Rattle.poly_moments.specs.PlaneSums.{Entered, EnteredFits, IntegralByPlanes, integral_at, plane_points, summed_planes}
 use Rattle.corner_forest.specs.Corners.{planes_at}
-use Rattle.corner_forest.specs.Entries.{corner_count, point_count, root_points}
+use Rattle.corner_forest.specs.Entries.{corner_count, root_points}
 use Rattle.corner_forest.proofs.Newness.{length_root}
 use Rattle.corner_forest.proofs.TreePoints.{root_planed}
 

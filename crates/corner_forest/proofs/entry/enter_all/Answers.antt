@@ -1,11 +1,10 @@
-use Rattle.std.proofs.Common.{◌≡◌, ℕ, ◌+◌, ◌*◌, ◌<◌, ◌≤◌, Err, Ok, IsTrue, List, [], ◌∷◌, ◌++◌, length, get_or, drop, rules, refl, ap, sym, ◌∙◌, subst, arith}
+use Rattle.std.proofs.Common.{◌≡◌, ◌+◌, ◌*◌, ◌<◌, ◌≤◌, Err, IsTrue, List, length, get_or, drop, rules, ap, sym, subst, arith}
 use Rattle.std.specs.List.{All}
 use Rattle.std.proofs.lemmas.Result.{err_from_is_err_and}
 use Rattle.std.proofs.lemmas.List.Elements.{All-push}
 use Rattle.bw_types.specs.Empty.{empty_tree}
 use Rattle.bw_types.specs.Heights.{added_pages}
 use Rattle.bw_types.specs.declared.tree.Tree.{Tree}
-use Rattle.page_ports.specs.Calls.{Changes}
 use Rattle.page_ports.specs.declared.page.StageFault.TheVariants.{Damaged}
 use Rattle.page_layout.specs.TreeValue.{tree_fits}
 use Rattle.corner_forest.specs.Enters.{IsEntering, entered, root_growth, sum_below}

@@ -1,9 +1,6 @@
-use Rattle.std.proofs.Common.{◌≡◌, ℕ, ◌+◌, ◌*◌, ◌<◌, ◌≤◌, Err, List, length, to_z, of_z, rules, ap, refl, sym, ◌∙◌, subst, arith}
+use Rattle.std.proofs.Common.{◌≡◌, ℕ, ◌+◌, ◌*◌, ◌<◌, ◌≤◌, length, to_z, of_z, rules, ap, sym, ◌∙◌, subst, arith}
 use Rattle.std.specs.Int.{w128}
-use Rattle.std.proofs.lemmas.Result.{err_from_is_err_and}
-use Rattle.page_ports.specs.declared.page.PageFault.TheVariants.{Damaged}
 use Rattle.bw_types.specs.Residues.{residue, signed_of}
-use Rattle.bw_types.specs.declared.point.Point.{Point}
 use Rattle.box_corners.specs.Corners.{integral_corner}
 use Rattle.box_corners.specs.Subsets.{residue_signed_by}
 use Rattle.poly_moments.specs.Integrals.{query_corner}

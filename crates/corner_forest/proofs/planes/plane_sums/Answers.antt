@@ -1,9 +1,8 @@
-use Rattle.std.proofs.Common.{◌≡◌, ℕ, ◌+◌, ◌*◌, ◌<◌, ◌≤◌, Err, List, length, rules, ap, refl, sym, ◌∙◌, subst, arith}
+use Rattle.std.proofs.Common.{◌+◌, ◌*◌, ◌<◌, Err, length, rules, ap, arith}
 use Rattle.std.proofs.lemmas.Result.{err_from_is_err_and}
 use Rattle.page_ports.specs.declared.page.PageFault.TheVariants.{Damaged}
 use Rattle.bw_types.specs.Dominance.{dominance_sum}
 use Rattle.bw_types.specs.Empty.{empty_tree}
-use Rattle.bw_types.specs.declared.point.Point.{Point}
 use Rattle.poly_moments.specs.Planes.{plane_count}
 use Rattle.corner_forest.specs.Entries.{corner_count}
 use Rattle.corner_forest.proofs.Exits.{exit_error}
