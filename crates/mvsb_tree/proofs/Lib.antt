@@ -18,5 +18,6 @@ pub mod Splitting
 pub mod Standing
 pub mod Stepping
 pub mod Storing
+pub mod Topping
 pub mod Values
 pub mod Ways

@@ -1,10 +1,14 @@
 -- The root from a version on, where an addition closed the one before.
-use Rattle.std.specs.Prelude.{◌≡◌, ℕ, ◌+◌, [], ◌∷◌, Option, Some, None}
+use Rattle.std.specs.Prelude.{◌≡◌, ℕ, ◌+◌, ◌%◌, ◌^◌, ◌<◌, Bool, [], ◌∷◌, Option, Some, None}
 use Rattle.page_ports.specs.Pages.{PageMap}
 use Rattle.page_layout.specs.declared.mv_node.MvNode.{MvNode}
 use Rattle.mv_pages.specs.Edits.{Cut, new_entry}
 use Rattle.mvsb_tree.specs.declared.replaced.Replaced.{Replaced}
+use Rattle.mvsb_tree.specs.Grown.{Grown}
+use Rattle.mvsb_tree.specs.Stands.{StandsOnWay}
+use Rattle.mvsb_tree.specs.Steps.{chain_from, root_level, total_below}
 use Rattle.mvsb_tree.specs.Stored.{IsNext}
+use Rattle.mvsb_tree.specs.Ways.{added_at}
 
 -- a root above two pages, before it has its place
 abbrev pub root_node : ℕ → ℕ → ℕ → ℕ → ℕ → MvNode
@@ -24,3 +28,11 @@ IsTopOf before after level version first (Some second) last new_last top =
 abbrev pub IsTop : PageMap → PageMap → ℕ → ℕ → ℕ → Option Replaced → ℕ → ℕ → ℕ → Type 0
 IsTop before after root level version None last new_last top = (top ≡ root) × (after ≡ before) × (new_last ≡ last)
 IsTop before after root level version (Some replaced) last new_last top = IsTopOf before after level version replaced.first replaced.second last new_last top
+
+-- The chain has grown, and the ways of all keys at the version stand from the new root down, with so much more from
+-- the addition's key on.
+pub record RootAdded (test : ℕ → Bool) (before after : PageMap) (root top version key value places last new_last : ℕ) : Type 0 where
+  pub new_places : ℕ
+  pub grown : Grown version test before after places last new_places new_last
+  pub ways : (q : ℕ) → q < 2 ^ 64 → StandsOnWay (root_level after top) after (chain_from new_places after new_last) top version q 0 None 1
+  pub totals : (q : ℕ) → q < 2 ^ 64 → total_below (root_level after top) after top q version % 2 ^ 128 ≡ (total_below (root_level before root) before root q version + added_at key value q) % 2 ^ 128
