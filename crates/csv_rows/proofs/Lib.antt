@@ -4,3 +4,4 @@ mod QuotedParts
 mod CsvReads
 mod FeedLemmas
 mod GivenValues
+mod LineEnds

@@ -79,7 +79,10 @@ fn is_field(part: &[u8]) -> bool
 fn has_line_end(line: &[u8]) -> bool
     ensures { result ≡ holds_line_end line.now }
 {
-    line.iter().any(|byte| *byte == b'\n' || *byte == b'\r')
+    if line.contains(&b'\n') {
+        return true;
+    }
+    line.contains(&b'\r')
 }
 
 // Whether each part of a line has a content.

@@ -1,4 +1,4 @@
-use Rattle.std.proofs.Common.{◌≡◌, ◌∙◌, sym, refl, Some, ◌∷◌, ◌++◌, drop}
+use Rattle.std.proofs.Common.{◌∙◌, Some, drop}
 use Rattle.std.specs.Io.Cursor.{cursor_remaining}
 use Rattle.csv.specs.Records.{fields_of}
 use Rattle.csv_rows.specs.Fields.{line_fields}
