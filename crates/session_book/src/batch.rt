@@ -40,14 +40,14 @@ impl Batch {
 
     /// How the id stands: by the batch, and else by what was seen.
     pub fn standing<V: Seen>(&self, seen: &mut V, id: u64) -> Result<Standing, BookFault>
-        ensures ok { IfOk result (λ standing. IsTrue (V.tells seen.old) → standing ≡ standing_by (own self.now id) (V.life_of seen.old id)) }
+        ensures ok { IfOk result (λ standing. V.tells seen.old → standing ≡ standing_by (own self.now id) (V.life_of seen.old id)) }
         ensures disk { result ≡ Err BookFault.Disk → Rose (V.faults seen.old) (V.faults seen.new) }
         ensures damaged { (page : ℕ) → result ≡ Err (BookFault.Damaged page) → V.may_blame seen.old page }
         ensures damaged_told { (page : ℕ) → result ≡ Err (BookFault.Damaged page)
-            → IsTrue (V.tells seen.old) → Rose (V.faults seen.old) (V.faults seen.new) }
+            → V.tells seen.old → Rose (V.faults seen.old) (V.faults seen.new) }
 
         ensures faults { V.faults seen.old ≤ V.faults seen.new }
-        ensures tells { V.tells seen.new ≡ V.tells seen.old }
+        ensures tells { V.tells seen.old → V.tells seen.new }
         ensures life_of { V.life_of seen.new ≡ V.life_of seen.old }
         ensures may_blame { (page : ℕ) → V.may_blame seen.new page → V.may_blame seen.old page }
         ensures stays { V.stays seen.old seen.new }

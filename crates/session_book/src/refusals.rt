@@ -46,15 +46,15 @@ pub fn first_refusal<V: Seen>(
     requires in_range { IsInRange params.now }
     requires fit { IsTrue (list_all (row_fits params.now) rows.now) }
     requires mass { mass < 2 ^ 126 }
-    ensures ok { IfOk result (λ refusal. IsTrue (V.tells seen.old) → (h : History)
+    ensures ok { IfOk result (λ refusal. V.tells seen.old → (h : History)
         → IsToldOf params.now (V.life_of seen.old) events mass h → refusal ≡ first_refusal params.now h rows.now) }
     ensures disk { result ≡ Err BookFault.Disk → Rose (V.faults seen.old) (V.faults seen.new) }
     ensures damaged { (page : ℕ) → result ≡ Err (BookFault.Damaged page) → V.may_blame seen.old page }
     ensures damaged_told { (page : ℕ) → result ≡ Err (BookFault.Damaged page)
-        → IsTrue (V.tells seen.old) → Rose (V.faults seen.old) (V.faults seen.new) }
+        → V.tells seen.old → Rose (V.faults seen.old) (V.faults seen.new) }
 
     ensures faults { V.faults seen.old ≤ V.faults seen.new }
-    ensures tells { V.tells seen.new ≡ V.tells seen.old }
+    ensures tells { V.tells seen.old → V.tells seen.new }
     ensures life_of { V.life_of seen.new ≡ V.life_of seen.old }
     ensures may_blame { (page : ℕ) → V.may_blame seen.new page → V.may_blame seen.old page }
     ensures stays { V.stays seen.old seen.new }
@@ -83,16 +83,16 @@ fn first_refused_row<V: Seen>(
     requires fit { IsTrue (list_all (row_fits params.now) rows.now) }
     requires mass { mass < 2 ^ 126 }
     requires few { length rows.now ≤ 2 ^ 28 }
-    ensures ok { IfOk result (λ refusal. IsTrue (V.tells seen.old) → (past : List Change)
+    ensures ok { IfOk result (λ refusal. V.tells seen.old → (past : List Change)
         → TellsLives (V.life_of seen.old) past → mass ≡ total_mass params.now past
         → refusal ≡ first_refused_row params.now past [] 1 rows.now) }
     ensures disk { result ≡ Err BookFault.Disk → Rose (V.faults seen.old) (V.faults seen.new) }
     ensures damaged { (page : ℕ) → result ≡ Err (BookFault.Damaged page) → V.may_blame seen.old page }
     ensures damaged_told { (page : ℕ) → result ≡ Err (BookFault.Damaged page)
-        → IsTrue (V.tells seen.old) → Rose (V.faults seen.old) (V.faults seen.new) }
+        → V.tells seen.old → Rose (V.faults seen.old) (V.faults seen.new) }
 
     ensures faults { V.faults seen.old ≤ V.faults seen.new }
-    ensures tells { V.tells seen.new ≡ V.tells seen.old }
+    ensures tells { V.tells seen.old → V.tells seen.new }
     ensures life_of { V.life_of seen.new ≡ V.life_of seen.old }
     ensures may_blame { (page : ℕ) → V.may_blame seen.new page → V.may_blame seen.old page }
     ensures stays { V.stays seen.old seen.new }

@@ -1,4 +1,4 @@
-ghost use Rattle.std.specs.Prelude.{◌≡◌, ℕ, ◌≤◌, Bool, IsTrue, Err, IfOk};
+ghost use Rattle.std.specs.Prelude.{◌≡◌, ℕ, ◌≤◌, Err, IfOk};
 ghost use Rattle.counts.specs.Count.{Rose};
 ghost use Rattle.session_book.specs.declared.seen.Life.{Life};
 
@@ -17,8 +17,8 @@ pub enum Life {
 
 /// What tells the lives of the ids of a history.
 pub trait Seen {
-    /// Whether the lives are told. What they are is claimed only where they are.
-    ghost tells: { Self → Bool };
+    /// The lives are told: those of a sound table, say. What they are is claimed only where they are.
+    ghost tells: { Self → Type 0 };
 
     /// What is told of an id.
     ghost life_of: { Self → ℕ → Life };
@@ -37,14 +37,14 @@ pub trait Seen {
     /// `Disk` comes only where the count of faults rose. `Damaged` comes only for a page that may be
     /// blamed, and where the lives are told only where the count of faults rose.
     fn life(&mut self, id: u64) -> Result<Life, PageFault>
-        ensures ok { IfOk result (λ life. IsTrue (tells self.old) → life ≡ life_of self.old id) }
+        ensures ok { IfOk result (λ life. tells self.old → life ≡ life_of self.old id) }
         ensures disk { result ≡ Err PageFault.Disk → Rose (faults self.old) (faults self.new) }
         ensures damaged { (page : ℕ) → result ≡ Err (PageFault.Damaged page) → may_blame self.old page }
         ensures damaged_told { (page : ℕ) → result ≡ Err (PageFault.Damaged page)
-            → IsTrue (tells self.old) → Rose (faults self.old) (faults self.new) }
+            → tells self.old → Rose (faults self.old) (faults self.new) }
 
         ensures faults { faults self.old ≤ faults self.new }
-        ensures tells { tells self.new ≡ tells self.old }
+        ensures tells { tells self.old → tells self.new }
         ensures life_of { life_of self.new ≡ life_of self.old }
         ensures may_blame { (page : ℕ) → may_blame self.new page → may_blame self.old page }
         ensures stays { stays self.old self.new };

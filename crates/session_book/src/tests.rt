@@ -20,7 +20,7 @@ impl Seen for ListSeen<'_> {
     ghost use Rattle.std.proofs.Common.{◌∙◌};
     ghost use Rattle.session_book.specs.Told.{life_in};
 
-    ghost tells = { λ _. true };
+    ghost tells = { λ _. Unit {0} };
 
     ghost life_of = { λ s. life_in s.changes.now };
 
@@ -87,7 +87,7 @@ impl Seen for BrokenSeen {
     ghost use Rattle.std.specs.Prelude.{false};
     ghost use Rattle.session_book.specs.declared.seen.Life.TheVariants.{Never};
 
-    ghost tells = { λ _. false };
+    ghost tells = { λ _. ⊥ };
 
     ghost life_of = { λ _ _. Never };
 

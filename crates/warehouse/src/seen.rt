@@ -1,5 +1,5 @@
 //! What the warehouse's states of ids tell to the book of rules that a batch has to keep.
-ghost use Rattle.std.specs.Prelude.{◌≡◌, true, refl};
+ghost use Rattle.std.specs.Prelude.{◌≡◌, refl};
 ghost use Rattle.warehouse.specs.Told.{life_of_state};
 ghost use Rattle.warehouse.specs.Kept.{state_in};
 
@@ -15,7 +15,7 @@ pub struct SeenStates<'a> {
 }
 
 impl<'a> Seen for SeenStates<'a> {
-    ghost tells = { λ _. true };
+    ghost tells = { λ _. Unit {0} };
 
     ghost life_of = { λ seen id. life_of_state (state_in seen.states.now id) };
 

@@ -7,12 +7,12 @@ pub returns-in-Ok-Some-clause-ok : goal.returns-in-Ok-Some-clause-ok
 returns-in-Ok-Some-clause-ok g c = λ tells past lives total.
     first_refused_row-judged c.args.params.now (g.V.Seen.life_of c.args.seen.now) (g.V.Seen.life_of c.loop-i.seen) past c.args.rows.now c.loop-i.i blank_row c.loop-i.batch c.judge.new.self c.row_id.result c.in_ok-standing.standing c.in-Ok-Some.field-0
     (omega arith) (c.loop-i.invariant.so_far tells past lives total) c.row_id.ensures (omega arith) c.loop-i.invariant.life_of
-    (c.in_ok-standing.ensures.ok (subst (λ t. IsTrue t) (sym c.loop-i.invariant.tells) tells)) c.in-Ok-Some.ensures.ok c.in-Ok-Some.reason c.in-Ok-Some.field-0-is
+    (c.in_ok-standing.ensures.ok (c.loop-i.invariant.tells tells)) c.in-Ok-Some.ensures.ok c.in-Ok-Some.reason c.in-Ok-Some.field-0-is
 
 pub loop-i-preserved : goal.loop-i-preserved
 loop-i-preserved g c = record {
   faults = omega (arith, c.in_ok-standing.ensures.faults, c.loop-i.invariant.faults);
-  tells = c.in_ok-standing.ensures.tells ∙ c.loop-i.invariant.tells;
+  tells = λ told. c.in_ok-standing.ensures.tells (c.loop-i.invariant.tells told);
   life_of = c.in_ok-standing.ensures.life_of ∙ c.loop-i.invariant.life_of;
   may_blame = λ page may. c.loop-i.invariant.may_blame page (c.in_ok-standing.ensures.may_blame page may);
   stays = g.met.V.Seen.stays_on c.args.seen.now c.loop-i.seen c.standing.new.seen c.loop-i.invariant.stays c.in_ok-standing.ensures.stays;
@@ -20,5 +20,5 @@ loop-i-preserved g c = record {
   so_far = λ tells past lives total.
       IsSoFar-accepted c.args.params.now (g.V.Seen.life_of c.args.seen.now) (g.V.Seen.life_of c.loop-i.seen) past c.args.rows.now c.loop-i.i blank_row c.loop-i.batch c.judge.new.self c.row_id.result c.in_ok-standing.standing c.in-Ok-None.field-0
       (omega arith) (c.loop-i.invariant.so_far tells past lives total) c.row_id.ensures (omega arith) c.loop-i.invariant.life_of
-      (c.in_ok-standing.ensures.ok (subst (λ t. IsTrue t) (sym c.loop-i.invariant.tells) tells)) c.in-Ok-None.ensures.ok c.in-Ok-None.field-0-is;
+      (c.in_ok-standing.ensures.ok (c.loop-i.invariant.tells tells)) c.in-Ok-None.ensures.ok c.in-Ok-None.field-0-is;
 }
