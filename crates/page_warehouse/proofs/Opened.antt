@@ -133,3 +133,7 @@ module _ {X : Type 0} (g : Ghosts X) (one : HoldsOne) (x : Image) (params : Para
   last_here h held =
       let both = one x params params held.meta meta held.pages map held.space (unordered x params meta map ordered space) in
       sym (ap (λ (m : Meta). m.version) both.1) ∙ held.tells.version
+
+-- whatever pages the disk stood for, the disk of the opened space stands for too
+pub stands_alike : SettlesToOne → IdleSettles → (x y : Image) → SettlesTo x y.pages → gate_of y ≡ Idle → StandsAlike x y
+stands_alike one idle x y settles gate = λ pages stands. subst (λ (ps : PageList). SettlesTo y ps) (one x y.pages pages settles stands) (idle y gate)

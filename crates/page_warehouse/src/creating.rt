@@ -54,6 +54,9 @@ pub fn create<D: Disk>(disk: D, params: &Params) -> Created<D>
     ensures untouched_moments { IfThere result (LeavesOnly (λ x. x ≡ D.image disk) (D.moments disk) (D.moments (created_disk result))) }
     ensures any_moment { IsTrue (D.tells disk) → is_empty (D.image disk) ≡ true
         → LeavesOnly (IsEmptyOrNew params.now) (D.moments disk) (D.moments (created_disk result)) }
+    // A warehouse that is there is left as it is, whatever the answer.
+    ensures kept { IsTrue (D.tells disk) → is_empty (D.image disk) ≡ false → (D.image (created_disk result) ≡ D.image disk)
+        × LeavesOnly (λ x. x ≡ D.image disk) (D.moments disk) (D.moments (created_disk result)) }
     ensures disk { IfFailed result (Rose (D.faults disk) (D.faults (created_disk result))) }
     ensures faults { D.faults disk ≤ D.faults (created_disk result) }
     ensures reads { D.reads (created_disk result) ≤ D.reads disk + 2 }

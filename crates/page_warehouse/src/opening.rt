@@ -9,7 +9,7 @@ ghost use Rattle.redo_journal.specs.Gates.{is_empty};
 ghost use Rattle.redo_journal.specs.Settled.{SettlesTo};
 ghost use Rattle.page_space.specs.Faults.{AtBadJournal, AtDamaged, AtEmpty, AtNoMemory, is_disk};
 ghost use Rattle.page_space.specs.Opening.{StandsAlike, StandsWhole};
-ghost use Rattle.page_space.specs.Settling.{IsBadAt, replay_reads};
+ghost use Rattle.page_space.specs.Settling.{HasNoReplay, IsBadAt, replay_reads};
 ghost use Rattle.page_warehouse.specs.Opened.{GoTogether, IsDamagedToOpen, opened_disk};
 ghost use Rattle.corner_forest.specs.Entries.{root_count};
 ghost use Rattle.page_warehouse.specs.Holds.{Holds, HoldsTrees};
@@ -68,6 +68,9 @@ impl<D: Disk, X: DomIndex> Warehouse<D, X> {
     /// holds the same history. Four reads at most, and as many more for a replay as twice the journal has pages.
     pub fn open_on(alloc: Global, disk: D) -> Result<Warehouse<D, X>, OpenRefused<D>>
         ensures whole { IfOk result (λ w. IsTrue (D.tells disk) → (pages : PageMap) × HoldsSpace (D.image disk) (params_in w) (meta_in w) pages ⊥) }
+        // The disk stands for the pages that it stood for, and its image is the space that is kept here.
+        ensures settles { IfOk result (λ w. IsTrue (D.tells disk) → SettlesTo (D.image disk) (D.image (disk_in w)).pages) }
+        ensures here { IfOk result (λ w. IsTrue (D.tells disk) → (pages : PageMap) × HoldsSpace (D.image (disk_in w)) (params_in w) (meta_in w) pages ⊥) }
         ensures numbers { IfOk result (λ w. ((params_in w).dims ≤ X.DIMS) × GoTogether (params_in w) (meta_in w)) }
         ensures holds { (params : Params) (h : History) → IsTrue (D.tells disk) → Holds X.DomIndex (D.image disk) params h
             → IfOk result (λ w. (params_in w ≡ params) × Holds X.DomIndex (D.image (disk_in w)) params h) }
@@ -79,6 +82,12 @@ impl<D: Disk, X: DomIndex> Warehouse<D, X> {
         // A refusal leaves the history that the disk holds, unless the device failed.
         ensures kept { IfErr result (λ refused. refused.fault ≢ OpenFault.Disk → IsTrue (D.tells disk) → (params : Params) (h : History)
             → Holds X.DomIndex (D.image disk) params h → Holds X.DomIndex (D.image refused.disk) params h) }
+        // Where nothing is replayed, the disk is as it was; and a refusal leaves it standing for the same pages.
+        ensures untouched { IsTrue (D.tells disk) → HasNoReplay (D.image disk) → D.image (opened_disk disk_in result) ≡ D.image disk }
+        ensures untouched_moments { IsTrue (D.tells disk) → HasNoReplay (D.image disk)
+            → LeavesOnly (λ x. x ≡ D.image disk) (D.moments disk) (D.moments (opened_disk disk_in result)) }
+        ensures stands { IfErr result (λ refused. refused.fault ≢ OpenFault.Disk
+            → IsTrue (D.tells disk) → StandsAlike (D.image disk) (D.image refused.disk)) }
         ensures refused_settled { IfErr result (λ refused. refused.fault ≢ OpenFault.Disk
             → IsTrue (D.tells disk) → LeavesNow (D.moments refused.disk) (D.image refused.disk)) }
         ensures sound { IfErr result (λ refused. IsTrue (D.tells disk) → (params : Params) (h : History)

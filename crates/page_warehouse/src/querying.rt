@@ -1,5 +1,5 @@
 //! Queries, which read the trees alone.
-ghost use Rattle.std.specs.Prelude.{◌≡◌, ◌≢◌, ◌+◌, ◌≤◌, ℕ, Bool, Ok, Err, IsTrue, IfOk};
+ghost use Rattle.std.specs.Prelude.{◌≡◌, ◌≢◌, ◌+◌, ◌<◌, ◌≤◌, ℕ, Bool, Ok, Err, IsTrue, IfOk};
 ghost use Rattle.bw_types.specs.Answers.{answer};
 ghost use Rattle.bw_types.specs.Fits.{query_fits};
 ghost use Rattle.bw_types.specs.History.{History};
@@ -63,6 +63,10 @@ impl<D: Disk, X: DomIndex> Warehouse<D, X> {
         ensures stands { (whole : Bool) (h : History) → HoldsHistory D.Disk X.DomIndex whole (disk_in self.old) (params_in self.old) h
             → HoldsHistory D.Disk X.DomIndex whole (disk_in self.new) (params_in self.old) h }
         ensures moments { D.moments (disk_in self.new) ≡ D.moments (disk_in self.old) }
+        ensures image { D.image (disk_in self.new) ≡ D.image (disk_in self.old) }
+        ensures tells { D.tells (disk_in self.new) ≡ D.tells (disk_in self.old) }
+        ensures above { (meta_in self.old).version < version → (result ≡ Err (QueryFault.NoVersion (meta_in self.old).version)) × (self.new ≡ self.old) }
+        ensures within { (last : ℕ) → version ≤ (meta_in self.old).version → result ≢ Err (QueryFault.NoVersion last) }
         ensures params { params_in self.new ≡ params_in self.old }
         ensures meta { meta_in self.new ≡ meta_in self.old }
         ensures disk { result ≡ Err QueryFault.Disk → Rose (D.faults (disk_in self.old)) (D.faults (disk_in self.new)) }

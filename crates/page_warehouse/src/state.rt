@@ -1,5 +1,6 @@
 //! The warehouse that is kept open on a disk.
-ghost use Rattle.std.specs.Prelude.{◌≡◌, ◌+◌, ◌^◌, ◌<◌, ◌≤◌, length};
+ghost use Rattle.std.specs.Prelude.{◌≡◌, ◌+◌, ◌^◌, ◌<◌, ◌≤◌, Bool, length};
+ghost use Rattle.bw_types.specs.History.{History, last_version};
 ghost use Rattle.bw_types.specs.Fits.{IsInRange};
 ghost use Rattle.corner_forest.specs.Entries.{root_count};
 ghost use Rattle.page_space.specs.Shown.{meta_of, params_of};
@@ -8,7 +9,7 @@ use bw_types::Params;
 use corner_forest::Forest;
 use dom_index::DomIndex;
 use page_disk::Disk;
-use page_space::Space;
+use page_space::{Space, holds_one};
 use std::marker::PhantomData;
 
 /// A warehouse on a disk, over an index of points.
@@ -30,7 +31,7 @@ pub struct Warehouse<D: Disk, X: DomIndex> {
 }
 
 impl<D: Disk, X: DomIndex> Warehouse<D, X> {
-    ghost use Rattle.page_warehouse.specs.Shown.{disk_in, meta_in, params_in};
+    ghost use Rattle.page_warehouse.specs.Shown.{HoldsHistory, disk_in, meta_in, params_in};
 
     /// What the warehouse was made for.
     pub fn params(&self) -> Params
@@ -42,8 +43,11 @@ impl<D: Disk, X: DomIndex> Warehouse<D, X> {
 
     /// The number of the last version; 0 before the first commit.
     pub fn last(&self) -> u32
-        ensures { result ≡ (meta_in self.now).version }
+        ensures value { result ≡ (meta_in self.now).version }
+        ensures held { (whole : Bool) (h : History) → HoldsHistory D.Disk X.DomIndex whole (disk_in self.now) (params_in self.now) h → result ≡ last_version h }
     {
+        holds_one();
+        self.space.is_held();
         self.space.meta().version
     }
 

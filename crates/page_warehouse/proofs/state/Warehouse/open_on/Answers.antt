@@ -4,8 +4,9 @@ use Rattle.page_disk.specs.Since.{LeavesOnly}
 use Rattle.page_layout.specs.declared.meta.Meta.{Meta}
 use Rattle.page_warehouse.specs.Holds.{Holds}
 use Rattle.page_warehouse.specs.Opened.{GoTogether}
+use Rattle.page_space.specs.Opening.{StandsAlike}
 use Rattle.page_space.specs.Shown.{disk_of, map_of, meta_of, params_of, IsInOrder}
-use Rattle.page_warehouse.proofs.Opened.{any_moment, dims_held, for_queries, held_in, kept_alike, not_together, only_free, same_params, together_held, too_many_dims, trees_in, unordered}
+use Rattle.page_warehouse.proofs.Opened.{any_moment, dims_held, for_queries, held_in, kept_alike, not_together, only_free, same_params, stands_alike, together_held, too_many_dims, trees_in, unordered}
 use Rattle.page_warehouse.proofs.state.Warehouse.open_on.Goals as goal
 
 pub returns-in-Err-clause-any_moment : goal.returns-in-Err-clause-any_moment
@@ -108,3 +109,29 @@ returns-clause-holds_trees g c = λ params h told held. (
 pub returns-clause-any_moment : goal.returns-clause-any_moment
 returns-clause-any_moment g c = λ told params h held.
     any_moment g.X.DomIndex c.settling_laws.ensures.one (g.D.Disk.image c.args.disk) _ _ (λ pages settles. c.in-Ok.ensures.any_moment told pages settles) params h held
+
+pub returns-then-params-DIMS-clause-untouched_moments : goal.returns-then-params-DIMS-clause-untouched_moments
+returns-then-params-DIMS-clause-untouched_moments g c = λ told calm.
+    subst (λ (d : _). LeavesOnly (λ x. x ≡ g.D.Disk.image c.args.disk) (g.D.Disk.moments c.args.disk) (g.D.Disk.moments d)) (sym c.into_disk.ensures.disk)
+    (c.in-Ok.ensures.untouched_moments told calm)
+
+pub returns-then-params-DIMS-clause-stands : goal.returns-then-params-DIMS-clause-stands
+returns-then-params-DIMS-clause-stands g c = λ other told.
+    subst (λ (d : _). StandsAlike (g.D.Disk.image c.args.disk) (g.D.Disk.image d)) (sym c.into_disk.ensures.disk)
+    (stands_alike c.settling_laws.ensures.one c.settling_laws.ensures.idle (g.D.Disk.image c.args.disk) (g.D.Disk.image (disk_of c.in-Ok.space)) (c.in-Ok.ensures.settles told) (c.in-Ok.ensures.idle told))
+
+pub returns-then-not-goes_together-clause-untouched_moments : goal.returns-then-not-goes_together-clause-untouched_moments
+returns-then-not-goes_together-clause-untouched_moments g c = λ told calm.
+    subst (λ (d : _). LeavesOnly (λ x. x ≡ g.D.Disk.image c.args.disk) (g.D.Disk.moments c.args.disk) (g.D.Disk.moments d)) (sym c.into_disk-then-not-goes_together.ensures.disk)
+    (c.in-Ok.ensures.untouched_moments told calm)
+
+pub returns-then-not-goes_together-clause-stands : goal.returns-then-not-goes_together-clause-stands
+returns-then-not-goes_together-clause-stands g c = λ other told.
+    subst (λ (d : _). StandsAlike (g.D.Disk.image c.args.disk) (g.D.Disk.image d)) (sym c.into_disk-then-not-goes_together.ensures.disk)
+    (stands_alike c.settling_laws.ensures.one c.settling_laws.ensures.idle (g.D.Disk.image c.args.disk) (g.D.Disk.image (disk_of c.in-Ok.space)) (c.in-Ok.ensures.settles told) (c.in-Ok.ensures.idle told))
+
+pub returns-clause-here : goal.returns-clause-here
+returns-clause-here g c = λ told. (
+  map_of c.in-Ok.space,
+  unordered (g.D.Disk.image (disk_of c.in-Ok.space)) (params_of c.in-Ok.space) (meta_of c.in-Ok.space) (map_of c.in-Ok.space) (IsInOrder c.in-Ok.space) (c.is_held.ensures.held (c.in-Ok.ensures.tells ∙ told)),
+)

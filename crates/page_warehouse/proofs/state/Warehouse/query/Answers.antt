@@ -10,7 +10,7 @@ pub returns-then-version-last-clause-answers : goal.returns-then-version-last-cl
 returns-then-version-last-clause-answers g c = λ whole h held.
     let has = trees_of g.D.Disk g.X.DomIndex whole (disk_of c.args.self.now.space) (params_of c.args.self.now.space) h held in
     let last = last_here g.X.DomIndex c.holds_one.ensures.one (g.D.Disk.image (disk_of c.args.self.now.space)) (params_of c.args.self.now.space) (meta_of c.args.self.now.space) (map_of c.args.self.now.space) (IsInOrder c.args.self.now.space) (c.is_held.ensures.held has.0) h has.1 in
-    let read = c.last-last.ensures in
+    let read = c.last-last.ensures.value in
     let above = c.if-version-last.true in
     (omega arith, read ∙ last)
 
@@ -18,7 +18,7 @@ pub returns-in-Ok-clause-answers : goal.returns-in-Ok-clause-answers
 returns-in-Ok-clause-answers g c = λ whole h held.
     let has = trees_of g.D.Disk g.X.DomIndex whole (disk_of c.args.self.now.space) (params_of c.args.self.now.space) h held in
     let last = last_here g.X.DomIndex c.holds_one.ensures.one (g.D.Disk.image (disk_of c.args.self.now.space)) (params_of c.args.self.now.space) (meta_of c.args.self.now.space) (map_of c.args.self.now.space) (IsInOrder c.args.self.now.space) (c.is_held.ensures.held has.0) h has.1 in
-    let read = c.last-last.ensures in
+    let read = c.last-last.ensures.value in
     let within = c.if-version-last.false in
     let fits : FitsSigned w128 c.in-Ok.value = search rules in
     (omega arith, to_z-of_z w128 c.in-Ok.value fits ∙ c.in-Ok.ensures.answers has.0 h has.1)
@@ -32,7 +32,7 @@ pub returns-in-Err-Disk-clause-answers : goal.returns-in-Err-Disk-clause-answers
 returns-in-Err-Disk-clause-answers g c = λ whole h held.
     let has = trees_of g.D.Disk g.X.DomIndex whole (disk_of c.args.self.now.space) (params_of c.args.self.now.space) h held in
     let last = last_here g.X.DomIndex c.holds_one.ensures.one (g.D.Disk.image (disk_of c.args.self.now.space)) (params_of c.args.self.now.space) (meta_of c.args.self.now.space) (map_of c.args.self.now.space) (IsInOrder c.args.self.now.space) (c.is_held.ensures.held has.0) h has.1 in
-    let read = c.last-last.ensures in
+    let read = c.last-last.ensures.value in
     let within = c.if-version-last.false in
     omega arith
 

@@ -7,5 +7,5 @@ use Rattle.warehouse.proofs.list_house.ListHouse.first_refusal.Goals as goal
 
 pub returns-in-Ok-clause-ok : goal.returns-in-Ok-clause-ok
 returns-in-Ok-clause-ok c =
-    c.in-Ok.ensures.ok refl (history_in c.self.inside) (is_told_of c.self.inside c.self.invariant)
+    c.in-Ok.ensures.ok tt (history_in c.self.inside) (is_told_of c.self.inside c.self.invariant)
     ∙ ap (λ (s : ListState). first_refusal s.params s.history c.args.rows.now) c.self.view_is
