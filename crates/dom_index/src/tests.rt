@@ -24,7 +24,13 @@ fn point_at(x: u16, y: u16, number: u16, weight: u128) -> Point
     }
 }
 
-fn sum_at(stage: &mut MemStage, tree: &Tree, x: u16, y: u16, version: u32) -> Result<u128, PageFault> {
+fn sum_at(
+    stage: &mut MemStage,
+    tree: &Tree,
+    x: u16,
+    y: u16,
+    version: u32,
+) -> Result<u128, PageFault> {
     let keys = [
         u64::from(x) * 4294967296 + 4294967295,
         u64::from(y) * 4294967296 + 4294967295,
@@ -58,7 +64,12 @@ fn weights_cancel(rt: HostRuntime) -> Result<(), Fail> {
     let mut stage = MemStage::new(rt.alloc(), 100);
     let mut tree = Tree::default();
     PointList::add(&mut stage, 2, &mut tree, &point_at(3, 4, 1, 7))?;
-    PointList::add(&mut stage, 2, &mut tree, &point_at(3, 4, 2, 7u128.wrapping_neg()))?;
+    PointList::add(
+        &mut stage,
+        2,
+        &mut tree,
+        &point_at(3, 4, 2, 7u128.wrapping_neg()),
+    )?;
     assert_eq!(rt; sum_at(&mut stage, &tree, 3, 4, 1), Ok(7));
     assert_eq!(rt; sum_at(&mut stage, &tree, 3, 4, 2), Ok(0));
     assert_eq!(rt; sum_at(&mut stage, &tree, 3, 3, 2), Ok(0));
@@ -76,7 +87,10 @@ fn damage_is_named(rt: HostRuntime) -> Result<(), Fail> {
         last: 0,
     };
     let point = point_at(1, 1, 65, 1);
-    assert_eq!(rt; sum_at(&mut stage, &tree, 9, 9, 99), Err(PageFault::Damaged(50)));
+    assert_eq!(rt;
+        sum_at(&mut stage, &tree, 9, 9, 99),
+        Err(PageFault::Damaged(50))
+    );
     assert_eq!(rt;
         PointList::add(&mut stage, 2, &mut tree, &point),
         Err(StageFault::Damaged(50))
