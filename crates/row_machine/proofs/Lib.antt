@@ -11,3 +11,4 @@ pub mod Served
 pub mod Serviced
 pub mod Staged
 pub mod Lasting
+pub mod Acknowledging

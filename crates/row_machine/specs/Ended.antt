@@ -58,6 +58,13 @@ module _ {H D : Type 0} (g : Ghosts H D) where
   EndsWithinAll = (tells tells' still : Bool) (params : Params) (begin : State) (input left : List ℕ) (before : D) (ran : Ran D) (written written' : List ℕ)
       → (e : Ends g true tells tells' still params begin input left before ran written written') → WithinAll params begin input before e.sure ran
 
+  -- The history that is sure has all that those lines have committed whose replies were written whole.
+  abbrev pub HoldsAcknowledged : Type 0
+  HoldsAcknowledged = (whole tells tells' still : Bool) (params : Params) (begin : State) (input left : List ℕ) (before : D) (ran : Ran D) (written written' : List ℕ)
+      → (e : Ends g whole tells tells' still params begin input left before ran written written') → IsTrue tells → IsTrue tells'
+      → (first later : List (List ℕ)) (more : List ℕ) → lines input ≡ first ++ later → written' ≡ written ++ (replies params 1 begin first ++ more)
+      → GoesOnFrom (state_after params 1 begin first).history e.sure
+
 -- Where the device is whole for commits, all lines may be served.
 abbrev pub AllMayBeServed : Type 0
 AllMayBeServed = (params : Params) (ls : List (List ℕ)) → MayServe true params ls

@@ -1,5 +1,5 @@
 //! What follows from how a run ended, and the laws of what is written and kept.
-ghost use Rattle.row_machine.specs.Ended.{AfterGoesOn, AfterJoins, AllMayBeServed, EndsInPart, EndsWithinAll, FineServesAll, FineSettles, InputServesWhole, TextJoins};
+ghost use Rattle.row_machine.specs.Ended.{AfterGoesOn, AfterJoins, AllMayBeServed, EndsInPart, EndsWithinAll, FineServesAll, FineSettles, HoldsAcknowledged, InputServesWhole, TextJoins};
 
 use line_reader::lines_join;
 use warehouse::House;
@@ -10,6 +10,7 @@ pub fn ends_laws<H: House>()
     ensures fine { FineServesAll ⟦<H as House>⟧ }
     ensures input { InputServesWhole ⟦<H as House>⟧ }
     ensures settles { FineSettles ⟦<H as House>⟧ }
+    ensures acknowledged { HoldsAcknowledged ⟦<H as House>⟧ }
     ensures within { EndsWithinAll ⟦<H as House>⟧ }
 {}
 

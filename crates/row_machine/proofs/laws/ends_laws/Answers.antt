@@ -1,3 +1,4 @@
+use Rattle.row_machine.proofs.Acknowledging.{acknowledged}
 use Rattle.row_machine.proofs.Endings.{in_part, fine_serves, input_serves, fine_settles, within_all}
 use Rattle.row_machine.proofs.laws.ends_laws.Goals as goal
 
@@ -15,3 +16,6 @@ returns-clause-settles g c = fine_settles g.H.House
 
 pub returns-clause-within : goal.returns-clause-within
 returns-clause-within g c = within_all g.H.House
+
+pub returns-clause-acknowledged : goal.returns-clause-acknowledged
+returns-clause-acknowledged g c = acknowledged g.H.House
