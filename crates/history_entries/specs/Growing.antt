@@ -1,7 +1,10 @@
 -- The entries of lives when one begins or ends.
-use Rattle.std.specs.Prelude.{◌≡◌, ◌≢◌, ℕ, List, [], ◌∷◌, ◌++◌, IsPermutation}
+use Rattle.std.specs.Prelude.{◌≡◌, ◌≢◌, ℕ, List, [], ◌∷◌, ◌++◌, length, IsPermutation}
+use Rattle.bw_types.specs.History.{History, changes}
+use Rattle.bw_types.specs.Lawful.{IsLawful}
+use Rattle.bw_types.specs.declared.params.Params.{Params}
 use Rattle.bw_types.specs.declared.dated.Dated.{Dated}
-use Rattle.history_entries.specs.Entries.{begun_entry, ended_entry, entries_of}
+use Rattle.history_entries.specs.Entries.{begun_entry, ended_entry, entries_of, history_entries}
 
 -- A life more, not ended yet, is one entry more.
 abbrev pub EntriesGrowByAdd : Type 0
@@ -12,3 +15,7 @@ abbrev pub EntriesGrowByEnd : Type 0
 EntriesGrowByEnd = (before after : List Dated) (d : Dated) (version event : ℕ) → d.withdrawn ≡ 0 → version ≢ 0
     → IsPermutation (entries_of (before ++ record d { withdrawn = version; withdraw_event = event } ∷ after))
     (ended_entry (record d { withdrawn = version; withdraw_event = event }) ∷ entries_of (before ++ d ∷ after))
+
+-- A lawful history has as many entries as adds and withdrawals.
+abbrev pub EntriesAreChanges : Type 0
+EntriesAreChanges = (params : Params) (h : History) → IsLawful params h → length (history_entries h) ≡ length (changes h)

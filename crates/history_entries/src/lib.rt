@@ -10,4 +10,4 @@ mod answers;
 mod growing;
 
 pub use answers::entries_give_answers;
-pub use growing::entries_grow;
+pub use growing::{entries_are_changes, entries_grow};

@@ -5,3 +5,4 @@ pub mod LastLives
 pub mod LivesGrown
 pub mod AnswerBounds
 pub mod Room
+pub mod AloneLaws

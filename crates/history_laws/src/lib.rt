@@ -5,11 +5,13 @@
 //! history tell which objects are live at each version, and which ids are live at its end.
 #![tactic(auto)]
 
+mod alone;
 mod bounds;
 mod growing;
 mod lawful;
 mod living;
 
+pub use alone::lives_are_alone;
 pub use bounds::{answers_are_bounded, lawful_histories_have_room};
 pub use growing::lives_grow_by_changes;
 pub use lawful::{

@@ -1,7 +1,7 @@
 -- A query of the trees that a space has.
 use Rattle.std.proofs.Common.{◌≡◌, ℕ, ◌+◌, ◌≤◌, true, false, Bool, IsTrue, List, length, Result, Ok, Err, IfOk, ℤ, sym, ◌∙◌, ap, subst}
 use Rattle.bw_types.specs.Answers.{answer, answer_of}
-use Rattle.bw_types.specs.History.{History}
+use Rattle.bw_types.specs.History.{History, changes}
 use Rattle.bw_types.specs.declared.params.Params.{Params}
 use Rattle.bw_types.specs.declared.query.Kind.{Kind}
 use Rattle.bw_types.specs.declared.query.Query.{Query}
@@ -47,11 +47,12 @@ module _ {X : Type 0} (g : Ghosts X) (params : Params) (map : PageMap) (roots : 
       exact here.1 ∙ (here.0 ∙ (ap (λ (f : Params → History → ℕ → Query → ℤ). f params h version q) (sym meaning) ∙ ap (λ (k : Kind). answer_of k params h version q) (sym is)))
 
   -- what a query of this kind reads
-  pub reads_at_most : (cost : ℕ → ℕ → ℕ) (h : History) (kind : Kind) (q : Query) (before after : ℕ) → q.kind ≡ kind
+  pub reads_at_most : (cost : ℕ → ℕ → ℕ) (h : History) (kind : Kind) (q : Query) (before after : ℕ) → length (history_entries h) ≡ length (changes h) → q.kind ≡ kind
       → after ≤ before + kind_cost cost forest.params (length (history_entries h)) kind → after ≤ before + query_cost cost params h q
-  reads_at_most cost h kind q before after is most =
-      subst (λ (k : Kind). after ≤ before + kind_cost cost params (length (history_entries h)) k) (sym is)
-      (subst (λ (p : Params). after ≤ before + kind_cost cost p (length (history_entries h)) kind) same most)
+  reads_at_most cost h kind q before after entries is most =
+      subst (λ (k : Kind). after ≤ before + kind_cost cost params (length (changes h)) k) (sym is)
+      (subst (λ (n : ℕ). after ≤ before + kind_cost cost params n kind) entries
+      (subst (λ (p : Params). after ≤ before + kind_cost cost p (length (history_entries h)) kind) same most))
 
 module _ {D X : Type 0} (d : DiskGhosts D) (g : Ghosts X) where
   -- a disk that holds a history, whole or not, holds it as far as queries read

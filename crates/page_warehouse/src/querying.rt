@@ -13,7 +13,7 @@ use crate::Warehouse;
 use bw_types::{Kind, Query};
 use corner_forest::{count, integral, sum};
 use dom_index::DomIndex;
-use history_entries::entries_give_answers;
+use history_entries::{entries_are_changes, entries_give_answers};
 use history_laws::{answers_are_bounded, lawful_histories_have_room};
 use page_disk::Disk;
 use page_ports::{PageFault, Pages};
@@ -37,6 +37,7 @@ impl<D: Disk, X: DomIndex> Warehouse<D, X> {
         // The trees are those of the history, and no answer is too great.
         holds_one();
         entries_give_answers();
+        entries_are_changes();
         answers_are_bounded();
         lawful_histories_have_room();
         self.space.is_held();

@@ -1,6 +1,6 @@
 -- A line whose reply was written whole has its batch in the history that is sure.
-use Rattle.std.proofs.Common.{◌≡◌, ◌⊎◌, ℕ, ◌+◌, Bool, IsTrue, List, [], ◌∷◌, ◌++◌, length, Option, None, Some, inl, inr, refl, sym, ◌∙◌, ap, subst, append_assoc, arith, length-append}
-use Rattle.std.proofs.lemmas.List.{append-nil, append_cancel_left}
+use Rattle.std.proofs.Common.{◌≡◌, ◌⊎◌, ℕ, ◌+◌, Bool, IsTrue, List, [], ◌∷◌, ◌++◌, length, Option, None, Some, inl, inr, refl, sym, ◌∙◌, ap, subst, arith, length-append}
+use Rattle.std.proofs.lemmas.List.{append_cancel_left}
 use Rattle.bw_types.specs.History.{History}
 use Rattle.bw_types.specs.Refusals.{first_refusal}
 use Rattle.bw_types.specs.declared.params.Params.{Params}
@@ -10,12 +10,11 @@ use Rattle.csv_rows.specs.Input.{input}
 use Rattle.csv_rows.specs.Machine.{State, commit_step, line_step, replied, replies, rows_of, state_after, step}
 use Rattle.csv_rows.specs.declared.input.Input.{Input}
 use Rattle.csv_rows.specs.declared.input.Input.TheVariants.{Stage, Commit, Forget, Ask}
-use Rattle.csv_rows.specs.declared.reply.Reply.TheVariants.{Version}
 use Rattle.warehouse.specs.declared.house.House.{Ghosts}
 use Rattle.row_machine.specs.declared.ending.Ran.{Ran}
 use Rattle.row_machine.specs.Housed.{GoesOnFrom}
 use Rattle.row_machine.specs.Serving.{Ends}
-use Rattle.row_machine.proofs.Housing.{after_goes_on, ask_history, goes_on_same, goes_on_twice, stage_history}
+use Rattle.row_machine.proofs.Housing.{after_goes_on, ask_history, goes_on_twice, stage_history}
 use Rattle.row_machine.proofs.Lasting.{which_goes}
 use Rattle.row_machine.proofs.Replies.{replies-append, state_after-append}
 
@@ -90,7 +89,7 @@ module _ {H D : Type 0} (g : Ghosts H D) where
             let same : (state_after params 1 begin first).history ≡ (state_after params 1 begin e.served).history =
             ap (λ (ls : List (List ℕ)). (state_after params 1 begin ls).history) longer.1
             ∙ no_more params begin e.served longer.0 more part.rest
-              (part.part ∙ ap (λ (t : List ℕ). t ++ part.rest) (out ∙ ap (λ (ls : List (List ℕ)). replies params 1 begin ls ++ more) longer.1)) in
+            (part.part ∙ ap (λ (t : List ℕ). t ++ part.rest) (out ∙ ap (λ (ls : List (List ℕ)). replies params 1 begin ls ++ more) longer.1)) in
             subst (λ (h : History). GoesOnFrom h e.sure) (sym same) sure.0
         | inr longer ↦
             goes_on_twice _ _ _ (subst (λ (ls : List (List ℕ)). GoesOnFrom (state_after params 1 begin first).history (state_after params 1 begin ls).history) (sym longer.1) (more_goes_on params begin first longer.0)) sure.0

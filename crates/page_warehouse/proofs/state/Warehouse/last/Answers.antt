@@ -1,4 +1,4 @@
-use Rattle.std.proofs.Common.{◌≡◌, ◌∙◌, ap}
+use Rattle.std.proofs.Common.{◌∙◌, ap}
 use Rattle.page_layout.specs.declared.meta.Meta.{Meta}
 use Rattle.page_space.specs.Shown.{disk_of, map_of, meta_of, params_of, IsInOrder}
 use Rattle.page_warehouse.proofs.Opened.{last_here}

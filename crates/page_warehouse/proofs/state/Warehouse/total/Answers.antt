@@ -25,7 +25,7 @@ returns-in-Sum-clause-sound g c = λ h page told held.
 pub returns-in-Sum-clause-cost : goal.returns-in-Sum-clause-cost
 returns-in-Sum-clause-cost g c = λ h told held.
     let stand = trees_here g.X.DomIndex c.holds_one.ensures.one (g.D.Disk.image (disk_of c.args.self.now.space)) (params_of c.args.self.now.space) (meta_of c.args.self.now.space) (map_of c.args.self.now.space) (IsInOrder c.args.self.now.space) (c.is_held.ensures.held told) h held in
-    reads_at_most g.X.DomIndex (params_of c.args.self.now.space) (map_of c.args.self.now.space) (meta_of c.args.self.now.space).roots.items c.args.self.now.forest c.args.self.now.params c.args.self.now.trees g.X.DomIndex.cost h Sum c.args.query.now _ _ c.in-Sum.is
+    reads_at_most g.X.DomIndex (params_of c.args.self.now.space) (map_of c.args.self.now.space) (meta_of c.args.self.now.space).roots.items c.args.self.now.forest c.args.self.now.params c.args.self.now.trees g.X.DomIndex.cost h Sum c.args.query.now _ _ (c.entries_are_changes.ensures (params_of c.args.self.now.space) h held.lawful) c.in-Sum.is
     (c.sum.ensures.cost told (history_entries h) (forest_here g.X.DomIndex (params_of c.args.self.now.space) (map_of c.args.self.now.space) (meta_of c.args.self.now.space).roots.items c.args.self.now.forest c.args.self.now.params c.args.self.now.trees h stand) (balanced_here g.X.DomIndex (params_of c.args.self.now.space) (map_of c.args.self.now.space) (meta_of c.args.self.now.space).roots.items c.args.self.now.forest c.args.self.now.params c.args.self.now.trees h stand))
 
 pub returns-in-Count-clause-answers : goal.returns-in-Count-clause-answers
@@ -43,7 +43,7 @@ returns-in-Count-clause-sound g c = λ h page told held.
 pub returns-in-Count-clause-cost : goal.returns-in-Count-clause-cost
 returns-in-Count-clause-cost g c = λ h told held.
     let stand = trees_here g.X.DomIndex c.holds_one.ensures.one (g.D.Disk.image (disk_of c.args.self.now.space)) (params_of c.args.self.now.space) (meta_of c.args.self.now.space) (map_of c.args.self.now.space) (IsInOrder c.args.self.now.space) (c.is_held.ensures.held told) h held in
-    reads_at_most g.X.DomIndex (params_of c.args.self.now.space) (map_of c.args.self.now.space) (meta_of c.args.self.now.space).roots.items c.args.self.now.forest c.args.self.now.params c.args.self.now.trees g.X.DomIndex.cost h Count c.args.query.now _ _ c.in-Count.is
+    reads_at_most g.X.DomIndex (params_of c.args.self.now.space) (map_of c.args.self.now.space) (meta_of c.args.self.now.space).roots.items c.args.self.now.forest c.args.self.now.params c.args.self.now.trees g.X.DomIndex.cost h Count c.args.query.now _ _ (c.entries_are_changes.ensures (params_of c.args.self.now.space) h held.lawful) c.in-Count.is
     (c.count.ensures.cost told (history_entries h) (forest_here g.X.DomIndex (params_of c.args.self.now.space) (map_of c.args.self.now.space) (meta_of c.args.self.now.space).roots.items c.args.self.now.forest c.args.self.now.params c.args.self.now.trees h stand) (balanced_here g.X.DomIndex (params_of c.args.self.now.space) (map_of c.args.self.now.space) (meta_of c.args.self.now.space).roots.items c.args.self.now.forest c.args.self.now.params c.args.self.now.trees h stand))
 
 pub returns-in-Integral-clause-answers : goal.returns-in-Integral-clause-answers
@@ -61,5 +61,5 @@ returns-in-Integral-clause-sound g c = λ h page told held.
 pub returns-in-Integral-clause-cost : goal.returns-in-Integral-clause-cost
 returns-in-Integral-clause-cost g c = λ h told held.
     let stand = trees_here g.X.DomIndex c.holds_one.ensures.one (g.D.Disk.image (disk_of c.args.self.now.space)) (params_of c.args.self.now.space) (meta_of c.args.self.now.space) (map_of c.args.self.now.space) (IsInOrder c.args.self.now.space) (c.is_held.ensures.held told) h held in
-    reads_at_most g.X.DomIndex (params_of c.args.self.now.space) (map_of c.args.self.now.space) (meta_of c.args.self.now.space).roots.items c.args.self.now.forest c.args.self.now.params c.args.self.now.trees g.X.DomIndex.cost h Integral c.args.query.now _ _ c.in-Integral.is
+    reads_at_most g.X.DomIndex (params_of c.args.self.now.space) (map_of c.args.self.now.space) (meta_of c.args.self.now.space).roots.items c.args.self.now.forest c.args.self.now.params c.args.self.now.trees g.X.DomIndex.cost h Integral c.args.query.now _ _ (c.entries_are_changes.ensures (params_of c.args.self.now.space) h held.lawful) c.in-Integral.is
     (c.integral.ensures.cost told (history_entries h) (forest_here g.X.DomIndex (params_of c.args.self.now.space) (map_of c.args.self.now.space) (meta_of c.args.self.now.space).roots.items c.args.self.now.forest c.args.self.now.params c.args.self.now.trees h stand) (balanced_here g.X.DomIndex (params_of c.args.self.now.space) (map_of c.args.self.now.space) (meta_of c.args.self.now.space).roots.items c.args.self.now.forest c.args.self.now.params c.args.self.now.trees h stand))
