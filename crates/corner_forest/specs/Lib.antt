@@ -3,6 +3,5 @@ pub mod Trees
 pub mod Stands
 pub mod Corners
 pub mod Enters
-pub mod Histories
 pub mod Laws
 pub mod Answers
