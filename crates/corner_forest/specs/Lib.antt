@@ -1,6 +1,7 @@
 pub mod Entries
 pub mod Trees
 pub mod Stands
+pub mod Damage
 pub mod Corners
 pub mod Enters
 pub mod Laws
