@@ -1,6 +1,7 @@
 -- The points of an entry added to a tree one after another.
-use Rattle.std.proofs.Common.{◌≡◌, ℕ, suc, ◌+◌, ◌-◌, ◌*◌, ◌<◌, ◌≤◌, List, ◌∷◌, ◌++◌, length, sym, ap, ◌∙◌, subst, arith, length-append}
+use Rattle.std.proofs.Common.{◌≡◌, ℕ, suc, ◌+◌, ◌-◌, ◌*◌, ◌<◌, ◌≤◌, inl, inr, List, ◌∷◌, ◌++◌, length, sym, ap, ◌∙◌, subst, arith, length-append}
 use Rattle.std.proofs.Math.Nat.{mul-le-mul_right}
+use Rattle.std.proofs.lemmas.Bool.{cases_lt}
 use Rattle.std.proofs.lemmas.List.{length-map}
 use Rattle.std.proofs.lemmas.List.FromFn.{length-range_with_len}
 use Rattle.std.specs.List.{range_with_len}
@@ -13,7 +14,7 @@ use Rattle.page_ports.specs.Pages.{PageMap}
 use Rattle.page_ports.specs.Frame.{Replaces}
 use Rattle.page_ports.specs.FrameLaws.{Replaces-then, Replaces-same}
 use Rattle.poly_moments.specs.PlaneSums.{Entered}
-use Rattle.dom_index.specs.Points.{IsNewPoint}
+use Rattle.dom_index.specs.Points.{HasRoom, IsNewPoint}
 use Rattle.dom_index.specs.declared.index.DomIndex.{Ghosts}
 use Rattle.corner_forest.specs.Entries.{entry_point, point_count}
 use Rattle.corner_forest.specs.Enters.{AreNewPoints, TreeEnters, points_from}
@@ -58,6 +59,27 @@ module _ {X : Type 0} (g : Ghosts X) where
   growth_within dims levels count i n most size law is lt is_most =
       let grows : added_pages dims count ≤ added_pages dims (size + n) = adding_grows dims count (size + n) (omega (arith, is, lt)) in
       omega (arith, law, grows, is_most)
+
+  -- an addition to a tree of one page at most makes its first page, or none
+  pub first_within : (dims levels count : ℕ) → ((dims count : ℕ) → 2 ≤ dims → dims ≤ g.DIMS → g.growth dims 0 count ≤ 1)
+      → ((dims count : ℕ) → 2 ≤ dims → dims ≤ g.DIMS → count < 64 → g.growth dims 1 count ≡ 0)
+      → 2 ≤ dims → dims ≤ g.DIMS → levels ≤ 1 → count < 64 → levels + g.growth dims levels count ≤ 1
+  first_within dims levels count first room two most le few = elim (cases_lt levels 1) [
+    | inl none ↦
+        let is : levels ≡ 0 = omega (arith, none) in
+        let part : g.growth dims levels count ≤ 1 = subst (λ (l : ℕ). g.growth dims l count ≤ 1) (sym is) (first dims count two most) in
+        omega (arith, is, part)
+    | inr one ↦
+        let is : levels ≡ 1 = omega (arith, one, le) in
+        let part : g.growth dims levels count ≡ 0 = subst (λ (l : ℕ). g.growth dims l count ≡ 0) (sym is) (room dims count two most few) in
+        omega (arith, is, part)
+  ]
+
+pub has_room : (tree : Tree) → tree.levels ≤ 1 → tree.count < 64 → HasRoom tree
+has_room tree le few = elim (cases_lt tree.levels 1) [
+  | inl none ↦ inl (omega (arith, none))
+  | inr one ↦ inr (omega (arith, one, le), few)
+]
 
 pub added_length : (params : Params) (e : Entered) (root from n : ℕ) (points : List Point) → length (points_from params e root from n ++ points) ≡ n + length points
 added_length params e root from n points =

@@ -4,7 +4,6 @@ pub mod Entering
 pub mod Exits
 pub mod Footprints
 pub mod ForestLaws
-pub mod HistoryTotals
 pub mod KeyBounds
 pub mod Lists
 pub mod MetSums

@@ -1,12 +1,14 @@
 -- The trees done and those to come.
-use Rattle.std.proofs.Common.{◌≡◌, ℕ, zero, suc, ◌+◌, ◌*◌, ◌<◌, ◌≤◌, inl, inr, List, [], ◌∷◌, ◌++◌, length, get_or, drop, sym, ap, ◌∙◌, arith, append_assoc, drop-cons}
+use Rattle.std.proofs.Common.{◌≡◌, ℕ, zero, suc, ◌+◌, ◌-◌, ◌*◌, ◌<◌, ◌≤◌, inl, inr, List, [], ◌∷◌, ◌++◌, length, get_or, drop, refl, sym, ap, ◌∙◌, arith, append_assoc, drop-cons}
+use Rattle.std.specs.List.{All}
 use Rattle.std.proofs.lemmas.Bool.{cases_lt}
 use Rattle.std.proofs.lemmas.List.{append-nil, drop_all}
+use Rattle.bw_types.specs.Empty.{empty_tree}
 use Rattle.bw_types.specs.Heights.{added_pages}
 use Rattle.bw_types.specs.declared.params.Params.{Params}
 use Rattle.bw_types.specs.declared.tree.Tree.{Tree}
 use Rattle.poly_moments.specs.PlaneSums.{Entered}
-use Rattle.corner_forest.specs.Enters.{root_growth, sum_below}
+use Rattle.corner_forest.specs.Enters.{first_page, root_growth, sum_below}
 use Rattle.corner_forest.specs.Entries.{point_count, root_points}
 use Rattle.corner_forest.proofs.Adding.{more_pages}
 use Rattle.corner_forest.proofs.Newness.{length_root}
@@ -43,3 +45,25 @@ sum_grows f k (suc m) lt = elim (cases_lt k m) [
   | inl less ↦ let before = sum_grows f k m less in omega (arith, before)
   | inr more ↦ let same : k ≡ m = omega (arith, lt, more) in rw same (omega arith)
 ]
+
+one_at_most : (levels : ℕ) → 1 - levels ≤ 1
+one_at_most levels = omega arith
+
+none_more : (levels : ℕ) → levels ≡ 1 → 1 - levels ≡ 0
+none_more levels is = omega (arith, is)
+
+-- each tree takes one first page at most
+pub few_first_pages : (roots : List Tree) (n : ℕ) → sum_below n (first_page roots) ≤ n
+few_first_pages roots zero = omega arith
+few_first_pages roots (suc n) =
+    let rest = few_first_pages roots n in
+    let here : first_page roots n ≤ 1 = one_at_most (get_or roots n empty_tree).levels in
+    omega (arith, rest, here)
+
+-- trees that have a page take no first one
+pub no_first_pages : (roots : List Tree) (n : ℕ) → n ≤ length roots → All (λ (t : Tree). t.levels ≡ 1) roots → sum_below n (first_page roots) ≡ 0
+no_first_pages roots zero le all = refl
+no_first_pages roots (suc n) le all =
+    let rest = no_first_pages roots n (omega (arith, le)) all in
+    let here : first_page roots n ≡ 0 = none_more (get_or roots n empty_tree).levels (all n empty_tree (omega (arith, le))) in
+    omega (arith, rest, here)

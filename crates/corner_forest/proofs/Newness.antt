@@ -190,11 +190,10 @@ next_is_new params entries e root few fits small next = λ corner lt.
     let own_count : length own ≡ n - 1 - corner = length-map (range_with_len (corner + 1) (n - 1 - corner)) (entry_point params e root) ∙ length-range_with_len (corner + 1) (n - 1 - corner) in
     let others_count = length_root params entries root in
     let whole = length-append own others in
-    let eight = few_corners params.dims few in
-    let all : length entries * n ≤ length entries * 8 = mul-le-mul_left (length entries) (omega (arith, most, eight)) in
+    let all : length entries * n ≤ length entries * corner_count params = mul-le-mul_left (length entries) most in
     let most_entries = next.few in
     record {
       apart = All-append (λ (q : Point). IsTrue (keys_differ params.dims q p)) own others own_apart others_apart;
       last = All-append (λ (q : Point). q.version ≤ p.version) own others own_last others_last;
-      few = omega (arith, own_count, others_count, whole, eight, all, most_entries, small, most, lt);
+      few = omega (arith, own_count, others_count, whole, all, most_entries, most, lt);
     }

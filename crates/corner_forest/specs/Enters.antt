@@ -1,6 +1,7 @@
 -- One entry more in a forest.
-use Rattle.std.specs.Prelude.{ℕ, zero, suc, ◌+◌, ◌-◌, ◌*◌, ◌<◌, Bool, nat_lt, if◌then◌else◌, List, ◌∷◌, ◌++◌, map}
+use Rattle.std.specs.Prelude.{ℕ, zero, suc, ◌+◌, ◌-◌, ◌*◌, ◌<◌, ◌≤◌, Bool, nat_lt, if◌then◌else◌, List, ◌∷◌, ◌++◌, map, get_or}
 use Rattle.std.specs.List.{range_with_len}
+use Rattle.bw_types.specs.Empty.{empty_tree}
 use Rattle.bw_types.specs.Heights.{added_pages}
 use Rattle.bw_types.specs.declared.object.Object.{Object}
 use Rattle.bw_types.specs.declared.params.Params.{Params}
@@ -53,6 +54,22 @@ root_growth params entries root = point_count params root * added_pages params.d
 -- those of all trees together
 abbrev pub entry_growth : Params → ℕ → ℕ
 entry_growth params entries = sum_below (root_count params) (root_growth params entries)
+
+-- The tree has at most one page, on which so many points more have room.
+abbrev pub TakesMore : ℕ → Tree → Type 0
+TakesMore n tree = (tree.levels ≤ 1) × (tree.count + n ≤ 64)
+
+-- Each tree has at most one page, on which the points of one more entry have room.
+abbrev pub EntryHasRoom : Params → List Tree → Type 0
+EntryHasRoom params roots = (root : ℕ) → root < root_count params → TakesMore (point_count params root) (get_or roots root empty_tree)
+
+-- the pages that a tree takes for its first point: one where it has none yet
+abbrev pub first_page : List Tree → ℕ → ℕ
+first_page roots root = 1 - (get_or roots root empty_tree).levels
+
+-- how many trees have no page yet
+abbrev pub first_pages : Params → List Tree → ℕ
+first_pages params roots = sum_below (root_count params) (first_page roots)
 
 -- The forest stood for the entries, and stands for one more.
 pub record ForestEnters {X : Type 0} (g : Ghosts X) (params : Params) (before after : PageMap) (old new : List Tree) (entries : List Entered) (e : Entered) : Type 0 where

@@ -50,9 +50,9 @@ entry_points params root e = map (entry_point params e root) (range_with_len 0 (
 abbrev pub root_points : Params → List Entered → ℕ → List Point
 root_points params entries root = flat_map (entry_points params root) entries
 
--- The entry may follow the others: its event is after all of theirs, of which no two are one, its version is no earlier,
--- and their events keep the rule.
+-- The entry may follow the others: its event is after all of theirs, its version is no earlier, and with it no tree has
+-- more than 2^31 points.
 pub record IsNextEntry (params : Params) (entries : List Entered) (e : Entered) : Type 0 where
   pub after : All (λ f. f.event < e.event) entries
   pub last : All (λ f. f.version ≤ e.version) entries
-  pub few : length entries ≤ e.event
+  pub few : length entries * corner_count params + corner_count params ≤ 2 ^ 31

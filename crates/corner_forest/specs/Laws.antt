@@ -1,5 +1,6 @@
 -- What the crates above know of forests, beside the contracts of the calls.
-use Rattle.std.specs.Prelude.{◌≡◌, ◌≤◌, ◌↔◌, List, [], ◌∷◌, ◌++◌, replicate}
+use Rattle.std.specs.Prelude.{◌≡◌, ◌≤◌, ◌↔◌, List, [], ◌∷◌, ◌++◌, length, replicate}
+use Rattle.std.specs.List.{All}
 use Rattle.bw_types.specs.Empty.{empty_tree}
 use Rattle.bw_types.specs.Fits.{IsInRange}
 use Rattle.bw_types.specs.declared.params.Params.{Params}
@@ -9,6 +10,7 @@ use Rattle.page_ports.specs.Pages.{PageMap}
 use Rattle.poly_moments.specs.PlaneSums.{Entered}
 use Rattle.dom_index.specs.declared.index.DomIndex.{Ghosts}
 use Rattle.corner_forest.specs.Entries.{root_count}
+use Rattle.corner_forest.specs.Enters.{first_pages}
 use Rattle.corner_forest.specs.Stands.{AreBalanced, ForestStands, forest_pages}
 
 -- The empty trees stand for no entries. They have no pages.
@@ -33,3 +35,8 @@ ForestStandsByItsPages g = (pages others : PageMap) (params : Params) (roots : L
 abbrev pub ForestPagesAreThere : {X : Type 0} → Ghosts X → Type 0
 ForestPagesAreThere g = (pages : PageMap) (params : Params) (roots : List Tree) (entries : List Entered)
     → ForestStands g pages params roots entries → AreInMap pages (forest_pages g pages params roots)
+
+-- The trees of a forest take their first pages once: at most as many as there are trees, and none where each has one.
+abbrev pub FirstPagesAreTakenOnce : Type 0
+FirstPagesAreTakenOnce = (params : Params) (roots : List Tree) → (first_pages params roots ≤ root_count params)
+    × (length roots ≡ root_count params → All (λ t. t.levels ≡ 1) roots → first_pages params roots ≡ 0)

@@ -1,8 +1,8 @@
 pub mod Entries
 pub mod Trees
 pub mod Stands
+pub mod Damage
 pub mod Corners
 pub mod Enters
-pub mod Histories
 pub mod Laws
 pub mod Answers

@@ -1,7 +1,6 @@
 -- When a forest stands for what was entered.
-use Rattle.std.specs.Prelude.{◌≡◌, ℕ, ◌<◌, List, length, get_or}
+use Rattle.std.specs.Prelude.{◌≡◌, ℕ, List, length}
 use Rattle.std.specs.List.{All}
-use Rattle.bw_types.specs.Empty.{empty_tree}
 use Rattle.bw_types.specs.declared.params.Params.{Params}
 use Rattle.bw_types.specs.declared.tree.Tree.{Tree}
 use Rattle.page_ports.specs.Pages.{PageMap}
@@ -23,8 +22,3 @@ AreBalanced g pages params roots = All (g.balanced pages params.dims) roots
 -- the pages of all trees together
 abbrev pub forest_pages : {X : Type 0} → Ghosts X → PageMap → Params → List Tree → List ℕ
 forest_pages g pages params roots = trees_pages (g.footprint pages params.dims) roots
-
--- The page is one that a sum in one of the trees may call damaged.
-abbrev pub IsDamagedForSum : {X : Type 0} → Ghosts X → PageMap → Params → List Tree → ℕ → ℕ → Type 0
-IsDamagedForSum g pages params roots version damaged =
-    (root : ℕ) × (keys : List ℕ) × (root < length roots) × g.damaged_for_sum pages params.dims (get_or roots root empty_tree) keys version damaged

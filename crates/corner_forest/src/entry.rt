@@ -7,7 +7,7 @@ ghost use Rattle.page_ports.specs.Calls.{Changes};
 ghost use Rattle.page_layout.specs.Footprint.{NamesNoneTwice};
 ghost use Rattle.page_layout.specs.TreeValue.{IsTreeTyped, tree_fits};
 ghost use Rattle.poly_moments.specs.PlaneSums.{Entered};
-ghost use Rattle.corner_forest.specs.Enters.{AreNewPoints, ForestEnters, TreeEnters, entered, entry_of, entry_growth};
+ghost use Rattle.corner_forest.specs.Enters.{AreNewPoints, EntryHasRoom, ForestEnters, TakesMore, TreeEnters, entered, entry_of, entry_growth, first_pages};
 ghost use Rattle.bw_types.specs.Heights.{added_pages};
 ghost use Rattle.corner_forest.specs.Entries.{IsNextEntry, entry_points, point_count as count_of_points, root_count, corner_count};
 ghost use Rattle.corner_forest.specs.Stands.{AreBalanced, ForestStands, forest_pages};
@@ -67,6 +67,21 @@ pub fn enter<X: DomIndex, S: Stage>(
         → IsNextEntry forest.old.params entries (entry_of object.now minus event version)
         → AreBalanced X.DomIndex (S.map stage.old) forest.old.params forest.old.roots.items
         → Changes S.Pages (entry_growth forest.old.params (length entries)) stage.old stage.new result }
+    // In two and three dimensions trees of one page at most take a page each at their first point, and then none as
+    // long as there is room on it.
+    ensures small_growth { IsTrue (S.tells stage.old) → (entries : List Entered)
+        → ForestStands X.DomIndex (S.map stage.old) forest.old.params forest.old.roots.items entries
+        → NamesNoneTwice (forest_pages X.DomIndex (S.map stage.old) forest.old.params forest.old.roots.items)
+        → IsNextEntry forest.old.params entries (entry_of object.now minus event version)
+        → AreBalanced X.DomIndex (S.map stage.old) forest.old.params forest.old.roots.items
+        → 2 ≤ forest.old.params.dims → EntryHasRoom forest.old.params forest.old.roots.items
+        → Changes S.Pages (first_pages forest.old.params forest.old.roots.items) stage.old stage.new result }
+    ensures one_page { OnOk result (IsTrue (S.tells stage.old) → (entries : List Entered)
+        → ForestStands X.DomIndex (S.map stage.old) forest.old.params forest.old.roots.items entries
+        → NamesNoneTwice (forest_pages X.DomIndex (S.map stage.old) forest.old.params forest.old.roots.items)
+        → IsNextEntry forest.old.params entries (entry_of object.now minus event version)
+        → 2 ≤ forest.old.params.dims → EntryHasRoom forest.old.params forest.old.roots.items
+        → All (λ t. t.levels ≡ 1) forest.new.roots.items) }
 {
     let stamp = Stamp {
         event,
@@ -118,6 +133,18 @@ fn enter_all<X: DomIndex, S: Stage>(
         → IsNextEntry params.now entries (entered object.now stamp)
         → AreBalanced X.DomIndex (S.map stage.old) params.now old.now
         → Changes S.Pages (entry_growth params.now (length entries)) stage.old stage.new result }
+    ensures small_growth { IsTrue (S.tells stage.old) → (entries : List Entered)
+        → ForestStands X.DomIndex (S.map stage.old) params.now old.now entries
+        → NamesNoneTwice (forest_pages X.DomIndex (S.map stage.old) params.now old.now)
+        → IsNextEntry params.now entries (entered object.now stamp)
+        → AreBalanced X.DomIndex (S.map stage.old) params.now old.now
+        → 2 ≤ params.now.dims → EntryHasRoom params.now old.now
+        → Changes S.Pages (first_pages params.now old.now) stage.old stage.new result }
+    ensures one_page { IfOk result (λ roots. IsTrue (S.tells stage.old) → (entries : List Entered)
+        → ForestStands X.DomIndex (S.map stage.old) params.now old.now entries
+        → NamesNoneTwice (forest_pages X.DomIndex (S.map stage.old) params.now old.now)
+        → IsNextEntry params.now entries (entered object.now stamp)
+        → 2 ≤ params.now.dims → EntryHasRoom params.now old.now → All (λ t. t.levels ≡ 1) roots.items) }
 {
     X::index_laws();
     let count = root_count(params);
@@ -158,6 +185,14 @@ fn enter_root<X: DomIndex, S: Stage>(
         → X.stands (S.map stage.old) params.now.dims root.old points → AreNewPoints params.now (entered object.now stamp) place points
         → X.balanced (S.map stage.old) params.now.dims root.old
         → Changes S.Pages (count_of_points params.now place * added_pages params.now.dims (length points + count_of_points params.now place)) stage.old stage.new result }
+    ensures small_growth { IsTrue (S.tells stage.old) → (points : List Point)
+        → X.stands (S.map stage.old) params.now.dims root.old points → AreNewPoints params.now (entered object.now stamp) place points
+        → X.balanced (S.map stage.old) params.now.dims root.old
+        → 2 ≤ params.now.dims → TakesMore (count_of_points params.now place) root.old
+        → Changes S.Pages (1 - root.old.levels) stage.old stage.new result }
+    ensures one_page { OnOk result (IsTrue (S.tells stage.old) → (points : List Point)
+        → X.stands (S.map stage.old) params.now.dims root.old points → AreNewPoints params.now (entered object.now stamp) place points
+        → 2 ≤ params.now.dims → TakesMore (count_of_points params.now place) root.old → root.new.levels ≡ 1) }
 {
     X::index_laws();
     let count = point_count(params, place);

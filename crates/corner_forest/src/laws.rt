@@ -1,6 +1,5 @@
 //! The laws of forests: a function here does nothing, and its contract is the law.
-ghost use Rattle.corner_forest.specs.Laws.{EmptyForestStands, EntryStandsAnywhere, ForestPagesAreThere, ForestStandsByItsPages};
-ghost use Rattle.corner_forest.specs.Histories.{SumsOfHistory, CountsOfHistory, IntegralsOfHistory};
+ghost use Rattle.corner_forest.specs.Laws.{EmptyForestStands, EntryStandsAnywhere, FirstPagesAreTakenOnce, ForestPagesAreThere, ForestStandsByItsPages};
 
 use dom_index::DomIndex;
 
@@ -10,13 +9,7 @@ pub fn forest_laws<X: DomIndex>()
     ensures anywhere { EntryStandsAnywhere X.DomIndex }
     ensures by_its_pages { ForestStandsByItsPages X.DomIndex }
     ensures in_map { ForestPagesAreThere X.DomIndex }
+    ensures first_pages { FirstPagesAreTakenOnce }
 {
     X::index_laws();
 }
-
-/// What a forest answers that stands for the entries of a history, is what the history answers, at each version.
-pub fn entries_tell_history()
-    ensures sum { SumsOfHistory }
-    ensures count { CountsOfHistory }
-    ensures integral { IntegralsOfHistory }
-{}

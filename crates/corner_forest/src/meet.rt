@@ -1,17 +1,19 @@
 //! Sums and counts of the objects that meet a query.
-ghost use Rattle.std.specs.Prelude.{◌≡◌, ◌≢◌, ◌+◌, ◌*◌, ◌^◌, ◌<◌, ◌≤◌, ◌≤ℤ◌, ◌<ℤ◌, ℕ, true, List, length, pos, neg_ℤ, Err, IsTrue, IfOk};
+ghost use Rattle.std.specs.Prelude.{◌≡◌, ◌≢◌, ◌+◌, ◌*◌, ◌^◌, ◌<◌, ◌≤◌, ◌≤ℤ◌, ◌<ℤ◌, ℕ, true, List, length, pos, neg_ℤ, Some, Err, IsTrue, IfOk};
 ghost use Rattle.std.specs.List.{All};
 ghost use Rattle.bw_types.specs.Fits.{IsInRange, ends_fit};
 ghost use Rattle.bw_types.specs.Residues.{residue, signed_of};
 ghost use Rattle.bw_types.specs.declared.point.Point.{Point};
 ghost use Rattle.page_ports.specs.Calls.{OnlyReads};
+ghost use Rattle.box_corners.specs.Corners.{meet_corner as corner_to_meet};
 ghost use Rattle.box_corners.specs.Subsets.{residue_signed_by};
 ghost use Rattle.box_corners.specs.Sums.{residue_sum_below};
 ghost use Rattle.poly_moments.specs.PlaneSums.{Entered};
 ghost use Rattle.corner_forest.specs.Answers.{count_of, sum_of};
 ghost use Rattle.corner_forest.specs.Corners.{value_at};
+ghost use Rattle.corner_forest.specs.Damage.{IsDamagedAtCorners};
 ghost use Rattle.corner_forest.specs.Entries.{corner_count, root_count};
-ghost use Rattle.corner_forest.specs.Stands.{AreBalanced, ForestStands, IsDamagedForSum};
+ghost use Rattle.corner_forest.specs.Stands.{AreBalanced, ForestStands};
 ghost use Rattle.corner_forest.specs.Trees.{EachStands};
 
 use crate::forest::{Forest, corner_count};
@@ -46,7 +48,7 @@ pub fn sum<X: DomIndex, P: Pages>(
         → sum_of forest.now.params entries version query.now <ℤ pos (2 ^ 127)
         → value ≡ sum_of forest.now.params entries version query.now) }
     ensures damaged { (page : ℕ) → result ≡ Err (PageFault.Damaged page) → IsTrue (P.tells pages.old)
-        → IsDamagedForSum X.DomIndex (P.map pages.old) forest.now.params forest.now.roots.items version page }
+        → IsDamagedAtCorners X.DomIndex (P.map pages.old) forest.now.params forest.now.roots.items 0 query.now version page }
     ensures sound { (entries : List Entered) (page : ℕ) → IsTrue (P.tells pages.old)
         → ForestStands X.DomIndex (P.map pages.old) forest.now.params forest.now.roots.items entries → result ≢ Err (PageFault.Damaged page) }
     ensures reads { OnlyReads P.Pages (P.gets pages.new) pages.old pages.new result }
@@ -83,7 +85,7 @@ pub fn count<X: DomIndex, P: Pages>(
         → count_of forest.now.params entries version query.now <ℤ pos (2 ^ 127)
         → value ≡ count_of forest.now.params entries version query.now) }
     ensures damaged { (page : ℕ) → result ≡ Err (PageFault.Damaged page) → IsTrue (P.tells pages.old)
-        → IsDamagedForSum X.DomIndex (P.map pages.old) forest.now.params forest.now.roots.items version page }
+        → IsDamagedAtCorners X.DomIndex (P.map pages.old) forest.now.params forest.now.roots.items (corner_count forest.now.params) query.now version page }
     ensures sound { (entries : List Entered) (page : ℕ) → IsTrue (P.tells pages.old)
         → ForestStands X.DomIndex (P.map pages.old) forest.now.params forest.now.roots.items entries → result ≢ Err (PageFault.Damaged page) }
     ensures reads { OnlyReads P.Pages (P.gets pages.new) pages.old pages.new result }
@@ -116,7 +118,7 @@ fn signed_sum<X: DomIndex, P: Pages>(
         → total ≡ residue_sum_below (corner_count forest.now.params) (λ subset. residue_signed_by subset
         (value_at forest.now.params.dims query.now version (points (first + subset)) subset))) }
     ensures damaged { (page : ℕ) → result ≡ Err (PageFault.Damaged page) → IsTrue (P.tells pages.old)
-        → IsDamagedForSum X.DomIndex (P.map pages.old) forest.now.params forest.now.roots.items version page }
+        → IsDamagedAtCorners X.DomIndex (P.map pages.old) forest.now.params forest.now.roots.items first query.now version page }
     ensures sound { (points : ℕ → List Point) (page : ℕ) → IsTrue (P.tells pages.old)
         → EachStands (X.stands (P.map pages.old) forest.now.params.dims) points 0 forest.now.roots.items → result ≢ Err (PageFault.Damaged page) }
     ensures reads { OnlyReads P.Pages (P.gets pages.new) pages.old pages.new result }
@@ -154,7 +156,8 @@ fn value_at<X: DomIndex, P: Pages>(
     ensures value { IfOk result (λ value. IsTrue (P.tells pages.old) → (points : List Point)
         → X.stands (P.map pages.old) params.now.dims root.now points → value ≡ value_at params.now.dims query.now version points subset) }
     ensures damaged { (page : ℕ) → result ≡ Err (PageFault.Damaged page) → IsTrue (P.tells pages.old)
-        → (keys : List ℕ) × X.damaged_for_sum (P.map pages.old) params.now.dims root.now keys version page }
+        → (keys : List ℕ) × (Some keys ≡ corner_to_meet params.now.dims query.now subset)
+        × X.damaged_for_sum (P.map pages.old) params.now.dims root.now keys version page }
     ensures sound { (points : List Point) (page : ℕ) → IsTrue (P.tells pages.old)
         → X.stands (P.map pages.old) params.now.dims root.now points → result ≢ Err (PageFault.Damaged page) }
     ensures reads { OnlyReads P.Pages (P.gets pages.new) pages.old pages.new result }

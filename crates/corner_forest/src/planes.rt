@@ -12,8 +12,9 @@ ghost use Rattle.poly_moments.specs.Planes.{plane_count, planes_value};
 ghost use Rattle.poly_moments.specs.PlaneSums.{Entered, integral_at};
 ghost use Rattle.dom_index.specs.Points.{AreKeysBelow};
 ghost use Rattle.corner_forest.specs.Corners.{planes_at};
+ghost use Rattle.corner_forest.specs.Damage.{IsDamagedForIntegral, IsDamagedInPlanes};
 ghost use Rattle.corner_forest.specs.Entries.{corner_count as count_of_corners, root_count};
-ghost use Rattle.corner_forest.specs.Stands.{AreBalanced, ForestStands, IsDamagedForSum};
+ghost use Rattle.corner_forest.specs.Stands.{AreBalanced, ForestStands};
 ghost use Rattle.corner_forest.specs.Trees.{EachStands};
 
 use crate::forest::{Forest, corner_count};
@@ -50,7 +51,7 @@ pub fn integral<X: DomIndex, P: Pages>(
         → integral_at forest.now.params query.now version entries <ℤ pos (2 ^ 127)
         → value ≡ integral_at forest.now.params query.now version entries) }
     ensures damaged { (page : ℕ) → result ≡ Err (PageFault.Damaged page) → IsTrue (P.tells pages.old)
-        → IsDamagedForSum X.DomIndex (P.map pages.old) forest.now.params forest.now.roots.items version page }
+        → IsDamagedForIntegral X.DomIndex (P.map pages.old) forest.now.params forest.now.roots.items query.now version page }
     ensures sound { (entries : List Entered) (page : ℕ) → IsTrue (P.tells pages.old)
         → ForestStands X.DomIndex (P.map pages.old) forest.now.params forest.now.roots.items entries → result ≢ Err (PageFault.Damaged page) }
     ensures reads { OnlyReads P.Pages (P.gets pages.new) pages.old pages.new result }
@@ -89,7 +90,7 @@ fn value_at<X: DomIndex, P: Pages>(
         → value ≡ residue (planes_value forest.now.params
         (planes_at forest.now.params points (corner_of_integral forest.now.params.dims query.now subset) version) (corner_of_query query.now subset))) }
     ensures damaged { (page : ℕ) → result ≡ Err (PageFault.Damaged page) → IsTrue (P.tells pages.old)
-        → IsDamagedForSum X.DomIndex (P.map pages.old) forest.now.params forest.now.roots.items version page }
+        → IsDamagedInPlanes X.DomIndex (P.map pages.old) forest.now.params forest.now.roots.items (corner_of_integral forest.now.params.dims query.now subset) version page }
     ensures sound { (points : ℕ → List Point) (page : ℕ) → IsTrue (P.tells pages.old)
         → EachStands (X.stands (P.map pages.old) forest.now.params.dims) points 0 forest.now.roots.items → result ≢ Err (PageFault.Damaged page) }
     ensures reads { OnlyReads P.Pages (P.gets pages.new) pages.old pages.new result }
@@ -121,7 +122,7 @@ fn plane_sums<X: DomIndex, P: Pages>(
         → sums.items ≡ planes_at forest.now.params points keys.now version) }
     ensures count { IfOk result (λ sums. length sums.items ≡ plane_count forest.now.params) }
     ensures damaged { (page : ℕ) → result ≡ Err (PageFault.Damaged page) → IsTrue (P.tells pages.old)
-        → IsDamagedForSum X.DomIndex (P.map pages.old) forest.now.params forest.now.roots.items version page }
+        → IsDamagedInPlanes X.DomIndex (P.map pages.old) forest.now.params forest.now.roots.items keys.now version page }
     ensures sound { (points : ℕ → List Point) (page : ℕ) → IsTrue (P.tells pages.old)
         → EachStands (X.stands (P.map pages.old) forest.now.params.dims) points 0 forest.now.roots.items → result ≢ Err (PageFault.Damaged page) }
     ensures reads { OnlyReads P.Pages (P.gets pages.new) pages.old pages.new result }

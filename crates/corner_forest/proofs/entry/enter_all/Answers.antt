@@ -1,4 +1,4 @@
-use Rattle.std.proofs.Common.{◌≡◌, ◌+◌, ◌*◌, ◌<◌, ◌≤◌, Err, IsTrue, List, length, get_or, drop, rules, ap, sym, subst, arith}
+use Rattle.std.proofs.Common.{◌≡◌, ◌+◌, ◌-◌, ◌*◌, ◌<◌, ◌≤◌, Err, IsTrue, List, length, get_or, drop, rules, refl, ap, sym, subst, arith}
 use Rattle.std.specs.List.{All}
 use Rattle.std.proofs.lemmas.Result.{err_from_is_err_and}
 use Rattle.std.proofs.lemmas.List.Elements.{All-push}
@@ -7,7 +7,7 @@ use Rattle.bw_types.specs.Heights.{added_pages}
 use Rattle.bw_types.specs.declared.tree.Tree.{Tree}
 use Rattle.page_ports.specs.declared.page.StageFault.TheVariants.{Damaged}
 use Rattle.page_layout.specs.TreeValue.{tree_fits}
-use Rattle.corner_forest.specs.Enters.{IsEntering, entered, root_growth, sum_below}
+use Rattle.corner_forest.specs.Enters.{IsEntering, entered, first_page, root_growth, sum_below}
 use Rattle.corner_forest.specs.Entries.{point_count, root_count, root_points}
 use Rattle.corner_forest.proofs.Entering.{begins, ends, goes_on, next_tree}
 use Rattle.corner_forest.proofs.Exits.{exit_error}
@@ -26,6 +26,8 @@ loop-place-init g c = record {
       (begins g.X.DomIndex c.index_laws.ensures.by_its_pages c.index_laws.ensures.balance c.index_laws.ensures.in_map c.index_laws.ensures.once c.args.params.now (g.S.Pages.map c.args.stage.now) c.args.old.now entries (entered c.args.object.now c.args.stamp) stands once);
   rules = search rules;
   growth = search rules;
+  small_growth = search rules;
+  one_page = search rules;
 }
 
 pub returns-in_err-enter_root-clause-sound : goal.returns-in_err-enter_root-clause-sound
@@ -72,6 +74,31 @@ returns-in_err-enter_root-clause-growth g c = λ tells entries stands once next 
     (changes_then g.S.Pages (sum_below k f) part (sum_below (root_count params) f) c.args.stage.now c.loop-place.stage c.enter_root.new.stage (Err c.in_err-enter_root.field-0.0) so_far adds
     (omega (arith, most, is_part)))
 
+pub returns-in_err-enter_root-clause-small_growth : goal.returns-in_err-enter_root-clause-small_growth
+returns-in_err-enter_root-clause-small_growth g c = λ tells entries stands once next low two room.
+    let p = err_from_is_err_and c.from_residual.result c.from_residual.ensures.1 in
+    let params = c.args.params.now in
+    let e = entered c.args.object.now c.args.stamp in
+    let old = c.args.old.now in
+    let k = c.loop-place.place in
+    let items = c.loop-place.roots.items in
+    let before = g.S.Pages.map c.args.stage.now in
+    let mid = g.S.Pages.map c.loop-place.stage in
+    let lt : k < length old = omega (arith, c.loop-place-test.true, c.root_count-count.ensures.count, c.requires.roots) in
+    let inside : k < root_count params = omega (arith, lt, c.requires.roots) in
+    let now = subst (λ (l : List Tree). IsEntering g.X.DomIndex params before mid old l entries e k) (list_next items old k empty_tree lt) (c.loop-place.invariant.enters tells entries stands once next) in
+    let tree = next_tree g.X.DomIndex c.index_laws.ensures.by_its_pages c.index_laws.ensures.balance c.index_laws.ensures.in_map c.index_laws.ensures.once params before mid old items (get_or old k empty_tree) (drop (k + 1) old) entries e k c.loop-place.invariant.len now in
+    let new = next_is_new params entries e k c.requires.in_range.dims stands.fits c.requires.event next in
+    let adds = c.in_err-enter_root.ensures.small_growth (search rules) (root_points params entries k) tree.0 new (tree.1 low) two (room k inside) in
+    let so_far = c.loop-place.invariant.small_growth tells entries stands once next low two room in
+    let f = first_page old in
+    let part = 1 - (get_or old k empty_tree).levels in
+    let is_part : part ≡ f k = refl in
+    let most = sum_grows f k (root_count params) inside in
+    refused g.S.Pages (sum_below (root_count params) f) c.args.stage.now c.enter_root.new.stage c.from_residual.result c.in_err-enter_root.field-0.0 p
+    (changes_then g.S.Pages (sum_below k f) part (sum_below (root_count params) f) c.args.stage.now c.loop-place.stage c.enter_root.new.stage (Err c.in_err-enter_root.field-0.0) so_far adds
+    (omega (arith, most, is_part)))
+
 pub loop-place-preserved : goal.loop-place-preserved
 loop-place-preserved g c =
     let params = c.args.params.now in
@@ -109,6 +136,28 @@ loop-place-preserved g c =
           let second = adds.went_on.at_most in
           let whole = sum_next f k in
           went_then g.S.Pages (sum_below k f) part (sum_below (k + 1) f) c.args.stage.now c.loop-place.stage c.enter_root.new.stage so_far adds.went_on (omega (arith, first, second, whole, is_part));
+      small_growth = λ tells entries stands once next low two room.
+          let now = subst (λ (l : List Tree). IsEntering g.X.DomIndex params before mid old l entries e k) (list_next items old k empty_tree lt) (c.loop-place.invariant.enters tells entries stands once next) in
+          let tree = next_tree g.X.DomIndex c.index_laws.ensures.by_its_pages c.index_laws.ensures.balance c.index_laws.ensures.in_map c.index_laws.ensures.once params before mid old items (get_or old k empty_tree) (drop (k + 1) old) entries e k c.loop-place.invariant.len now in
+          let new = next_is_new params entries e k c.requires.in_range.dims stands.fits c.requires.event next in
+          let inside : k < root_count params = omega (arith, lt, c.requires.roots) in
+          let adds = c.in_ok-enter_root.ensures.small_growth (search rules) (root_points params entries k) tree.0 new (tree.1 low) two (room k inside) in
+          let so_far = c.loop-place.invariant.small_growth tells entries stands once next low two room in
+          let f = first_page old in
+          let part = 1 - (get_or old k empty_tree).levels in
+          let is_part : part ≡ f k = refl in
+          let first = so_far.at_most in
+          let second = adds.went_on.at_most in
+          let whole = sum_next f k in
+          went_then g.S.Pages (sum_below k f) part (sum_below (k + 1) f) c.args.stage.now c.loop-place.stage c.enter_root.new.stage so_far adds.went_on (omega (arith, first, second, whole, is_part));
+      one_page = λ tells entries stands once next two room.
+          let now = subst (λ (l : List Tree). IsEntering g.X.DomIndex params before mid old l entries e k) (list_next items old k empty_tree lt) (c.loop-place.invariant.enters tells entries stands once next) in
+          let tree = next_tree g.X.DomIndex c.index_laws.ensures.by_its_pages c.index_laws.ensures.balance c.index_laws.ensures.in_map c.index_laws.ensures.once params before mid old items (get_or old k empty_tree) (drop (k + 1) old) entries e k c.loop-place.invariant.len now in
+          let new = next_is_new params entries e k c.requires.in_range.dims stands.fits c.requires.event next in
+          let inside : k < root_count params = omega (arith, lt, c.requires.roots) in
+          let one = c.in_ok-enter_root.ensures.one_page (search rules) (root_points params entries k) tree.0 new two (room k inside) in
+          subst (λ (l : List Tree). All (λ (t : Tree). t.levels ≡ 1) l) (sym c.push.ensures.items)
+          (All-push (λ (t : Tree). t.levels ≡ 1) items c.enter_root.new.root (c.loop-place.invariant.one_page tells entries stands once next two room) one);
     }
 
 pub returns-clause-enters : goal.returns-clause-enters

@@ -1,10 +1,10 @@
-use Rattle.std.proofs.Common.{◌≡◌, ◌+◌, IsTrue, List, ◌++◌, drop, length}
+use Rattle.std.proofs.Common.{◌≡◌, ◌+◌, ◌≤◌, IsTrue, List, ◌++◌, drop, length}
 use Rattle.std.specs.List.{All}
 use Rattle.page_ports.specs.Calls.{WentOn}
 use Rattle.page_layout.specs.Footprint.{NamesNoneTwice}
 use Rattle.page_layout.specs.TreeValue.{tree_fits}
 use Rattle.poly_moments.specs.PlaneSums.{Entered}
-use Rattle.corner_forest.specs.Enters.{IsEntering, entered, root_growth, sum_below}
+use Rattle.corner_forest.specs.Enters.{EntryHasRoom, IsEntering, entered, first_page, root_growth, sum_below}
 use Rattle.corner_forest.specs.Entries.{IsNextEntry}
 use Rattle.corner_forest.specs.Stands.{AreBalanced, ForestStands, forest_pages}
 use Rattle.corner_forest.proofs.entry.enter_all.Given as goal
@@ -25,4 +25,9 @@ invariant-loop-place g l =
       growth : IsTrue (pages.tells l.fn.stage) → (entries : List Entered) → ForestStands index before params l.fn.old entries → NamesNoneTwice (forest_pages index before params l.fn.old)
           → IsNextEntry params entries e → AreBalanced index before params l.fn.old
           → WentOn pages (sum_below l.place (root_growth params (length entries))) l.fn.stage l.stage;
+      small_growth : IsTrue (pages.tells l.fn.stage) → (entries : List Entered) → ForestStands index before params l.fn.old entries → NamesNoneTwice (forest_pages index before params l.fn.old)
+          → IsNextEntry params entries e → AreBalanced index before params l.fn.old → 2 ≤ params.dims → EntryHasRoom params l.fn.old
+          → WentOn pages (sum_below l.place (first_page l.fn.old)) l.fn.stage l.stage;
+      one_page : IsTrue (pages.tells l.fn.stage) → (entries : List Entered) → ForestStands index before params l.fn.old entries → NamesNoneTwice (forest_pages index before params l.fn.old)
+          → IsNextEntry params entries e → 2 ≤ params.dims → EntryHasRoom params l.fn.old → All (λ t. t.levels ≡ 1) l.roots.items;
     }

@@ -1,14 +1,14 @@
-use Rattle.std.proofs.Common.{◌≡◌, ℕ, ◌+◌, ◌-◌, ◌*◌, ◌<◌, Err, ◌∷◌, ◌++◌, length, rules, refl, ap, sym, ◌∙◌, subst, arith}
+use Rattle.std.proofs.Common.{◌≡◌, ℕ, ◌+◌, ◌-◌, ◌*◌, ◌<◌, ◌≤◌, Err, ◌∷◌, ◌++◌, length, rules, refl, ap, sym, ◌∙◌, subst, arith}
 use Rattle.std.proofs.lemmas.Result.{err_from_is_err_and}
 use Rattle.bw_types.specs.Heights.{added_pages}
 use Rattle.bw_types.specs.declared.point.Point.{Point}
-use Rattle.page_ports.specs.Calls.{Changes}
+use Rattle.page_ports.specs.Calls.{Changes, WentOn}
 use Rattle.page_ports.specs.declared.page.StageFault.TheVariants.{Damaged}
 use Rattle.dom_index.specs.Points.{IsNewPoint}
-use Rattle.corner_forest.specs.Enters.{TreeEnters, entered, points_from}
-use Rattle.corner_forest.proofs.Adding.{added_length, growth_within, more_pages, most_pages, new_next, next_points, one_added}
+use Rattle.corner_forest.specs.Enters.{TakesMore, TreeEnters, entered, points_from}
+use Rattle.corner_forest.proofs.Adding.{added_length, first_within, growth_within, has_room, more_pages, most_pages, new_next, next_points, one_added}
 use Rattle.corner_forest.proofs.Exits.{exit_error}
-use Rattle.corner_forest.proofs.Stages.{changes_then, refused, went_then}
+use Rattle.corner_forest.proofs.Stages.{changes_end, changes_then, refused, went_then}
 use Rattle.corner_forest.proofs.entry.enter_root.Goals as goal
 
 pub returns-in_err-add-clause-sound : goal.returns-in_err-add-clause-sound
@@ -57,6 +57,38 @@ returns-in_err-add-clause-growth g c = λ tells points stands new low.
     (changes_then g.S.Pages (i * most) (g.X.DomIndex.growth dims c.loop-i.root.levels c.loop-i.root.count) (n * most) c.args.stage.now c.loop-i.stage c.add.new.stage (Err c.in_err-add.field-0.0)
     so_far adds (most_pages i n most (g.X.DomIndex.growth dims c.loop-i.root.levels c.loop-i.root.count) lt within)))
 
+pub returns-in_err-add-clause-small_growth : goal.returns-in_err-add-clause-small_growth
+returns-in_err-add-clause-small_growth g c = λ tells points stands new low two takes.
+    let p = err_from_is_err_and c.from_residual.result c.from_residual.ensures.1 in
+    let params = c.args.params.now in
+    let dims = params.dims in
+    let e = entered c.args.object.now c.args.stamp in
+    let n = c.point_count-count.result in
+    let i = c.loop-i.i in
+    let before = g.S.Pages.map c.args.stage.now in
+    let mid = g.S.Pages.map c.loop-i.stage in
+    let added = points_from params e c.args.place (n - i) i in
+    let lt : i < n = c.loop-i-test.true in
+    let more : TakesMore n c.args.root.now = subst (λ (m : ℕ). TakesMore m c.args.root.now) (sym c.point_count-count.ensures.count) takes in
+    let entered_so_far = c.loop-i.invariant.enters tells points stands new in
+    let is_new = subst (λ (q : Point). IsNewPoint dims (added ++ points) q) (sym c.entry_point-point.ensures.point)
+    (new_next params e c.args.place n i (n - 1 - i) points c.point_count-count.ensures.count lt refl new) in
+    let here = c.loop-i.invariant.one_page tells points stands new two more in
+    let counted = c.index_laws.ensures.counted mid dims c.loop-i.root (added ++ points) entered_so_far.stands in
+    let counted_before = c.index_laws.ensures.counted before dims c.args.root.now points stands in
+    let count : c.loop-i.root.count ≡ i + length points = counted.0 ∙ added_length params e c.args.place (n - i) i points in
+    let count_before = counted_before.0 in
+    let fits = more.1 in
+    let few : c.loop-i.root.count < 64 = omega (arith, count, count_before, fits, lt) in
+    let part = g.X.DomIndex.growth dims c.loop-i.root.levels c.loop-i.root.count in
+    let within = first_within g.X.DomIndex dims c.loop-i.root.levels c.loop-i.root.count c.index_laws.ensures.first c.index_laws.ensures.room two c.requires.dims here.0 few in
+    let grown = here.1 in
+    let adds = c.in_err-add.ensures.growth (search rules) (added ++ points) entered_so_far.stands is_new (entered_so_far.balanced low) in
+    let so_far = c.loop-i.invariant.small_growth tells points stands new low two more in
+    refused g.S.Pages (1 - c.args.root.now.levels) c.args.stage.now c.add.new.stage c.from_residual.result c.in_err-add.field-0.0 p
+    (changes_then g.S.Pages (c.loop-i.root.levels - c.args.root.now.levels) part (1 - c.args.root.now.levels) c.args.stage.now c.loop-i.stage c.add.new.stage (Err c.in_err-add.field-0.0)
+    so_far adds (omega (arith, within, grown)))
+
 pub loop-i-preserved : goal.loop-i-preserved
 loop-i-preserved g c =
     let params = c.args.params.now in
@@ -97,6 +129,41 @@ loop-i-preserved g c =
           let whole = more_pages i most in
           went_then g.S.Pages (i * most) (g.X.DomIndex.growth dims c.loop-i.root.levels c.loop-i.root.count) ((i + 1) * most) c.args.stage.now c.loop-i.stage c.add.new.stage so_far adds.went_on
           (omega (arith, first, second, within, whole));
+      one_page = λ tells points stands new two more.
+          let entered_so_far = c.loop-i.invariant.enters tells points stands new in
+          let is_new = subst (λ (q : Point). IsNewPoint dims (added ++ points) q) (sym c.entry_point-point.ensures.point)
+          (new_next params e c.args.place n i (n - 1 - i) points c.point_count-count.ensures.count lt refl new) in
+          let here = c.loop-i.invariant.one_page tells points stands new two more in
+          let counted = c.index_laws.ensures.counted mid dims c.loop-i.root (added ++ points) entered_so_far.stands in
+          let counted_before = c.index_laws.ensures.counted before dims c.args.root.now points stands in
+          let count : c.loop-i.root.count ≡ i + length points = counted.0 ∙ added_length params e c.args.place (n - i) i points in
+          let count_before = counted_before.0 in
+          let fits = more.1 in
+          let few : c.loop-i.root.count < 64 = omega (arith, count, count_before, fits, lt) in
+          let one = c.in_ok-add.ensures.low (search rules) (added ++ points) entered_so_far.stands is_new two (has_room c.loop-i.root here.0 few) in
+          let before_levels = more.0 in
+          (omega (arith, one), omega (arith, one, before_levels), λ some. one);
+      small_growth = λ tells points stands new low two more.
+          let entered_so_far = c.loop-i.invariant.enters tells points stands new in
+          let is_new = subst (λ (q : Point). IsNewPoint dims (added ++ points) q) (sym c.entry_point-point.ensures.point)
+          (new_next params e c.args.place n i (n - 1 - i) points c.point_count-count.ensures.count lt refl new) in
+          let here = c.loop-i.invariant.one_page tells points stands new two more in
+          let counted = c.index_laws.ensures.counted mid dims c.loop-i.root (added ++ points) entered_so_far.stands in
+          let counted_before = c.index_laws.ensures.counted before dims c.args.root.now points stands in
+          let count : c.loop-i.root.count ≡ i + length points = counted.0 ∙ added_length params e c.args.place (n - i) i points in
+          let count_before = counted_before.0 in
+          let fits = more.1 in
+          let few : c.loop-i.root.count < 64 = omega (arith, count, count_before, fits, lt) in
+          let one = c.in_ok-add.ensures.low (search rules) (added ++ points) entered_so_far.stands is_new two (has_room c.loop-i.root here.0 few) in
+          let part = g.X.DomIndex.growth dims c.loop-i.root.levels c.loop-i.root.count in
+          let within = first_within g.X.DomIndex dims c.loop-i.root.levels c.loop-i.root.count c.index_laws.ensures.first c.index_laws.ensures.room two c.requires.dims here.0 few in
+          let grown = here.1 in
+          let adds = c.in_ok-add.ensures.growth (search rules) (added ++ points) entered_so_far.stands is_new (entered_so_far.balanced low) in
+          let so_far = c.loop-i.invariant.small_growth tells points stands new low two more in
+          let first = so_far.at_most in
+          let second = adds.went_on.at_most in
+          went_then g.S.Pages (c.loop-i.root.levels - c.args.root.now.levels) part (c.add.new.tree.levels - c.args.root.now.levels) c.args.stage.now c.loop-i.stage c.add.new.stage so_far adds.went_on
+          (omega (arith, first, second, within, grown, one));
     }
 
 pub returns-clause-enters : goal.returns-clause-enters
@@ -110,3 +177,23 @@ returns-clause-enters g c = λ tells points stands new.
     let at_end = subst (λ (m : ℕ). TreeEnters g.X.DomIndex params.dims (g.S.Pages.map c.args.stage.now) (g.S.Pages.map c.loop-i.stage) c.args.root.now c.loop-i.root (points_from params e c.args.place m c.loop-i.i) points) none all in
     subst (λ (m : ℕ). TreeEnters g.X.DomIndex params.dims (g.S.Pages.map c.args.stage.now) (g.S.Pages.map c.loop-i.stage) c.args.root.now c.loop-i.root (points_from params e c.args.place 0 m) points)
     (done ∙ c.point_count-count.ensures.count) at_end
+
+pub returns-clause-one_page : goal.returns-clause-one_page
+returns-clause-one_page g c = λ tells points stands new two takes.
+    let n = c.point_count-count.result in
+    let done : c.loop-i.i ≡ n = omega (arith, c.loop-i-test.false, c.loop-i.auto.i-end) in
+    let some : 1 ≤ c.loop-i.i = omega (arith, done, c.point_count-count.ensures.some) in
+    let more : TakesMore n c.args.root.now = subst (λ (m : ℕ). TakesMore m c.args.root.now) (sym c.point_count-count.ensures.count) takes in
+    let here = c.loop-i.invariant.one_page tells points stands new two more in
+    here.2 some
+
+pub returns-clause-small_growth : goal.returns-clause-small_growth
+returns-clause-small_growth g c = λ tells points stands new low two takes.
+    let n = c.point_count-count.result in
+    let done : c.loop-i.i ≡ n = omega (arith, c.loop-i-test.false, c.loop-i.auto.i-end) in
+    let some : 1 ≤ c.loop-i.i = omega (arith, done, c.point_count-count.ensures.some) in
+    let more : TakesMore n c.args.root.now = subst (λ (m : ℕ). TakesMore m c.args.root.now) (sym c.point_count-count.ensures.count) takes in
+    let here = c.loop-i.invariant.one_page tells points stands new two more in
+    let one = here.2 some in
+    changes_end g.S.Pages (1 - c.args.root.now.levels) c.args.stage.now c.loop-i.stage _
+    (subst (λ (m : ℕ). WentOn g.S.Pages (m - c.args.root.now.levels) c.args.stage.now c.loop-i.stage) one (c.loop-i.invariant.small_growth tells points stands new low two more))

@@ -1,11 +1,23 @@
-use Rattle.std.proofs.Common.{◌≡◌, ℕ, ◌+◌, length, to_z, of_z, rules, ap, ◌∙◌}
+use Rattle.std.proofs.Common.{◌≡◌, ℕ, ◌+◌, Err, length, to_z, of_z, rules, ap, ◌∙◌, subst}
+use Rattle.std.proofs.lemmas.Result.{err_from_is_err_and}
 use Rattle.std.specs.Int.{w128}
 use Rattle.bw_types.specs.Residues.{signed_of}
+use Rattle.page_ports.specs.declared.page.PageFault.TheVariants.{Damaged}
 use Rattle.corner_forest.specs.Answers.{count_of}
+use Rattle.corner_forest.specs.Damage.{IsDamagedAtCorners}
 use Rattle.corner_forest.specs.Entries.{root_points}
+use Rattle.corner_forest.proofs.Exits.{exit_error}
 use Rattle.corner_forest.proofs.MetSums.{count_by_corners}
 use Rattle.corner_forest.proofs.TreePoints.{counted_count}
 use Rattle.corner_forest.proofs.meet.count.Goals as goal
+
+pub returns-in_err-total-clause-damaged : goal.returns-in_err-total-clause-damaged
+returns-in_err-total-clause-damaged g c = λ page e tells.
+    let p = err_from_is_err_and c.from_residual.result c.from_residual.ensures.1 in
+    let same = exit_error c.from_residual.result c.in_err-total.field-0.0 (Damaged page) p e in
+    let forest = c.args.forest.now in
+    subst (λ (n : ℕ). IsDamagedAtCorners g.X.DomIndex (g.P.Pages.map c.args.pages.now) forest.params forest.roots.items n c.args.query.now c.args.version page)
+    c.corner_count-first.ensures.count (c.in_err-total.ensures.damaged page (ap Err same) tells)
 
 pub returns-in_err-total-clause-cost : goal.returns-in_err-total-clause-cost
 returns-in_err-total-clause-cost g c = λ tells entries stands balanced.

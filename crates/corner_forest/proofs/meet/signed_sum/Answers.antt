@@ -1,11 +1,12 @@
 use Rattle.std.proofs.Common.{◌+◌, ◌<◌, Err, length, rules, ap, ◌∙◌, arith}
 use Rattle.std.proofs.lemmas.Result.{err_from_is_err_and}
 use Rattle.page_ports.specs.declared.page.PageFault.TheVariants.{Damaged}
+use Rattle.bw_types.specs.Empty.{empty_tree}
 use Rattle.box_corners.specs.Subsets.{residue_signed_by}
 use Rattle.corner_forest.specs.Corners.{value_at}
 use Rattle.corner_forest.specs.Entries.{corner_count}
 use Rattle.corner_forest.proofs.Exits.{exit_error}
-use Rattle.corner_forest.proofs.Places.{balanced_here, cost_here, more_cost, most_cost, next_sum, stands_here}
+use Rattle.corner_forest.proofs.Places.{balanced_here, cost_here, damaged_there, more_cost, most_cost, next_sum, stands_here}
 use Rattle.corner_forest.proofs.meet.signed_sum.Goals as goal
 
 pub returns-in_err-value-clause-sound : goal.returns-in_err-value-clause-sound
@@ -18,6 +19,23 @@ returns-in_err-value-clause-sound g c = λ points page tells each e.
     c.in_err-value.ensures.sound (points k) page (search rules)
     (stands_here g.X.DomIndex (g.P.Pages.map c.args.pages.now) (g.P.Pages.map c.loop-subset.pages) forest.params.dims points forest.roots.items c.as_slice-roots.result.now k
     (c.from.result + c.from-in-loop-subset.result) _ c.loop-subset.invariant.went.map c.as_slice-roots.ensures.value (omega (arith, c.from.ensures, c.from-in-loop-subset.ensures)) each below) (ap Err same)
+
+pub returns-in_err-value-clause-damaged : goal.returns-in_err-value-clause-damaged
+returns-in_err-value-clause-damaged g c = λ page e tells.
+    let p = err_from_is_err_and c.from_residual.result c.from_residual.ensures.1 in
+    let same = exit_error c.from_residual.result c.in_err-value.field-0.0 (Damaged page) p e in
+    let forest = c.args.forest.now in
+    let k = c.args.first + c.loop-subset.subset in
+    let inside : c.loop-subset.subset < corner_count forest.params = omega (arith, c.loop-subset-test.true, c.corner_count-subset-end.ensures.count) in
+    let told = c.in_err-value.ensures.damaged page (ap Err same) (search rules) in (
+      c.loop-subset.subset,
+      told.0,
+      inside,
+      told.1,
+      damaged_there g.X.DomIndex (g.P.Pages.map c.args.pages.now) (g.P.Pages.map c.loop-subset.pages) forest.params.dims c.args.version page told.0 forest.roots.items
+          c.as_slice-roots.result.now k (c.from.result + c.from-in-loop-subset.result) empty_tree c.loop-subset.invariant.went.map c.as_slice-roots.ensures.value (omega (arith, c.from.ensures, c.from-in-loop-subset.ensures))
+          told.2,
+    )
 
 pub returns-in_err-value-clause-cost : goal.returns-in_err-value-clause-cost
 returns-in_err-value-clause-cost g c = λ tells points n each balanced counts.

@@ -1,5 +1,6 @@
-use Rattle.std.proofs.Common.{◌≡◌, ℕ, ◌+◌, ◌*◌, ◌<◌, ◌≤◌, length, to_z, of_z, rules, ap, sym, ◌∙◌, subst, arith}
+use Rattle.std.proofs.Common.{◌≡◌, ℕ, ◌+◌, ◌*◌, ◌<◌, ◌≤◌, Err, length, to_z, of_z, rules, ap, sym, ◌∙◌, subst, arith}
 use Rattle.std.specs.Int.{w128}
+use Rattle.std.proofs.lemmas.Result.{err_from_is_err_and}
 use Rattle.bw_types.specs.Residues.{residue, signed_of}
 use Rattle.box_corners.specs.Corners.{integral_corner}
 use Rattle.box_corners.specs.Subsets.{residue_signed_by}
@@ -7,13 +8,28 @@ use Rattle.poly_moments.specs.Integrals.{query_corner}
 use Rattle.poly_moments.specs.Planes.{plane_count, planes_value}
 use Rattle.poly_moments.specs.PlaneSums.{integral_at}
 use Rattle.page_ports.specs.Pages.{PageMap}
+use Rattle.page_ports.specs.declared.page.PageFault.TheVariants.{Damaged}
+use Rattle.corner_forest.specs.Damage.{IsDamagedInPlanes}
 use Rattle.corner_forest.specs.Stands.{AreBalanced}
 use Rattle.corner_forest.specs.Trees.{EachStands}
 use Rattle.corner_forest.specs.Corners.{planes_at}
 use Rattle.corner_forest.specs.Entries.{corner_count, root_points}
+use Rattle.corner_forest.proofs.Exits.{exit_error}
 use Rattle.corner_forest.proofs.Places.{more_cost, most_cost, next_sum}
 use Rattle.corner_forest.proofs.PlaneTotals.{integral_by_corners, planed_count}
 use Rattle.corner_forest.proofs.planes.integral.Goals as goal
+
+pub returns-in_err-value-clause-damaged : goal.returns-in_err-value-clause-damaged
+returns-in_err-value-clause-damaged g c = λ page e tells.
+    let p = err_from_is_err_and c.from_residual.result c.from_residual.ensures.1 in
+    let same = exit_error c.from_residual.result c.in_err-value.field-0.0 (Damaged page) p e in
+    let params = c.args.forest.now.params in
+    let inside : c.loop-subset.subset < corner_count params = omega (arith, c.loop-subset-test.true, c.corner_count-subset-end.ensures.count) in (
+      c.loop-subset.subset,
+      inside,
+      subst (λ (m : PageMap). IsDamagedInPlanes g.X.DomIndex m params c.args.forest.now.roots.items (integral_corner params.dims c.args.query.now c.loop-subset.subset) c.args.version page)
+          c.loop-subset.invariant.went.map (c.in_err-value.ensures.damaged page (ap Err same) (search rules)),
+    )
 
 pub returns-in_err-value-clause-cost : goal.returns-in_err-value-clause-cost
 returns-in_err-value-clause-cost g c = λ tells entries stands balanced.

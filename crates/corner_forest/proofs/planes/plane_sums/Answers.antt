@@ -29,11 +29,9 @@ returns-in_err-sum-clause-damaged g c = λ page e tells.
     let forest = c.args.forest.now in
     let params = forest.params in
     let k = 2 * corner_count params + c.loop-plane.plane in
-    let inside : c.loop-plane.plane < plane_count params = omega (arith, c.loop-plane-test.true, c.plane_count-plane-end.ensures.count) in
-    let below : k < length forest.roots.items = omega (arith, inside, c.requires.roots) in (
-      k,
-      c.args.keys.now,
-      below,
+    let inside : c.loop-plane.plane < plane_count params = omega (arith, c.loop-plane-test.true, c.plane_count-plane-end.ensures.count) in (
+      c.loop-plane.plane,
+      inside,
       damaged_there g.X.DomIndex (g.P.Pages.map c.args.pages.now) (g.P.Pages.map c.loop-plane.pages) params.dims c.args.version page c.args.keys.now forest.roots.items
           c.as_slice-roots.result.now k (2 * c.from-first.result + c.loop-plane.plane) empty_tree c.loop-plane.invariant.went.map c.as_slice-roots.ensures.value (omega (arith, c.from-first.ensures, c.corner_count.ensures.count))
           (c.in_err-sum.ensures.damaged page (ap Err same) (search rules)),
