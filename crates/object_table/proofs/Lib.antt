@@ -18,6 +18,7 @@ pub mod LastOnes
 pub mod Low
 pub mod MarkSteps
 pub mod Nodes
+pub mod Onward
 pub mod Order
 pub mod Ordered
 pub mod PuttingIn

@@ -1,8 +1,9 @@
 //! Looking an id up.
-ghost use Rattle.std.specs.Prelude.{◌≡◌, ◌≢◌, ◌-◌, ◌==◌, ℕ, List, reverse, Err, IsTrue, IfOk};
-ghost use Rattle.std.specs.List.{find as list_find};
+ghost use Rattle.std.specs.Prelude.{◌≡◌, ◌≢◌, ◌-◌, ◌==◌, ℕ, List, reverse, Err, IsTrue, IfOk, IfSome};
+ghost use Rattle.std.specs.List.{All, find as list_find};
 ghost use Rattle.bw_types.specs.declared.dated.Dated.{Dated};
 ghost use Rattle.page_layout.specs.Damage.{IsDamagedBelow, NothingBeside};
+ghost use Rattle.page_layout.specs.Dated.{by_life_fits};
 ghost use Rattle.page_ports.specs.Calls.{OnlyReads};
 ghost use Rattle.object_table.specs.declared.form.Form.TheVariants.{ByLives, ByIds};
 ghost use Rattle.object_table.specs.Damage.{FitsPlace, LeadsTo, IsDamagedOnPath};
@@ -27,6 +28,8 @@ use page_ports::{PageFault, Pages};
 pub fn find<P: Pages>(pages: &mut P, table: &Tree, id: u64) -> Result<Option<Dated>, PageFault>
     ensures last { IfOk result (λ found. IsTrue (P.tells pages.old) → (lives : List Dated)
         → TableStands ByLives (P.map pages.old) table.now lives → found ≡ last_life id lives) }
+    // Whatever the pages hold, what is found may be entered.
+    ensures fits { IfOk result (λ found. IfSome found (λ d. IsTrue (by_life_fits d))) }
     ensures damaged { (page : ℕ) → result ≡ Err (PageFault.Damaged page) → IsTrue (P.tells pages.old)
         → IsDamagedOnPath ByLives (P.map pages.old) table.now (greatest_key id) page }
     ensures sound { (lives : List Dated) (page : ℕ) → IsTrue (P.tells pages.old)
@@ -41,6 +44,8 @@ pub fn find<P: Pages>(pages: &mut P, table: &Tree, id: u64) -> Result<Option<Dat
 pub fn find_old<P: Pages>(pages: &mut P, table: &Tree, id: u64) -> Result<Option<Dated>, PageFault>
     ensures last { IfOk result (λ found. IsTrue (P.tells pages.old) → (lives : List Dated)
         → TableStands ByIds (P.map pages.old) table.now lives → found ≡ last_life id lives) }
+    // Whatever the pages hold, what is found may be entered in a table by lives.
+    ensures fits { IfOk result (λ found. IfSome found (λ d. IsTrue (by_life_fits d))) }
     ensures damaged { (page : ℕ) → result ≡ Err (PageFault.Damaged page) → IsTrue (P.tells pages.old)
         → IsDamagedOnPath ByIds (P.map pages.old) table.now (greatest_key id) page }
     ensures sound { (lives : List Dated) (page : ℕ) → IsTrue (P.tells pages.old)
@@ -58,6 +63,7 @@ fn find_in<P: Pages>(
 ) -> Result<Option<Dated>, PageFault>
     ensures last { IfOk result (λ found. IsTrue (P.tells pages.old) → (lives : List Dated)
         → TableStands form (P.map pages.old) table.now lives → found ≡ last_life id lives) }
+    ensures fits { IfOk result (λ found. IfSome found (λ d. IsTrue (by_life_fits d))) }
     ensures damaged { (page : ℕ) → result ≡ Err (PageFault.Damaged page) → IsTrue (P.tells pages.old)
         → IsDamagedOnPath form (P.map pages.old) table.now (greatest_key id) page }
     ensures sound { (lives : List Dated) (page : ℕ) → IsTrue (P.tells pages.old)
@@ -84,6 +90,7 @@ fn find_below<P: Pages>(
     ensures last { IfOk result (λ found. IsTrue (P.tells pages.old) → (least : ℕ) → place.sought ≡ greatest_key id
         → StandsBelow form level (P.map pages.old) page place.low place.high least
         → found ≡ last_life id (lives_below form level (P.map pages.old) page)) }
+    ensures fits { IfOk result (λ found. IfSome found (λ d. IsTrue (by_life_fits d))) }
     ensures damaged { (damaged : ℕ) → result ≡ Err (PageFault.Damaged damaged) → IsTrue (P.tells pages.old)
         → IsDamagedBelow (FitsPlace form) LeadsTo NothingBeside (P.map pages.old) level place page damaged }
     ensures reads { OnlyReads P.Pages level pages.old pages.new result }
@@ -105,7 +112,9 @@ fn find_below<P: Pages>(
 
 // The last of the objects that has the id.
 fn last_of(objects: &[Dated], id: u64) -> Option<Dated>
-    ensures { result ≡ last_life id objects.now }
+    requires { All (λ d. IsTrue (by_life_fits d)) objects.now }
+    ensures last { result ≡ last_life id objects.now }
+    ensures fits { IfSome result (λ d. IsTrue (by_life_fits d)) }
 {
     let mut last = None;
     for d in objects {

@@ -1,10 +1,12 @@
 //! Reading the nodes of a table in either form.
 ghost use Rattle.std.specs.Prelude.{◌≡◌, ◌≤◌, ℕ, List, length, map, Some, Err, IsTrue, IfOk};
+ghost use Rattle.std.specs.List.{All};
 ghost use Rattle.page_layout.specs.Damage.{HoldsNoNode};
+ghost use Rattle.page_layout.specs.Dated.{by_life_fits};
 ghost use Rattle.page_ports.specs.Calls.{OnlyReads};
 ghost use Rattle.page_layout.specs.TableNode.{IsTableNode};
 ghost use Rattle.object_table.specs.Damage.{FitsPlace};
-ghost use Rattle.object_table.specs.Nodes.{FitsLevel, life_node as spec_life_node, life_entry as spec_life_entry};
+ghost use Rattle.object_table.specs.Nodes.{FitsLevel, objects_in, life_node as spec_life_node, life_entry as spec_life_entry};
 
 use crate::form::Form;
 use crate::place::{Place, is_in_place};
@@ -26,6 +28,8 @@ pub fn read_node<P: Pages>(
     place: Place,
 ) -> Result<LifeNode, PageFault>
     ensures fits { IfOk result (λ node. (bytes : List ℕ) × FitsPlace form level place node bytes × (IsTrue (P.tells pages.old) → P.map pages.old page ≡ Some bytes)) }
+    // In either form, a leaf by lives can spell the objects.
+    ensures keep { IfOk result (λ node. All (λ d. IsTrue (by_life_fits d)) (objects_in node)) }
     ensures damaged { (p : ℕ) → result ≡ Err (PageFault.Damaged p) → (p ≡ page) × (IsTrue (P.tells pages.old)
         → HoldsNoNode (FitsPlace form) (P.map pages.old) level place page) }
     ensures reads { OnlyReads P.Pages 1 pages.old pages.new result }

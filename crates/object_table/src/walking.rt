@@ -1,10 +1,13 @@
 //! Walking through a table in order.
-ghost use Rattle.std.specs.Prelude.{◌≡◌, ◌≢◌, ◌+◌, ◌-◌, ◌*◌, ◌≤◌, ℕ, List, ◌∷◌, Option, Some, None, Ok, Err, IsTrue, IfOk};
+ghost use Rattle.std.specs.Prelude.{◌≡◌, ◌≢◌, ◌+◌, ◌-◌, ◌*◌, ◌≤◌, ℕ, List, ◌∷◌, Option, Some, None, Ok, Err, IsTrue, IfOk, IfSome};
+ghost use Rattle.std.specs.List.{All};
 ghost use Rattle.bw_types.specs.declared.dated.Dated.{Dated};
 ghost use Rattle.page_layout.specs.Damage.{IsDamagedBelow, NothingBeside};
+ghost use Rattle.page_layout.specs.Dated.{by_life_fits};
 ghost use Rattle.page_ports.specs.Calls.{OnlyReads};
 ghost use Rattle.object_table.specs.declared.form.Form.TheVariants.{ByLives, ByIds};
 ghost use Rattle.object_table.specs.Damage.{FitsPlace, LeadsTo, LeadsOn, IsDamagedOnWalk};
+ghost use Rattle.object_table.specs.Keys.{key as spec_key};
 ghost use Rattle.object_table.specs.Lives.{first_from, lives_below, from_life, from_id};
 ghost use Rattle.object_table.specs.Stands.{StandsBelow, TableStands};
 
@@ -29,6 +32,9 @@ pub fn walk<P: Pages>(
 ) -> Result<Option<Dated>, PageFault>
     ensures next { IfOk result (λ found. IsTrue (P.tells pages.old) → (lives : List Dated)
         → TableStands ByLives (P.map pages.old) table.now lives → found ≡ first_from (from_life after) lives) }
+    // Whatever the pages hold, a walk gets on, and what is found may be entered.
+    ensures above { IfOk result (λ found. IfSome found (λ d. from_life after ≤ spec_key d)) }
+    ensures fits { IfOk result (λ found. IfSome found (λ d. IsTrue (by_life_fits d))) }
     ensures damaged { (page : ℕ) → result ≡ Err (PageFault.Damaged page) → IsTrue (P.tells pages.old)
         → IsDamagedOnWalk ByLives (P.map pages.old) table.now (from_life after) page }
     ensures sound { (lives : List Dated) (page : ℕ) → IsTrue (P.tells pages.old)
@@ -51,6 +57,9 @@ pub fn walk_old<P: Pages>(
 ) -> Result<Option<Dated>, PageFault>
     ensures next { IfOk result (λ found. IsTrue (P.tells pages.old) → (lives : List Dated)
         → TableStands ByIds (P.map pages.old) table.now lives → found ≡ first_from (from_id after) lives) }
+    // Whatever the pages hold, a walk gets on, and what is found may be entered in a table by lives.
+    ensures above { IfOk result (λ found. IfSome found (λ d. from_id after ≤ spec_key d)) }
+    ensures fits { IfOk result (λ found. IfSome found (λ d. IsTrue (by_life_fits d))) }
     ensures damaged { (page : ℕ) → result ≡ Err (PageFault.Damaged page) → IsTrue (P.tells pages.old)
         → IsDamagedOnWalk ByIds (P.map pages.old) table.now (from_id after) page }
     ensures sound { (lives : List Dated) (page : ℕ) → IsTrue (P.tells pages.old)
@@ -72,6 +81,8 @@ fn walk_in<P: Pages>(
 ) -> Result<Option<Dated>, PageFault>
     ensures next { IfOk result (λ found. IsTrue (P.tells pages.old) → (lives : List Dated)
         → TableStands form (P.map pages.old) table.now lives → found ≡ first_from sought lives) }
+    ensures above { IfOk result (λ found. IfSome found (λ d. sought ≤ spec_key d)) }
+    ensures fits { IfOk result (λ found. IfSome found (λ d. IsTrue (by_life_fits d))) }
     ensures damaged { (page : ℕ) → result ≡ Err (PageFault.Damaged page) → IsTrue (P.tells pages.old)
         → IsDamagedOnWalk form (P.map pages.old) table.now sought page }
     ensures sound { (lives : List Dated) (page : ℕ) → IsTrue (P.tells pages.old)
@@ -97,6 +108,8 @@ fn walk_below<P: Pages>(
     ensures next { IfOk result (λ found. IsTrue (P.tells pages.old) → (least : ℕ)
         → StandsBelow form level (P.map pages.old) page place.low place.high least
         → found ≡ first_from place.sought (lives_below form level (P.map pages.old) page)) }
+    ensures above { IfOk result (λ found. IfSome found (λ d. place.sought ≤ spec_key d)) }
+    ensures fits { IfOk result (λ found. IfSome found (λ d. IsTrue (by_life_fits d))) }
     ensures damaged { (damaged : ℕ) → result ≡ Err (PageFault.Damaged damaged) → IsTrue (P.tells pages.old)
         → IsDamagedBelow (FitsPlace form) LeadsOn NothingBeside (P.map pages.old) level place page damaged }
     // Where nothing was found, only the path was read.
@@ -138,6 +151,8 @@ fn first_below<P: Pages>(
     ensures first { IfOk result (λ found. IsTrue (P.tells pages.old) → (least : ℕ) → place.sought ≡ place.low
         → StandsBelow form level (P.map pages.old) page place.low place.high least
         → (rest : List Dated) × (lives_below form level (P.map pages.old) page ≡ found ∷ rest)) }
+    ensures above { IfOk result (λ found. place.low ≤ spec_key found) }
+    ensures fits { IfOk result (λ found. IsTrue (by_life_fits found)) }
     ensures damaged { (damaged : ℕ) → result ≡ Err (PageFault.Damaged damaged) → IsTrue (P.tells pages.old)
         → IsDamagedBelow (FitsPlace form) LeadsOn NothingBeside (P.map pages.old) level place page damaged }
     ensures reads { OnlyReads P.Pages level pages.old pages.new result }
@@ -156,7 +171,10 @@ fn first_below<P: Pages>(
 
 // The first of the objects from the key sought on.
 fn first_of(objects: &[Dated], sought: u128) -> Option<Dated>
-    ensures { result ≡ first_from sought objects.now }
+    requires { All (λ d. IsTrue (by_life_fits d)) objects.now }
+    ensures first { result ≡ first_from sought objects.now }
+    ensures above { IfSome result (λ d. sought ≤ spec_key d) }
+    ensures fits { IfSome result (λ d. IsTrue (by_life_fits d)) }
 {
     for d in objects {
         if key(d) >= sought {

@@ -29,7 +29,7 @@ overflow_sub-begun g t c =
 pub returns-in-Leaf-clause-last : goal.returns-in-Leaf-clause-last
 returns-in-Leaf-clause-last g t c = λ tells least sought s.
     let f = c.in_ok-objects.ensures.fits in
-    c.last_of.ensures ∙ ap (last_life c.args.id) (leaf_lives c.args.form c.args.level (g.P.Pages.map c.args.pages.now) c.args.page c.in_ok-objects.field-0 f.0 _ c.as_slice.result.now
+    c.last_of.ensures.last ∙ ap (last_life c.args.id) (leaf_lives c.args.form c.args.level (g.P.Pages.map c.args.pages.now) c.args.page c.in_ok-objects.field-0 f.0 _ c.as_slice.result.now
     f.1.fits (f.2 tells) c.in-Leaf.is (c.as_slice.ensures.value ∙ ap objects_in (sym c.in-Leaf.is)))
 
 pub returns-in_ok-found-in-Index-clause-last : goal.returns-in_ok-found-in-Index-clause-last

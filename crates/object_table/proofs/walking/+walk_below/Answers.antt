@@ -1,4 +1,4 @@
-use Rattle.std.proofs.Common.{◌≡◌, ◌-◌, ◌≤◌, ℕ, List, ◌∷◌, Option, Some, None, Err, IsSome, inl, inr, Bool, true, false, rules, arith, subst, sym, refl, ap, ◌∙◌}
+use Rattle.std.proofs.Common.{◌≡◌, ◌-◌, ◌≤◌, ℕ, List, ◌∷◌, Option, Some, None, Err, IsSome, IfSome, inl, inr, Bool, true, false, rules, arith, subst, sym, refl, ap, ◌∙◌}
 use Rattle.std.specs.Option.{is_some}
 use Rattle.std.proofs.lemmas.Result.{err_from_is_err_and}
 use Rattle.bw_types.specs.declared.dated.Dated.{Dated}
@@ -8,6 +8,7 @@ use Rattle.page_layout.specs.Damage.{IsDamagedBelow, NothingBeside}
 use Rattle.page_layout.specs.DamageLaws as laws
 use Rattle.page_layout.specs.declared.life_node.LifeEntry.{LifeEntry}
 use Rattle.object_table.specs.Damage.{FitsPlace, LeadsOn}
+use Rattle.object_table.specs.Keys.{key}
 use Rattle.object_table.specs.Nodes.{objects_in, entries_in}
 use Rattle.object_table.specs.Lives.{first_from, lives_below}
 use Rattle.object_table.specs.Stands.{StandsBelow}
@@ -15,6 +16,7 @@ use Rattle.object_table.proofs.Exits.{exit_error}
 use Rattle.object_table.proofs.LastLives.{step_leads}
 use Rattle.object_table.proofs.Firsts.{walk_found, walk_past, past_leads}
 use Rattle.object_table.proofs.Nodes.{index_level}
+use Rattle.object_table.proofs.Onward.{past_above}
 use Rattle.object_table.proofs.Reading.{adjacent_in, begun_in, leaf_lives}
 use Rattle.object_table.proofs.walking.+walk_below.Goals as goal
 
@@ -57,7 +59,7 @@ returns-in_err-found-in-Index-clause-damaged g t c = λ damaged e tells.
 pub returns-in-Leaf-clause-next : goal.returns-in-Leaf-clause-next
 returns-in-Leaf-clause-next g t c = λ tells least s.
     let f = c.in_ok-objects.ensures.fits in
-    c.first_of.ensures ∙ ap (first_from c.args.place.sought) (leaf_lives c.args.form c.args.level (g.P.Pages.map c.args.pages.now) c.args.page c.in_ok-objects.field-0 f.0 _ c.as_slice.result.now
+    c.first_of.ensures.first ∙ ap (first_from c.args.place.sought) (leaf_lives c.args.form c.args.level (g.P.Pages.map c.args.pages.now) c.args.page c.in_ok-objects.field-0 f.0 _ c.as_slice.result.now
     f.1.fits (f.2 tells) c.in-Leaf.is (c.as_slice.ensures.value ∙ ap objects_in (sym c.in-Leaf.is)))
 
 pub returns-then-is_some-clause-next : goal.returns-then-is_some-clause-next
@@ -144,3 +146,12 @@ returns-in_ok-first-in-Index-clause-next g t c = λ tells least s.
     walk_past c.args.form c.args.level m c.args.page least c.begun_count-begun.result c.args.place step next c.in_ok-objects.field-0 f.0 entries found c.in_ok-first-in-Index.first
     high (f.2 tells) f.1.fits same c.begun_count-begun.ensures some c.step_to-step.ensures below
     (none_is found c.is_some.result c.is_some.ensures c.if-is_some.false) c.if-begun-entries.false c.step_past-next.ensures beyond s
+
+pub returns-then-is_some-clause-above : goal.returns-then-is_some-clause-above
+returns-then-is_some-clause-above g t c =
+    subst (λ (n : ℕ). IfSome c.in_ok-found-in-Index.found (λ d. n ≤ key d)) (c.step_to-step.ensures (record { low_id = 0; low_life = 0; child = 0 })).place.sought c.in_ok-found-in-Index.ensures.above
+
+pub returns-in_ok-first-in-Index-clause-above : goal.returns-in_ok-first-in-Index-clause-above
+returns-in_ok-first-in-Index-clause-above g t c =
+    let past = past_above c.as_slice-entries.result.now c.begun_count-begun.result c.args.place.sought c.args.place.high c.step_past-next.result c.begun_count-begun.ensures c.if-begun-entries.false c.step_past-next.ensures in
+    omega (arith, past, c.in_ok-first-in-Index.ensures.above)
