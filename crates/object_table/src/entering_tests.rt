@@ -50,25 +50,27 @@ fn enter_first<S: Stage>(stage: &mut S, table: &mut Tree, count: u32) -> Result<
     Ok(())
 }
 
-// How many objects the leaf has.
-fn leaf_count(stage: &mut MemStage, page: u64) -> Result<usize, PageFault> {
+// How many objects or entries the node has.
+fn count_in(stage: &mut MemStage, page: u64) -> Result<usize, PageFault> {
     let node: LifeNode = read_page(stage, page)?;
     match node {
         LifeNode::Leaf { objects } => Ok(objects.len()),
-        LifeNode::Index {
-            level: _,
-            entries: _,
-        } => Ok(0),
+        LifeNode::Index { level: _, entries } => Ok(entries.len()),
     }
 }
 
-// The two children of the page, where the second begins with this id and its first life.
-fn two_children(stage: &mut MemStage, page: u64, id: u64) -> Result<Option<(u64, u64)>, PageFault> {
-    let node: LifeNode = read_page(stage, page)?;
-    if let LifeNode::Index { level: 2, entries } = node {
+// The two children of a table's root, where the second begins with this id and its first life.
+fn two_children(
+    stage: &mut MemStage,
+    table: &Tree,
+    id: u64,
+) -> Result<Option<(u64, u64)>, PageFault> {
+    let node: LifeNode = read_page(stage, table.root)?;
+    if let LifeNode::Index { level, entries } = node {
         if let [first, second] = entries.as_slice() {
             let lows = first.low_id == 0 && first.low_life == 0;
-            if lows && second.low_id == id && second.low_life == 1 {
+            let begins = second.low_id == id && second.low_life == 1;
+            if level == table.levels && lows && begins {
                 return Ok(Some((first.child, second.child)));
             }
         }
@@ -82,11 +84,11 @@ fn sixteen_are_entered(rt: HostRuntime) -> Result<(), Fail> {
     let mut table = Tree::default();
     enter_first(&mut stage, &mut table, 16)?;
     assert_eq!(rt; (table.levels, table.count, stage.allotted()), (2, 16, 6));
-    let Some((first, second)) = two_children(&mut stage, table.root, 7)? else {
+    let Some((first, second)) = two_children(&mut stage, &table, 7)? else {
         panic!(rt; "other children");
     };
-    assert_eq!(rt; leaf_count(&mut stage, first), Ok(7));
-    assert_eq!(rt; leaf_count(&mut stage, second), Ok(9));
+    assert_eq!(rt; count_in(&mut stage, first), Ok(7));
+    assert_eq!(rt; count_in(&mut stage, second), Ok(9));
     let mut after = None;
     for id in 0..16u32 {
         let life = living(u64::from(id), 1, id);
@@ -278,6 +280,32 @@ fn full_index(stage: &mut MemStage, level: u8, from: u64, child: u64) -> Result<
         }
     }
     page_of(stage, &LifeNode::Index { level, entries })
+}
+
+#[test]
+fn a_full_node_is_halved(rt: HostRuntime) -> Result<(), Fail> {
+    let mut stage = MemStage::new(rt.alloc(), 100);
+    let page = leaf(&mut stage, 1000, 1014)?;
+    let mut small = table_of(page, 1, 14);
+    enter(&mut stage, &mut small, &living(1014, 1, 1))?;
+    assert_eq!(rt; (small.levels, small.count), (2, 15));
+    let Some((first, second)) = two_children(&mut stage, &small, 1007)? else {
+        panic!(rt; "other leaves");
+    };
+    assert_eq!(rt; count_in(&mut stage, first), Ok(7));
+    assert_eq!(rt; count_in(&mut stage, second), Ok(8));
+    // An index page of 200 entries, whose last child is halved.
+    let page = leaf(&mut stage, 1000, 1014)?;
+    let root = full_index(&mut stage, 2, 0, page)?;
+    let mut large = table_of(root, 2, 14);
+    enter(&mut stage, &mut large, &living(1014, 1, 1))?;
+    assert_eq!(rt; (large.levels, large.count), (3, 15));
+    let Some((first, second)) = two_children(&mut stage, &large, 100)? else {
+        panic!(rt; "other index pages");
+    };
+    assert_eq!(rt; count_in(&mut stage, first), Ok(100));
+    assert_eq!(rt; count_in(&mut stage, second), Ok(101));
+    Ok(())
 }
 
 #[test]
