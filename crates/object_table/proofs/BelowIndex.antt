@@ -9,6 +9,7 @@ use Rattle.page_ports.specs.Pages.{PageMap}
 use Rattle.page_ports.specs.Frame.{AreApart, Replaces}
 use Rattle.page_ports.specs.FrameLaws.{Replaces-same, Replaces-beside, Replaces-agree, Replaces-apart}
 use Rattle.page_layout.specs.Footprint.{NamesNoneTwice}
+use Rattle.page_layout.specs.FootprintLaws.{apart_sym, once_left, once_right, once_apart, once_join, apart_append, apart_parts}
 use Rattle.page_layout.specs.LifeNode.{IsLifeEntryTyped}
 use Rattle.page_layout.specs.declared.life_node.LifeEntry.{LifeEntry}
 use Rattle.object_table.specs.declared.form.Form.TheVariants.{ByLives}
@@ -20,7 +21,6 @@ use Rattle.object_table.specs.Edits.{IsPutIn}
 use Rattle.object_table.specs.Entered.{second_entries, PartsStand, parts_pages, parts_lives, IsEntered, SecondFits}
 use Rattle.object_table.specs.Stands.{first_low, KeepsItsLow, EachStands, fewest, StandsBelow}
 use Rattle.object_table.specs.Stored.{BeginsBy, entry_name, index_of}
-use Rattle.object_table.proofs.Footprints.{apart_sym, once_left, once_right, once_apart, once_join, apart_append, apart_parts}
 use Rattle.object_table.proofs.Clearing.{own_pages}
 use Rattle.object_table.proofs.Landing.{ListEntered, HalvesEntered}
 use Rattle.object_table.proofs.Order.{first_low-append, first_low-later, EachStands-path, EachStands-split, EachStands-join, All-left, All-right, All-join}

@@ -11,6 +11,7 @@ use Rattle.page_ports.specs.Pages.{PageMap}
 use Rattle.page_ports.specs.Frame.{names_page, AgreeOn, AreInMap, Replaces}
 use Rattle.page_ports.specs.FrameLaws.{Replaces-beside, names_page-append}
 use Rattle.page_layout.specs.Footprint.{NamesNoneTwice, IsNamedTwice, times_named}
+use Rattle.page_layout.specs.FootprintLaws.{flat_more, times_append, times_cons, named_once, not_twice}
 use Rattle.page_layout.specs.declared.life_node.LifeNode.{LifeNode}
 use Rattle.page_layout.specs.declared.life_node.LifeEntry.{LifeEntry}
 use Rattle.bw_types.specs.declared.dated.Dated.{Dated}
@@ -24,11 +25,6 @@ use Rattle.object_table.specs.Damage.{IsDamagedFrom, IsDamagedForFree}
 use Rattle.object_table.proofs.Nodes.{node_on-fits}
 use Rattle.object_table.proofs.Frames.{same_pages}
 use Rattle.object_table.proofs.Within.{ChildStands}
-
--- one piece more of pieces end to end
-flat_more : {X A : Type 0} (f : X → List A) (xs : List X) (i : ℕ) (d : X) → i < length xs → flat_map f (take (i + 1) xs) ≡ flat_map f (take i xs) ++ f (get_or xs i d)
-flat_more f xs i d h =
-    ap (flat_map f) (take_more xs i d h) ∙ flat_map-append f (take i xs) (get_or xs i d ∷ []) ∙ ap (λ ys. flat_map f (take i xs) ++ ys) (append-nil (f (get_or xs i d)))
 
 module _ (form : Form) where
   none_some : {bytes : List ℕ} → ◌≡◌ {A = Option (List ℕ)} None (Some bytes) → ⊥
@@ -97,40 +93,6 @@ module _ (form : Form) where
       let mine : AreInMap m0 pages = λ p named. subst IsSome (sym (agree p named)) (there p named) in
       let all = all_in_map (page ∷ flat_map (own_pages level m0) (take i es)) (own_pages level m0 (get_or es i d)) m0 before (subst (λ (ps : List ℕ). AreInMap m0 ps) (sym same) mine) in
       subst (λ (ps : List ℕ). AreInMap m0 (page ∷ ps)) (sym (flat_more (own_pages level m0) es i d h)) all
-
-  -- A page is named as often as by the parts.
-  pub times_append : (xs ys : List ℕ) (p : ℕ) → times_named (xs ++ ys) p ≡ times_named xs p + times_named ys p
-  times_append xs ys p = sum_by-append (λ (x : ℕ). cond (x == p) 1 0) xs ys
-
-  abbrev one_if : Bool → ℕ
-  one_if b = cond b 1 0
-
-  times_cons : (x : ℕ) (xs : List ℕ) (p : ℕ) → times_named (x ∷ xs) p ≡ cond (x == p) 1 0 + times_named xs p
-  times_cons x xs p = sum_by-cons (λ (y : ℕ). cond (y == p) 1 0) x xs
-
-  pub named_once : (xs : List ℕ) (p : ℕ) → names_page xs p ≡ true → 1 ≤ times_named xs p
-  named_once [] p named = absurd cc
-  named_once (x ∷ xs) p named = elim (cases_Bool (x == p)) [
-    | inl here ↦ omega (arith, times_cons x xs p, ap one_if here)
-    | inr other ↦
-        let rest : names_page xs p ≡ true = sym (ap (λ (b : Bool). b || names_page xs p) other) ∙ named in
-        omega (arith, times_cons x xs p, named_once xs p rest)
-  ]
-
-  unnamed : (xs : List ℕ) (p : ℕ) → names_page xs p ≡ false → times_named xs p ≡ 0
-  unnamed [] p none = refl
-  unnamed (x ∷ xs) p none =
-      let parts = or_parts (x == p) (names_page xs p) none in
-      omega (arith, times_cons x xs p, ap one_if parts.0, unnamed xs p parts.1)
-
-  pub not_twice : (xs : List ℕ) (p : ℕ) → NamesNoneTwice xs → times_named xs p ≤ 1
-  not_twice [] p once = omega arith
-  not_twice (x ∷ xs) p once = elim (cases_Bool (x == p)) [
-    | inl here ↦
-        let none : names_page xs p ≡ false = subst (λ (q : ℕ). names_page xs q ≡ false) (eqb-true x p here) once.0 in
-        omega (arith, times_cons x xs p, ap one_if here, unnamed xs p none)
-    | inr other ↦ omega (arith, times_cons x xs p, ap one_if other, not_twice xs p once.1)
-  ]
 
   -- A map that lost pages names no page more often.
   flat_fewer : (level : ℕ) (m0 mi : PageMap) (p : ℕ) → ((page : ℕ) → times_named (pages_below form level mi page) p ≤ times_named (pages_below form level m0 page) p)

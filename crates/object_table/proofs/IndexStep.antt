@@ -11,6 +11,7 @@ use Rattle.page_ports.specs.FrameLaws.{names_page-append}
 use Rattle.page_layout.specs.Damage.{IsDamagedBelow, NothingBeside}
 use Rattle.page_layout.specs.DamageLaws as laws
 use Rattle.page_layout.specs.Footprint.{NamesNoneTwice}
+use Rattle.page_layout.specs.FootprintLaws.{once_left, once_right}
 use Rattle.page_layout.specs.LifeNode.{IsLifeIndex, IsLifeEntryTyped, life_node_page}
 use Rattle.page_layout.specs.declared.life_node.LifeNode.{LifeNode}
 use Rattle.page_layout.specs.declared.life_node.LifeEntry.{LifeEntry}
@@ -27,7 +28,7 @@ use Rattle.object_table.specs.Steps.{IsCut, IsStepTo}
 use Rattle.object_table.specs.Stored.{IsStored, IsSecondOf, IsWhole, OthersStay, entry_name, index_of}
 use Rattle.object_table.proofs.BelowIndex.{EntriesEntered, entries_with, entered_below, proper_with, ends_with, from_with, begins_with, length_with, whole_entered, halves_entered, half_keeps}
 use Rattle.object_table.proofs.Clearing.{own_pages}
-use Rattle.object_table.proofs.Footprints.{page_kept, apart_from_missing, eqb_swap, once_left, once_right}
+use Rattle.object_table.proofs.Footprints.{page_kept, apart_from_missing, eqb_swap}
 use Rattle.object_table.proofs.Landing.{ListEntered, landed_whole, landed_halves}
 use Rattle.object_table.proofs.LastLives.{step_path, step_leads}
 use Rattle.object_table.proofs.Nodes.{node_on-fits}

@@ -9,6 +9,7 @@ use Rattle.page_ports.specs.Pages.{PageMap}
 use Rattle.page_ports.specs.Frame.{names_page, AreApart, Replaces}
 use Rattle.page_ports.specs.FrameLaws.{Replaces-same, Replaces-beside, Replaces-agree}
 use Rattle.page_layout.specs.Footprint.{NamesNoneTwice}
+use Rattle.page_layout.specs.FootprintLaws.{apart_sym, once_left, once_right, once_apart, apart_parts}
 use Rattle.page_layout.specs.LifeNode.{life_node_page}
 use Rattle.page_layout.specs.declared.life_node.LifeEntry.{LifeEntry}
 use Rattle.object_table.specs.declared.form.Form.TheVariants.{ByLives}
@@ -24,7 +25,7 @@ use Rattle.object_table.specs.Stands.{first_low, EachStands, fewest, StandsBelow
 use Rattle.object_table.specs.Stored.{IsWhole, leaf_of, index_of}
 use Rattle.object_table.proofs.Ascending.{root_ascend}
 use Rattle.object_table.proofs.Clearing.{own_pages}
-use Rattle.object_table.proofs.Footprints.{apart_sym, once_left, once_right, once_apart, apart_parts, page_kept}
+use Rattle.object_table.proofs.Footprints.{page_kept}
 use Rattle.object_table.proofs.Frames.{same_index, same_entries}
 use Rattle.object_table.proofs.IndexStep.{ReadIndex, StepParts, step_parts}
 use Rattle.object_table.proofs.LastLives.{last_below}
