@@ -2,6 +2,7 @@ pub mod Entries
 pub mod Trees
 pub mod Stands
 pub mod Damage
+pub mod EntryDamage
 pub mod Corners
 pub mod Enters
 pub mod Laws

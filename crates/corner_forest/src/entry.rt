@@ -1,5 +1,5 @@
 //! Entering an object.
-ghost use Rattle.std.specs.Prelude.{◌≡◌, ◌≢◌, ◌+◌, ◌-◌, ◌*◌, ◌^◌, ◌<◌, ◌≤◌, ℕ, List, ◌∷◌, length, Err, IsTrue, IfOk, OnOk, OnErr};
+ghost use Rattle.std.specs.Prelude.{◌≡◌, ◌≢◌, ◌+◌, ◌-◌, ◌*◌, ◌^◌, ◌<◌, ◌≤◌, ◌⊎◌, ℕ, List, ◌∷◌, length, Err, IsTrue, IfOk, OnOk, OnErr};
 ghost use Rattle.std.specs.List.{All, sum_by, range_with_len};
 ghost use Rattle.bw_types.specs.Fits.{IsInRange, object_fits};
 ghost use Rattle.bw_types.specs.declared.point.Point.{Point};
@@ -7,6 +7,7 @@ ghost use Rattle.page_ports.specs.Calls.{Changes};
 ghost use Rattle.page_layout.specs.Footprint.{NamesNoneTwice};
 ghost use Rattle.page_layout.specs.TreeValue.{IsTreeTyped, tree_fits};
 ghost use Rattle.poly_moments.specs.PlaneSums.{Entered};
+ghost use Rattle.corner_forest.specs.EntryDamage.{AdditionsMayLeave, IsDamagedForEntry, IsDamagedForPoints};
 ghost use Rattle.corner_forest.specs.Enters.{AreNewPoints, EntryHasRoom, ForestEnters, TakesMore, TreeEnters, entered, entry_of, entry_growth, first_pages};
 ghost use Rattle.bw_types.specs.Heights.{added_pages};
 ghost use Rattle.corner_forest.specs.Entries.{IsNextEntry, entry_points, point_count as count_of_points, root_count, corner_count};
@@ -59,6 +60,9 @@ pub fn enter<X: DomIndex, S: Stage>(
         → IsNextEntry forest.old.params entries (entry_of object.now minus event version)
         → AreBalanced X.DomIndex (S.map stage.old) forest.old.params forest.old.roots.items
         → S.free_in_order stage.old → result ≢ Err (StageFault.Damaged page) }
+    ensures damaged { (page : ℕ) → result ≡ Err (StageFault.Damaged page) → IsTrue (S.tells stage.old)
+        → IsDamagedForEntry X.DomIndex forest.old.params (entry_of object.now minus event version) forest.old.roots.items (S.map stage.old) page
+        ⊎ (¬ S.free_in_order stage.old) }
     // However many page numbers are given out, where the forest does not stand.
     ensures changes { Changes S.Pages (S.allotted stage.new + 1) stage.old stage.new result }
     ensures growth { IsTrue (S.tells stage.old) → (entries : List Entered)
@@ -119,6 +123,8 @@ fn enter_all<X: DomIndex, S: Stage>(
         → NamesNoneTwice (forest_pages X.DomIndex (S.map stage.old) params.now old.now)
         → IsNextEntry params.now entries (entered object.now stamp)
         → ForestEnters X.DomIndex params.now (S.map stage.old) (S.map stage.new) old.now roots.items entries (entered object.now stamp)) }
+    ensures damaged { (page : ℕ) → result ≡ Err (StageFault.Damaged page) → IsTrue (S.tells stage.old)
+        → IsDamagedForEntry X.DomIndex params.now (entered object.now stamp) old.now (S.map stage.old) page ⊎ (¬ S.free_in_order stage.old) }
     ensures rules { IfOk result (λ roots. All (λ t. IsTrue (tree_fits t)) old.now → All (λ t. IsTrue (tree_fits t)) roots.items) }
     ensures sound { (entries : List Entered) (page : ℕ) → IsTrue (S.tells stage.old)
         → ForestStands X.DomIndex (S.map stage.old) params.now old.now entries
@@ -176,6 +182,10 @@ fn enter_root<X: DomIndex, S: Stage>(
         → X.stands (S.map stage.old) params.now.dims root.old points → AreNewPoints params.now (entered object.now stamp) place points
         → TreeEnters X.DomIndex params.now.dims (S.map stage.old) (S.map stage.new) root.old root.new
         (entry_points params.now place (entered object.now stamp)) points) }
+    ensures reached { OnOk result (IsTrue (S.tells stage.old)
+        → AdditionsMayLeave X.DomIndex params.now.dims (count_of_points params.now place) (S.map stage.old) root.old (S.map stage.new) root.new) }
+    ensures damaged { (page : ℕ) → result ≡ Err (StageFault.Damaged page) → IsTrue (S.tells stage.old)
+        → IsDamagedForPoints X.DomIndex params.now (entered object.now stamp) place (S.map stage.old) root.old page ⊎ (¬ S.free_in_order stage.old) }
     ensures rules { OnOk result (IsTrue (tree_fits root.old) → IsTrue (tree_fits root.new)) }
     ensures sound { (points : List Point) (page : ℕ) → IsTrue (S.tells stage.old)
         → X.stands (S.map stage.old) params.now.dims root.old points → AreNewPoints params.now (entered object.now stamp) place points

@@ -1,4 +1,4 @@
-use Rattle.std.proofs.Common.{◌≡◌, ◌+◌, ◌-◌, ◌*◌, ◌<◌, ◌≤◌, Err, IsTrue, List, length, get_or, drop, rules, refl, ap, sym, subst, arith}
+use Rattle.std.proofs.Common.{◌≡◌, ℕ, suc, inl, inr, ◌+◌, ◌-◌, ◌*◌, ◌<◌, ◌≤◌, Err, IsTrue, List, length, get_or, drop, rules, refl, ap, sym, subst, arith}
 use Rattle.std.specs.List.{All}
 use Rattle.std.proofs.lemmas.Result.{err_from_is_err_and}
 use Rattle.std.proofs.lemmas.List.Elements.{All-push}
@@ -8,6 +8,7 @@ use Rattle.bw_types.specs.declared.tree.Tree.{Tree}
 use Rattle.page_ports.specs.declared.page.StageFault.TheVariants.{Damaged}
 use Rattle.page_layout.specs.TreeValue.{tree_fits}
 use Rattle.corner_forest.specs.Enters.{IsEntering, entered, first_page, root_growth, sum_below}
+use Rattle.corner_forest.specs.EntryDamage.{TreesMayLeave}
 use Rattle.corner_forest.specs.Entries.{point_count, root_count, root_points}
 use Rattle.corner_forest.proofs.Entering.{begins, ends, goes_on, next_tree}
 use Rattle.corner_forest.proofs.Exits.{exit_error}
@@ -24,6 +25,7 @@ loop-place-init g c = record {
       subst (λ (l : List Tree). IsEntering g.X.DomIndex c.args.params.now (g.S.Pages.map c.args.stage.now) (g.S.Pages.map c.args.stage.now) c.args.old.now l entries (entered c.args.object.now c.args.stamp) 0)
       (list_start c.new-roots.result.items c.args.old.now c.new-roots.ensures)
       (begins g.X.DomIndex c.index_laws.ensures.by_its_pages c.index_laws.ensures.balance c.index_laws.ensures.in_map c.index_laws.ensures.once c.args.params.now (g.S.Pages.map c.args.stage.now) c.args.old.now entries (entered c.args.object.now c.args.stamp) stands once);
+  reached = search rules;
   rules = search rules;
   growth = search rules;
   small_growth = search rules;
@@ -47,6 +49,17 @@ returns-in_err-enter_root-clause-sound g c = λ entries page tells stands once n
     let tree = next_tree g.X.DomIndex c.index_laws.ensures.by_its_pages c.index_laws.ensures.balance c.index_laws.ensures.in_map c.index_laws.ensures.once params before mid old items (get_or old k empty_tree) (drop (k + 1) old) entries e k c.loop-place.invariant.len now in
     let new = next_is_new params entries e k c.requires.in_range.dims stands.fits c.requires.event next in
     c.in_err-enter_root.ensures.sound (root_points params entries k) page (search rules) tree.0 new (tree.1 low) (c.loop-place.invariant.went.free_in_order tells order) (ap Err same)
+
+pub returns-in_err-enter_root-clause-damaged : goal.returns-in_err-enter_root-clause-damaged
+returns-in_err-enter_root-clause-damaged g c = λ page asked tells.
+    let p = err_from_is_err_and c.from_residual.result c.from_residual.ensures.1 in
+    let same = exit_error c.from_residual.result c.in_err-enter_root.field-0.0 (Damaged page) p asked in
+    let k = c.loop-place.place in
+    let inside : k < root_count c.args.params.now = omega (arith, c.loop-place-test.true, c.root_count-count.ensures.count) in
+    elim (c.in_err-enter_root.ensures.damaged page (ap Err same) (search rules)) [
+      | inl here ↦ inl (k, g.S.Pages.map c.loop-place.stage, inside, c.loop-place.invariant.reached tells, here)
+      | inr not_so ↦ inr (λ order. not_so (c.loop-place.invariant.went.free_in_order tells order))
+    ]
 
 pub returns-in_err-enter_root-clause-growth : goal.returns-in_err-enter_root-clause-growth
 returns-in_err-enter_root-clause-growth g c = λ tells entries stands once next low.
@@ -120,6 +133,10 @@ loop-place-preserved g c =
           let entering = c.in_ok-enter_root.ensures.enters (search rules) (root_points params entries k) tree.0 new in
           subst (λ (l : List Tree). IsEntering g.X.DomIndex params before after old l entries e (k + 1)) (list_push items c.push.new.self.items (drop (k + 1) old) c.enter_root.new.root c.push.ensures.items)
           (goes_on g.X.DomIndex c.index_laws.ensures.by_its_pages c.index_laws.ensures.balance c.index_laws.ensures.in_map c.index_laws.ensures.once params before mid after old items (get_or old k empty_tree) c.enter_root.new.root (drop (k + 1) old) entries e k c.loop-place.invariant.len now entering);
+      reached = λ tells.
+          let step : k + 1 ≡ suc k = omega arith in
+          subst (λ (m : ℕ). TreesMayLeave g.X.DomIndex params old m before after) (sym step)
+          (mid, c.enter_root.new.root, c.loop-place.invariant.reached tells, c.in_ok-enter_root.ensures.reached (search rules));
       rules = λ all.
           subst (λ (l : List Tree). All (λ (t : Tree). IsTrue (tree_fits t)) l) (sym c.push.ensures.items)
           (All-push (λ (t : Tree). IsTrue (tree_fits t)) items c.enter_root.new.root (c.loop-place.invariant.rules all) (c.in_ok-enter_root.ensures.rules (all k empty_tree lt)));

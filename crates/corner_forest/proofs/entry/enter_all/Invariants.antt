@@ -5,6 +5,7 @@ use Rattle.page_layout.specs.Footprint.{NamesNoneTwice}
 use Rattle.page_layout.specs.TreeValue.{tree_fits}
 use Rattle.poly_moments.specs.PlaneSums.{Entered}
 use Rattle.corner_forest.specs.Enters.{EntryHasRoom, IsEntering, entered, first_page, root_growth, sum_below}
+use Rattle.corner_forest.specs.EntryDamage.{TreesMayLeave}
 use Rattle.corner_forest.specs.Entries.{IsNextEntry}
 use Rattle.corner_forest.specs.Stands.{AreBalanced, ForestStands, forest_pages}
 use Rattle.corner_forest.proofs.entry.enter_all.Given as goal
@@ -21,6 +22,7 @@ invariant-loop-place g l =
       went : WentOn pages (pages.allotted l.stage + 1) l.fn.stage l.stage;
       enters : IsTrue (pages.tells l.fn.stage) → (entries : List Entered) → ForestStands index before params l.fn.old entries → NamesNoneTwice (forest_pages index before params l.fn.old)
           → IsNextEntry params entries e → IsEntering index params before (pages.map l.stage) l.fn.old (l.roots.items ++ drop l.place l.fn.old) entries e l.place;
+      reached : IsTrue (pages.tells l.fn.stage) → TreesMayLeave index params l.fn.old l.place before (pages.map l.stage);
       rules : All (λ t. IsTrue (tree_fits t)) l.fn.old → All (λ t. IsTrue (tree_fits t)) l.roots.items;
       growth : IsTrue (pages.tells l.fn.stage) → (entries : List Entered) → ForestStands index before params l.fn.old entries → NamesNoneTwice (forest_pages index before params l.fn.old)
           → IsNextEntry params entries e → AreBalanced index before params l.fn.old

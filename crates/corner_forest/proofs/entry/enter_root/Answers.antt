@@ -1,10 +1,12 @@
-use Rattle.std.proofs.Common.{◌≡◌, ℕ, ◌+◌, ◌-◌, ◌*◌, ◌<◌, ◌≤◌, Err, ◌∷◌, ◌++◌, length, rules, refl, ap, sym, ◌∙◌, subst, arith}
+use Rattle.std.proofs.Common.{◌≡◌, ℕ, suc, inl, inr, ◌+◌, ◌-◌, ◌*◌, ◌<◌, ◌≤◌, Err, ◌∷◌, ◌++◌, length, rules, refl, ap, sym, ◌∙◌, subst, arith}
 use Rattle.std.proofs.lemmas.Result.{err_from_is_err_and}
 use Rattle.bw_types.specs.Heights.{added_pages}
 use Rattle.bw_types.specs.declared.point.Point.{Point}
 use Rattle.page_ports.specs.Calls.{Changes, WentOn}
 use Rattle.page_ports.specs.declared.page.StageFault.TheVariants.{Damaged}
 use Rattle.dom_index.specs.Points.{IsNewPoint}
+use Rattle.corner_forest.specs.EntryDamage.{AdditionsMayLeave}
+use Rattle.corner_forest.specs.Entries.{entry_point, point_count}
 use Rattle.corner_forest.specs.Enters.{TakesMore, TreeEnters, entered, points_from}
 use Rattle.corner_forest.proofs.Adding.{added_length, first_within, growth_within, has_room, more_pages, most_pages, new_next, next_points, one_added}
 use Rattle.corner_forest.proofs.Exits.{exit_error}
@@ -29,6 +31,34 @@ returns-in_err-add-clause-sound g c = λ points page tells stands new low order 
     (new_next params e c.args.place n i (n - 1 - i) points c.point_count-count.ensures.count lt refl new) in
     c.in_err-add.ensures.sound (added ++ points) page (search rules) entered_so_far.stands is_new (entered_so_far.balanced low)
     (c.loop-i.invariant.went.free_in_order tells order) (ap Err same)
+
+pub returns-in_err-add-clause-damaged : goal.returns-in_err-add-clause-damaged
+returns-in_err-add-clause-damaged g c = λ page asked tells.
+    let p = err_from_is_err_and c.from_residual.result c.from_residual.ensures.1 in
+    let same = exit_error c.from_residual.result c.in_err-add.field-0.0 (Damaged page) p asked in
+    let params = c.args.params.now in
+    let dims = params.dims in
+    let e = entered c.args.object.now c.args.stamp in
+    let n = c.point_count-count.result in
+    let i = c.loop-i.i in
+    let before = g.S.Pages.map c.args.stage.now in
+    let mid = g.S.Pages.map c.loop-i.stage in
+    let lt : i < n = c.loop-i-test.true in
+    let is_n = c.point_count-count.ensures.count in
+    let corner = n - 1 - i in
+    let inside : corner < point_count params c.args.place = omega (arith, lt, is_n) in
+    let many : i ≡ point_count params c.args.place - 1 - corner = omega (arith, lt, is_n) in
+    elim (c.in_err-add.ensures.damaged page (ap Err same) (search rules)) [
+      | inl here ↦ inl (
+          corner,
+          mid,
+          c.loop-i.root,
+          inside,
+          subst (λ (m : ℕ). AdditionsMayLeave g.X.DomIndex dims m before c.args.root.now mid c.loop-i.root) many (c.loop-i.invariant.reached tells),
+          subst (λ (q : Point). g.X.DomIndex.damaged_for_add mid dims c.loop-i.root q page) c.entry_point-point.ensures.point here,
+        )
+      | inr not_so ↦ inr (λ order. not_so (c.loop-i.invariant.went.free_in_order tells order))
+    ]
 
 pub returns-in_err-add-clause-growth : goal.returns-in_err-add-clause-growth
 returns-in_err-add-clause-growth g c = λ tells points stands new low.
@@ -112,6 +142,10 @@ loop-i-preserved g c =
           (c.in_ok-add.ensures.stands (search rules) (added ++ points) entered_so_far.stands is_new)
           (c.in_ok-add.ensures.change (search rules) (added ++ points) entered_so_far.stands is_new)
           (λ low. c.in_ok-add.ensures.balanced (search rules) (added ++ points) entered_so_far.stands is_new low);
+      reached = λ tells.
+          let step : i + 1 ≡ suc i = omega arith in
+          subst (λ (m : ℕ). AdditionsMayLeave g.X.DomIndex dims m before c.args.root.now (g.S.Pages.map c.add.new.stage) c.add.new.tree) (sym step)
+          (mid, c.loop-i.root, c.loop-i.invariant.reached tells, c.in_ok-add.ensures.apart (search rules));
       rules = search rules;
       growth = λ tells points stands new low.
           let entered_so_far = c.loop-i.invariant.enters tells points stands new in
@@ -197,3 +231,10 @@ returns-clause-small_growth g c = λ tells points stands new low two takes.
     let one = here.2 some in
     changes_end g.S.Pages (1 - c.args.root.now.levels) c.args.stage.now c.loop-i.stage _
     (subst (λ (m : ℕ). WentOn g.S.Pages (m - c.args.root.now.levels) c.args.stage.now c.loop-i.stage) one (c.loop-i.invariant.small_growth tells points stands new low two more))
+
+pub returns-clause-reached : goal.returns-clause-reached
+returns-clause-reached g c = λ tells.
+    let n = c.point_count-count.result in
+    let done : c.loop-i.i ≡ n = omega (arith, c.loop-i-test.false, c.loop-i.auto.i-end) in
+    subst (λ (m : ℕ). AdditionsMayLeave g.X.DomIndex c.args.params.now.dims m (g.S.Pages.map c.args.stage.now) c.args.root.now (g.S.Pages.map c.loop-i.stage) c.loop-i.root)
+    (done ∙ c.point_count-count.ensures.count) (c.loop-i.invariant.reached tells)
