@@ -50,13 +50,13 @@ returns-in_err-add-clause-damaged g c = λ page asked tells.
     let many : i ≡ point_count params c.args.place - 1 - corner = omega (arith, lt, is_n) in
     elim (c.in_err-add.ensures.damaged page (ap Err same) (search rules)) [
       | inl here ↦ inl (
-          corner,
-          mid,
-          c.loop-i.root,
-          inside,
-          subst (λ (m : ℕ). AdditionsMayLeave g.X.DomIndex dims m before c.args.root.now mid c.loop-i.root) many (c.loop-i.invariant.reached tells),
-          subst (λ (q : Point). g.X.DomIndex.damaged_for_add mid dims c.loop-i.root q page) c.entry_point-point.ensures.point here,
-        )
+        corner,
+        mid,
+        c.loop-i.root,
+        inside,
+        subst (λ (m : ℕ). AdditionsMayLeave g.X.DomIndex dims m before c.args.root.now mid c.loop-i.root) many (c.loop-i.invariant.reached tells),
+        subst (λ (q : Point). g.X.DomIndex.damaged_for_add mid dims c.loop-i.root q page) c.entry_point-point.ensures.point here,
+      )
       | inr not_so ↦ inr (λ order. not_so (c.loop-i.invariant.went.free_in_order tells order))
     ]
 
