@@ -1,0 +1,4 @@
+pub mod Begun
+pub mod Growth
+pub mod Ids
+pub mod Next
