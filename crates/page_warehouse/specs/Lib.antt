@@ -2,5 +2,6 @@ pub mod Costs
 pub mod Created
 pub mod Holds
 pub mod Laws
+pub mod Needs
 pub mod Opened
 pub mod Shown

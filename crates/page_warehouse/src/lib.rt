@@ -7,6 +7,7 @@
 #![tactic(auto)]
 
 mod creating;
+mod house;
 mod laws;
 mod opening;
 mod querying;

@@ -1,0 +1,52 @@
+-- How many page numbers a batch may give out.
+use Rattle.std.specs.Prelude.{ℕ, ◌+◌, ◌*◌, ◌<◌, ◌≤◌, ◌==◌, if◌then◌else◌, List, length, get_or}
+use Rattle.bw_types.specs.Empty.{empty_tree}
+use Rattle.bw_types.specs.Heights.{added_pages}
+use Rattle.bw_types.specs.History.{History, changes, flat}
+use Rattle.bw_types.specs.declared.params.Params.{Params}
+use Rattle.bw_types.specs.declared.row.Row.{Row}
+use Rattle.bw_types.specs.declared.tree.Tree.{Tree}
+use Rattle.page_disk.specs.Image.{Image, page_at}
+use Rattle.page_layout.specs.Meta.{meta_in}
+use Rattle.page_layout.specs.declared.meta.Meta.{Meta}
+use Rattle.poly_moments.specs.Planes.{plane_count}
+use Rattle.corner_forest.specs.Entries.{corner_count, point_count, root_count}
+use Rattle.corner_forest.specs.Enters.{TakesMore}
+
+-- the objects of a table of the earlier form, which the next commit writes anew
+abbrev pub old_objects : Meta → ℕ
+old_objects meta = if meta.lives == 0 then meta.table.count else 0
+
+-- the page numbers that are given out, and those that writing the table anew may take
+abbrev pub meta_charge : Meta → ℕ
+meta_charge meta = meta.allotted + 8 * old_objects meta
+
+-- the same of a disk, by the meta page that it has in its place
+abbrev pub charge_of : Image → ℕ
+charge_of x = meta_charge (meta_in (page_at x.pages 2))
+
+-- the most that one entry takes in the trees, where there are so many with it: for an addition in each tree of weights and of
+-- counts, and in each plane for one at each corner
+abbrev pub most_growth : Params → ℕ → ℕ
+most_growth params entries =
+    2 * corner_count params * added_pages params.dims entries
+    + plane_count params * (corner_count params * added_pages params.dims (entries * corner_count params))
+
+-- the most that so many changes take after so many others: 8 in the table for each, and what its entry takes in the trees
+abbrev pub changes_need : Params → ℕ → ℕ → ℕ
+changes_need params earlier n = n * (8 + most_growth params (earlier + n))
+
+-- the most that a batch takes on a history
+abbrev pub batch_need : Params → History → List Row → ℕ
+batch_need params h rows = changes_need params (length (changes h)) (length (flat rows))
+
+-- Each tree has at most one page, on which there is room for the points of so many changes more.
+abbrev pub HaveRoomFor : Params → List Tree → ℕ → Type 0
+HaveRoomFor params roots n = (root : ℕ) → root < root_count params → TakesMore (n * point_count params root) (get_or roots root empty_tree)
+
+-- By its numbers a batch may find no page on this disk: what it may give out passes the limit. Over two and three dimensions that is
+-- less where all trees stay on one page each.
+pub record LacksPages (x : Image) (params : Params) (h : History) (rows : List Row) : Type 0 where
+  pub need : params.pages < charge_of x + batch_need params h rows
+  pub small : 2 ≤ params.dims → HaveRoomFor params (meta_in (page_at x.pages 2)).roots.items (length (flat rows))
+      → params.pages < charge_of x + 8 * length (flat rows) + root_count params

@@ -1,0 +1,72 @@
+//! The warehouse as the machine of rows and replies sees it.
+
+use crate::Warehouse;
+use bw_types::{Params, Query, Row};
+use dom_index::DomIndex;
+use page_disk::Disk;
+use warehouse::{Committed, House, QueryFault};
+
+impl<D: Disk + Drop, X: DomIndex + Drop> House for Warehouse<D, X> {
+    type Device = D;
+
+    ghost use Rattle.page_disk.specs.Image.{Image as DiskImage};
+    ghost use Rattle.page_disk.specs.Moment.{Moment, MayBeLeftNow, MayBeLeftSince, clock_of};
+    ghost use Rattle.std.specs.Prelude.{List, length};
+    ghost use Rattle.bw_types.specs.History.{changes};
+    ghost use Rattle.page_warehouse.specs.Costs.{query_cost};
+    ghost use Rattle.page_warehouse.specs.Holds.{Holds};
+    ghost use Rattle.page_warehouse.specs.Needs.{LacksPages, batch_need, charge_of};
+    ghost use Rattle.page_warehouse.specs.Shown.{HoldsHistory, disk_in, params_in};
+
+    ghost Image = { DiskImage };
+
+    ghost Moments = { List Moment };
+
+    ghost params = { λ house. params_in house };
+
+    ghost device = { λ house. disk_in house };
+
+    ghost stands = { λ whole disk params h. HoldsHistory D.Disk X.DomIndex whole disk params h };
+
+    ghost moments = { λ disk. D.moments disk };
+
+    ghost clock = { clock_of };
+
+    ghost now = { MayBeLeftNow };
+
+    ghost since = { MayBeLeftSince };
+
+    ghost keeps = { λ x params h. Holds X.DomIndex x params h };
+
+    ghost reads = { λ disk. D.reads disk };
+
+    ghost faults = { λ disk. D.faults disk };
+
+    ghost lacks_pages = { λ disk params h rows. LacksPages (D.image disk) params h rows };
+
+    ghost charge = { λ disk. charge_of (D.image disk) };
+
+    ghost need = { batch_need };
+
+    ghost cost = { λ params h query. query_cost X.cost params h query };
+
+    fn params(&self) -> Params {
+        Warehouse::params(self)
+    }
+
+    fn last(&self) -> u32 {
+        Warehouse::last(self)
+    }
+
+    fn query(&mut self, query: &Query, version: u32) -> Result<i128, QueryFault> {
+        Warehouse::query(self, query, version)
+    }
+
+    fn commit(self, rows: &[Row]) -> Committed<Self, D> {
+        Committed::NoMemory { house: self }
+    }
+
+    fn into_device(self) -> D {
+        self.into_disk()
+    }
+}
