@@ -7,8 +7,9 @@ use Rattle.std.proofs.lemmas.Bool.{cases_Bool}
 use Rattle.std.proofs.lemmas.Grind.{flat_map-append}
 use Rattle.std.proofs.lemmas.List.{get_or_default, take_more, append-nil, drop_all}
 use Rattle.std.proofs.lemmas.List.Folds.{list_all_at}
+use Rattle.std.proofs.lemmas.List.Sums.{sum_by-append}
 use Rattle.bw_types.specs.History.{flat, flat_row}
-use Rattle.bw_types.specs.Refusals.{is_live, was_added, total_mass, row_refusal, first_refused_row, refused_at}
+use Rattle.bw_types.specs.Refusals.{added_mass, is_live, was_added, total_mass, row_refusal, first_refused_row, refused_at}
 use Rattle.bw_types.specs.declared.params.Params.{Params}
 use Rattle.bw_types.specs.declared.change.Change.{Change}
 use Rattle.bw_types.specs.declared.row.Row.{Row}
@@ -36,6 +37,15 @@ pub flat-more : (rows : List Row) (i : ℕ) (d : Row) → i < length rows → fl
 flat-more rows i d within =
     ap flat (take_more rows i d within) ∙ flat_map-append flat_row (take i rows) (get_or rows i d ∷ [])
     ∙ ap (λ cs. flat (take i rows) ++ cs) (append-nil (flat_row (get_or rows i d)))
+
+-- the mass of one row more
+pub mass-more : (params : Params) (rows : List Row) (i : ℕ) (row d : Row) (before now next : ℕ) → i < length rows → row ≡ get_or rows i d → now ≡ before + total_mass params (flat (take i rows))
+    → next ≡ now + total_mass params (flat_row row) → next ≡ before + total_mass params (flat (take (i + 1) rows))
+mass-more params rows i row d before now next within at so_far is =
+    let longer : total_mass params (flat (take (i + 1) rows)) ≡ total_mass params (flat (take i rows)) + total_mass params (flat_row row) =
+    ap (total_mass params) (flat-more rows i d within) ∙ sum_by-append (added_mass params) (flat (take i rows)) (flat_row (get_or rows i d))
+    ∙ ap (λ r. total_mass params (flat (take i rows)) + total_mass params (flat_row r)) (sym at) in
+    omega arith
 
 pub flat_len-more : (rows : List Row) (i : ℕ) (row : Row) (len part next cap : ℕ) → i < length rows → row ≡ get_or rows i row → len ≡ min (length (flat (take i rows))) cap → part ≡ length (flat_row row) → next ≡ min (len + part) cap → next ≡ min (length (flat (take (i + 1) rows))) cap
 flat_len-more rows i row len part next cap within at so_far is now =

@@ -3,7 +3,7 @@ ghost use Rattle.counts.specs.Count.{Rose};
 ghost use Rattle.bw_types.specs.Fits.{IsInRange, object_fits, row_fits};
 ghost use Rattle.bw_types.specs.History.{flat_row};
 ghost use Rattle.bw_types.specs.Mass.{mass, mass_limit};
-ghost use Rattle.bw_types.specs.Refusals.{row_refusal};
+ghost use Rattle.bw_types.specs.Refusals.{row_refusal, total_mass};
 ghost use Rattle.bw_types.specs.declared.change.Change.{Change};
 ghost use Rattle.bw_types.specs.declared.refusal.Reason.TheVariants as why;
 ghost use Rattle.session_book.specs.declared.seen.Life.{Life};
@@ -80,6 +80,7 @@ impl Batch {
             → IsAfter params.now told past staged self.old → standing ≡ standing_after past staged (row_id row.now)
             → (reason ≡ row_refusal params.now past staged row.now)
             × (reason ≡ None → IsAfter params.now told past (staged ++ flat_row row.now) self.new)) }
+        ensures total { IfOk result (λ reason. reason ≡ None → self.new.mass ≡ self.old.mass + total_mass params.now (flat_row row.now)) }
         ensures mass { self.new.mass < 2 ^ 126 }
     {
         match row {

@@ -1,4 +1,4 @@
-ghost use Rattle.std.specs.Prelude.{◌≡◌, ℕ, ◌-◌, ◌^◌, ◌<◌, ◌≤◌, min, List, [], length, IsTrue, Err, IfOk};
+ghost use Rattle.std.specs.Prelude.{◌≡◌, ℕ, ◌+◌, ◌-◌, ◌^◌, ◌<◌, ◌≤◌, min, List, [], length, IsTrue, None, Err, IfOk};
 ghost use Rattle.std.specs.List.{list_all};
 ghost use Rattle.counts.specs.Count.{Rose};
 ghost use Rattle.bw_types.specs.Fits.{IsInRange, row_fits};
@@ -48,6 +48,9 @@ pub fn first_refusal<V: Seen>(
     requires mass { mass < 2 ^ 126 }
     ensures ok { IfOk result (λ refusal. V.tells seen.old → (h : History)
         → IsToldOf params.now (V.life_of seen.old) events mass h → refusal ≡ first_refusal params.now h rows.now) }
+    // Whatever is told, a batch that is accepted keeps to the limits of events and mass.
+    ensures room { IfOk result (λ refusal. refusal ≡ None → events + length (flat rows.now) + 1 ≤ params.now.events) }
+    ensures light { IfOk result (λ refusal. refusal ≡ None → mass + total_mass params.now (flat rows.now) < 2 ^ 126) }
     ensures disk { result ≡ Err BookFault.Disk → Rose (V.faults seen.old) (V.faults seen.new) }
     ensures damaged { (page : ℕ) → result ≡ Err (BookFault.Damaged page) → V.may_blame seen.old page }
     ensures damaged_told { (page : ℕ) → result ≡ Err (BookFault.Damaged page)
@@ -86,6 +89,7 @@ fn first_refused_row<V: Seen>(
     ensures ok { IfOk result (λ refusal. V.tells seen.old → (past : List Change)
         → TellsLives (V.life_of seen.old) past → mass ≡ total_mass params.now past
         → refusal ≡ first_refused_row params.now past [] 1 rows.now) }
+    ensures light { IfOk result (λ refusal. refusal ≡ None → mass + total_mass params.now (flat rows.now) < 2 ^ 126) }
     ensures disk { result ≡ Err BookFault.Disk → Rose (V.faults seen.old) (V.faults seen.new) }
     ensures damaged { (page : ℕ) → result ≡ Err (BookFault.Damaged page) → V.may_blame seen.old page }
     ensures damaged_told { (page : ℕ) → result ≡ Err (BookFault.Damaged page)

@@ -1,4 +1,5 @@
-use Rattle.std.proofs.Common.{◌≡◌, ℕ, ◌^◌, ◌<◌, ◌≤◌, List, IsTrue}
+use Rattle.std.proofs.Common.{◌≡◌, ℕ, ◌+◌, ◌^◌, ◌<◌, ◌≤◌, List, IsTrue, take}
+use Rattle.bw_types.specs.History.{flat}
 use Rattle.bw_types.specs.Refusals.{total_mass}
 use Rattle.bw_types.specs.declared.change.Change.{Change}
 use Rattle.session_book.specs.Told.{TellsLives}
@@ -13,5 +14,6 @@ invariant-loop-i g l = record {
   may_blame : (page : ℕ) → g.V.Seen.may_blame l.seen page → g.V.Seen.may_blame l.fn.seen page;
   stays : g.V.Seen.stays l.fn.seen l.seen;
   mass : l.batch.mass < 2 ^ 126;
+  total : l.batch.mass ≡ l.mass + total_mass l.params (flat (take l.i l.rows));
   so_far : g.V.Seen.tells l.fn.seen → (past : List Change) → TellsLives (g.V.Seen.life_of l.fn.seen) past → l.mass ≡ total_mass l.params past → IsSoFar l.params (g.V.Seen.life_of l.fn.seen) past l.rows l.i l.batch;
 }
