@@ -1,0 +1,9 @@
+pub mod Facts
+pub mod Fronts
+pub mod Growth
+pub mod Lasts
+pub mod NextAdd
+pub mod NextEnd
+pub mod NextEntry
+pub mod Numbers
+pub mod Told
