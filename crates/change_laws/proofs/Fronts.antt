@@ -1,7 +1,7 @@
 -- The fronts of a lawful batch, and what is so of each of its changes.
 use Rattle.std.proofs.Common.{◌≡◌, ℕ, ◌+◌, ◌^◌, ◌<◌, ◌≤◌, Bool, true, false, ◌==◌, nat_lt, List, [], ◌∷◌, ◌++◌, Option, Some, None, is_none, length, map, refl, sym, ◌∙◌, ap, subst, arith, inl, inr, if◌then◌else◌, append_assoc}
 use Rattle.std.proofs.lemmas.Bool.{and_parts, and_from, cases_Bool, le-leb, leb-true, le-ltb, ltb-false}
-use Rattle.std.proofs.lemmas.List.{append-nil, map-append}
+use Rattle.std.proofs.lemmas.List.{append-nil}
 use Rattle.std.proofs.lemmas.List.Folds.{list_all-append}
 use Rattle.std.specs.List.{list_all}
 use Rattle.std.specs.Option.{option_or, option_map}
@@ -13,8 +13,6 @@ use Rattle.bw_types.specs.Refusals.{first_refusal, first_refused_row, refused_at
 use Rattle.bw_types.specs.declared.params.Params.{Params}
 use Rattle.bw_types.specs.declared.change.Change.{Change}
 use Rattle.bw_types.specs.declared.change.Change.TheVariants as change
-use Rattle.bw_types.specs.declared.row.Row.{Row}
-use Rattle.bw_types.specs.declared.row.Row.TheVariants as row
 use Rattle.bw_types.specs.declared.refusal.Reason.TheVariants.{Events}
 use Rattle.history_laws.specs.Alone.{LivesCountChanges}
 use Rattle.history_laws.specs.Bounds.{LawfulHasRoom}

@@ -2,6 +2,7 @@ pub mod Facts
 pub mod Fronts
 pub mod Growth
 pub mod Lasts
+pub mod LifeBounds
 pub mod NextAdd
 pub mod NextEnd
 pub mod NextEntry

@@ -1,8 +1,7 @@
 -- An add that comes next.
-use Rattle.std.proofs.Common.{◌≡◌, ℕ, ◌+◌, ◌^◌, ◌<◌, ◌≤◌, false, List, [], ◌∷◌, ◌++◌, length, refl, sym, ◌∙◌, ap, subst, arith, append_assoc, length-append}
+use Rattle.std.proofs.Common.{◌≡◌, ℕ, ◌+◌, false, List, [], ◌∷◌, ◌++◌, refl, sym, ◌∙◌, ap, subst, arith, append_assoc, length-append}
 use Rattle.std.proofs.lemmas.List.{length_push}
 use Rattle.std.proofs.lemmas.List.Sums.{count_by-le-length}
-use Rattle.std.specs.List.{count_by}
 use Rattle.bw_types.specs.Fits.{IsInRange}
 use Rattle.bw_types.specs.History.{History, adds, changes}
 use Rattle.bw_types.specs.Lawful.{IsLawful, IsLawfulBatch}

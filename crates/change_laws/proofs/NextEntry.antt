@@ -1,5 +1,5 @@
 -- The entry of a change that comes next may follow those of the history.
-use Rattle.std.proofs.Common.{◌≡◌, ℕ, zero, suc, ◌+◌, ◌*◌, ◌^◌, ◌<◌, ◌≤◌, Bool, true, false, ◌==◌, List, [], ◌∷◌, ◌++◌, Option, Some, None, length, refl, sym, ◌∙◌, ap, subst, arith, inl, inr, if◌then◌else◌}
+use Rattle.std.proofs.Common.{◌≡◌, ℕ, zero, suc, ◌+◌, ◌*◌, ◌^◌, ◌<◌, ◌≤◌, Bool, true, false, ◌==◌, List, [], ◌∷◌, ◌++◌, Option, Some, None, length, refl, sym, subst, arith, inl, inr, if◌then◌else◌}
 use Rattle.std.proofs.lemmas.Bool.{cases_Bool}
 use Rattle.std.proofs.lemmas.List.Elements.{All-nil, All-cons, All-append, All-head, All-tail, All-weaker}
 use Rattle.std.specs.List.{All, find}
@@ -7,14 +7,14 @@ use Rattle.std.specs.Option.{option_map_or}
 use Rattle.bw_types.specs.Fits.{IsInRange}
 use Rattle.bw_types.specs.History.{History, changes, last_version, withdraws}
 use Rattle.bw_types.specs.Lawful.{IsLawful}
-use Rattle.bw_types.specs.Lives.{Numbered, numbered, begun_life, lives_after, lives, life_of, withdrawal_of}
+use Rattle.bw_types.specs.Lives.{Numbered, numbered, begun_life, lives_after, life_of, withdrawal_of}
 use Rattle.bw_types.specs.declared.change.Change.{Change}
 use Rattle.bw_types.specs.declared.change.Change.TheVariants as change
 use Rattle.bw_types.specs.declared.dated.Dated.{Dated}
 use Rattle.bw_types.specs.declared.object.Object.{Object}
 use Rattle.bw_types.specs.declared.params.Params.{Params}
 use Rattle.poly_moments.specs.PlaneSums.{Entered}
-use Rattle.corner_forest.specs.Entries.{IsNextEntry, corner_count}
+use Rattle.corner_forest.specs.Entries.{IsNextEntry}
 use Rattle.history_entries.specs.Entries.{begun_entry, ended_entry, entries_of, history_entries, life_entries}
 use Rattle.history_entries.specs.Growing.{EntriesAreChanges}
 use Rattle.history_laws.specs.Bounds.{LawfulHasRoom}

@@ -1,17 +1,17 @@
 -- The numbers of the changes of a history, and of one change more.
-use Rattle.std.proofs.Common.{◌≡◌, ℕ, ◌+◌, ◌<◌, ◌≤◌, Bool, List, [], ◌∷◌, ◌++◌, length, refl, sym, ◌∙◌, ap, arith, append_assoc, length-append}
+use Rattle.std.proofs.Common.{◌≡◌, ℕ, ◌+◌, ◌<◌, ◌≤◌, List, [], ◌∷◌, ◌++◌, length, refl, sym, ◌∙◌, ap, arith, append_assoc, length-append}
 use Rattle.std.proofs.lemmas.List.{append-nil, length_push}
 use Rattle.std.proofs.lemmas.List.Concat.{flat_map-append}
 use Rattle.std.proofs.lemmas.List.Elements.{All-nil, All-cons, All-append, All-weaker}
 use Rattle.std.proofs.lemmas.List.Sums.{sum_by-append, sum_by-cons}
 use Rattle.std.specs.List.{All, count_by}
 use Rattle.bw_types.specs.History.{History, adds, changes, last_version}
-use Rattle.bw_types.specs.Lives.{Numbered, numbered, numbered_batch, numbered_from, lives, lives_after, life_of}
+use Rattle.bw_types.specs.Lives.{Numbered, numbered, numbered_batch, numbered_from, lives, life_of}
 use Rattle.bw_types.specs.declared.change.Change.{Change}
 use Rattle.bw_types.specs.declared.change.Change.TheVariants as change
 use Rattle.bw_types.specs.declared.dated.Dated.{Dated}
 use Rattle.bw_types.specs.declared.object.Object.{Object}
-use Rattle.history_entries.specs.Entries.{entries_of, history_entries}
+use Rattle.history_entries.specs.Entries.{entries_of}
 use Rattle.history_laws.specs.Growing.{LivesGrow, NumbersGrow, lives_in, lives_with}
 use Rattle.change_laws.specs.Begun.{BeginsAlike, begun_life, next_event, next_version, with_changes}
 use Rattle.change_laws.proofs.Lasts.{adds_in, one_if}

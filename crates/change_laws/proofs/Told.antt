@@ -1,9 +1,9 @@
 -- What the last life of an id tells of it.
-use Rattle.std.proofs.Common.{◌≡◌, ◌≢◌, ℕ, Bool, true, false, ◌&&◌, ◌==◌, if◌then◌else◌, List, [], ◌∷◌, Option, Some, None, length, refl, sym, ◌∙◌, ap, subst, arith, ◌≤◌}
+use Rattle.std.proofs.Common.{◌≡◌, ◌≢◌, ℕ, Bool, true, false, ◌&&◌, ◌==◌, if◌then◌else◌, Option, Some, None, refl, ◌∙◌, ap, subst, ◌≤◌}
 use Rattle.std.proofs.lemmas.Bool.{and_left, eq-eqb, ne_eqb}
 use Rattle.std.proofs.lemmas.List.Elements.{All-contains, All-weaker}
 use Rattle.std.proofs.lemmas.List.Folds.{list_any_at, list_any_none}
-use Rattle.std.specs.List.{All, Contains, list_any}
+use Rattle.std.specs.List.{Contains}
 use Rattle.bw_types.specs.History.{History, changes}
 use Rattle.bw_types.specs.Lives.{lives}
 use Rattle.bw_types.specs.Refusals.{is_live, was_added}
@@ -12,7 +12,6 @@ use Rattle.history_laws.specs.Living.{LastLivesTell, LivesTellAdded, LivesTellId
 use Rattle.object_table.specs.Laws.{NoLastNoLife}
 use Rattle.object_table.specs.Lives.{last_life}
 use Rattle.session_book.specs.Told.{life_in}
-use Rattle.session_book.specs.declared.seen.Life.{Life}
 use Rattle.session_book.specs.declared.seen.Life.TheVariants.{Never, Live, Withdrawn}
 use Rattle.change_laws.specs.Ids.{life_told}
 use Rattle.change_laws.proofs.Lasts.{found_among, lasts_are_greatest}
