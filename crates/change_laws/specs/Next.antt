@@ -1,5 +1,5 @@
 -- What a change that comes next in a lawful batch does to the lives and to the entries of the history.
-use Rattle.std.specs.Prelude.{◌≡◌, ◌+◌, ◌^◌, ◌<◌, Bool, true, false, IsTrue, Option, Some, List, [], ◌∷◌, ◌++◌, length}
+use Rattle.std.specs.Prelude.{◌≡◌, ℕ, ◌+◌, ◌^◌, ◌<◌, true, false, IsTrue, Some, List, [], ◌∷◌, ◌++◌, length}
 use Rattle.std.specs.Option.{option_map_or}
 use Rattle.bw_types.specs.Fits.{IsInRange, object_fits}
 use Rattle.bw_types.specs.History.{History}

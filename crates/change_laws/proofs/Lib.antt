@@ -1,0 +1,10 @@
+pub mod Facts
+pub mod Fronts
+pub mod Growth
+pub mod Lasts
+pub mod LifeBounds
+pub mod NextAdd
+pub mod NextEnd
+pub mod NextEntry
+pub mod Numbers
+pub mod Told
