@@ -2,5 +2,7 @@
 #![tactic(auto)]
 
 mod renewing;
+#[cfg(test)]
+mod tests;
 
 pub use renewing::renew;

@@ -9,8 +9,9 @@ ghost use Rattle.object_table.specs.Stands.{TableStands};
 ghost use Rattle.object_table.specs.declared.form.Form.TheVariants.{ByIds, ByLives};
 
 use bw_types::Tree;
-use object_table::{enter, free_old, walk_old};
-use page_ports::{Stage, StageFault};
+use object_table::{enter, free_old, table_laws, walk_old};
+use page_layout::footprint_laws;
+use page_ports::{Stage, StageFault, changes_compose};
 
 /// Writes a table of the earlier form anew by lives, with the same objects, and frees the pages that it had.
 ///
@@ -23,7 +24,8 @@ pub fn renew<S: Stage>(stage: &mut S, old: &Tree) -> Result<Tree, StageFault>
     // The map changes exactly by the pages of the two tables.
     ensures change { IfOk result (λ table. IsTrue (S.tells stage.old) → (lives : List Dated) → TableStands ByIds (S.map stage.old) old.now lives
         → Replaces (table_pages ByIds (S.map stage.old) old.now) (table_pages ByLives (S.map stage.new) table) (S.map stage.old) (S.map stage.new)) }
-    // What a page may spell, whatever the pages hold.
+    // Whatever the pages hold, there are as many objects, and a page may spell what comes back.
+    ensures count { IfOk result (λ table. table.count ≡ old.now.count) }
     ensures rules { IfOk result (λ table. IsTrue (plain_tree_fits table) × IsTreeTyped table) }
     ensures sound { (lives : List Dated) (page : ℕ) → IsTrue (S.tells stage.old) → TableStands ByIds (S.map stage.old) old.now lives
         → length lives < 2 ^ 28 → S.free_in_order stage.old → result ≢ Err (StageFault.Damaged page) }
@@ -32,6 +34,9 @@ pub fn renew<S: Stage>(stage: &mut S, old: &Tree) -> Result<Tree, StageFault>
     ensures growth { IsTrue (S.tells stage.old) → (lives : List Dated) → TableStands ByIds (S.map stage.old) old.now lives
         → length lives < 2 ^ 28 → Changes S.Pages (8 * old.now.count) stage.old stage.new result }
 {
+    table_laws();
+    footprint_laws();
+    changes_compose();
     let mut table = Tree::default();
     let mut after = None;
     for _ in 0..old.count {
