@@ -1,7 +1,6 @@
 -- How many page numbers a batch may give out.
 use Rattle.std.specs.Prelude.{ℕ, ◌+◌, ◌*◌, ◌<◌, ◌≤◌, ◌==◌, if◌then◌else◌, List, length, get_or}
 use Rattle.bw_types.specs.Empty.{empty_tree}
-use Rattle.bw_types.specs.Heights.{added_pages}
 use Rattle.bw_types.specs.History.{History, changes, flat}
 use Rattle.bw_types.specs.declared.params.Params.{Params}
 use Rattle.bw_types.specs.declared.row.Row.{Row}
@@ -9,9 +8,9 @@ use Rattle.bw_types.specs.declared.tree.Tree.{Tree}
 use Rattle.page_disk.specs.Image.{Image, page_at}
 use Rattle.page_layout.specs.Meta.{meta_in}
 use Rattle.page_layout.specs.declared.meta.Meta.{Meta}
-use Rattle.poly_moments.specs.Planes.{plane_count}
-use Rattle.corner_forest.specs.Entries.{corner_count, point_count, root_count}
+use Rattle.corner_forest.specs.Entries.{point_count, root_count}
 use Rattle.corner_forest.specs.Enters.{TakesMore}
+use Rattle.change_laws.specs.Growth.{most_growth}
 
 -- the objects of a table of the earlier form, which the next commit writes anew
 abbrev pub old_objects : Meta → ℕ
@@ -24,13 +23,6 @@ meta_charge meta = meta.allotted + 8 * old_objects meta
 -- the same of a disk, by the meta page that it has in its place
 abbrev pub charge_of : Image → ℕ
 charge_of x = meta_charge (meta_in (page_at x.pages 2))
-
--- the most that one entry takes in the trees, where there are so many with it: for an addition in each tree of weights and of
--- counts, and in each plane for one at each corner
-abbrev pub most_growth : Params → ℕ → ℕ
-most_growth params entries =
-    2 * corner_count params * added_pages params.dims entries
-    + plane_count params * (corner_count params * added_pages params.dims (entries * corner_count params))
 
 -- the most that so many changes take after so many others: 8 in the table for each, and what its entry takes in the trees
 abbrev pub changes_need : Params → ℕ → ℕ → ℕ
