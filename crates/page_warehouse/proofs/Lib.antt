@@ -3,3 +3,10 @@ pub mod ByPages
 pub mod Opened
 pub mod Answered
 pub mod Queried
+pub mod Exits
+pub mod Pages
+pub mod Ends
+pub mod Next
+pub mod Stages
+pub mod Adding
+pub mod Withdrawing

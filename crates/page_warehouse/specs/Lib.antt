@@ -1,5 +1,6 @@
 pub mod Costs
 pub mod Created
+pub mod Entering
 pub mod Holds
 pub mod Laws
 pub mod Needs

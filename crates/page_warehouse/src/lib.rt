@@ -7,10 +7,13 @@
 #![tactic(auto)]
 
 mod creating;
+mod entering;
 mod house;
 mod laws;
 mod opening;
 mod querying;
+mod roots;
+mod seen;
 mod state;
 #[cfg(test)]
 mod tests;

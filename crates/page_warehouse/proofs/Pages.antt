@@ -1,0 +1,101 @@
+-- Table and trees in pages that change: first the table, then the trees.
+use Rattle.std.proofs.Common.{◌≡◌, ℕ, ◌+◌, ◌<◌, ◌^◌, List, [], ◌∷◌, ◌++◌, length, IsPermutation, Option, Some, None, refl, sym, ◌∙◌, ap, subst, arith}
+use Rattle.std.specs.Option.{option_map_or}
+use Rattle.std.proofs.lemmas.List.{append-nil}
+use Rattle.std.proofs.lemmas.List.Sorted.{IsPermutation-sym, IsPermutation-trans, IsPermutation-cons, IsPermutation-to_front}
+use Rattle.bw_types.specs.History.{History}
+use Rattle.bw_types.specs.Lives.{lives}
+use Rattle.bw_types.specs.declared.dated.Dated.{Dated}
+use Rattle.bw_types.specs.declared.params.Params.{Params}
+use Rattle.bw_types.specs.declared.tree.Tree.{Tree}
+use Rattle.page_layout.specs.Footprint.{ApartBothWays, NamesNoneTwice, NoneTwiceByParts}
+use Rattle.page_ports.specs.Frame.{ApartPagesStay, AreApart, Replaces}
+use Rattle.page_ports.specs.Pages.{PageMap}
+use Rattle.object_table.specs.Laws.{PagesAreThere, StandsByItsPages}
+use Rattle.object_table.specs.Lives.{table_pages}
+use Rattle.object_table.specs.Stands.{TableStands}
+use Rattle.object_table.specs.declared.form.Form.TheVariants.{ByLives}
+use Rattle.poly_moments.specs.PlaneSums.{Entered}
+use Rattle.dom_index.specs.declared.index.DomIndex.{Ghosts}
+use Rattle.corner_forest.specs.Laws.{EntryStandsAnywhere, ForestPagesAreThere, ForestStandsByItsPages}
+use Rattle.corner_forest.specs.Stands.{AreBalanced, ForestStands, forest_pages}
+use Rattle.history_entries.specs.Entries.{history_entries}
+use Rattle.page_warehouse.specs.Entering.{PagesKeep}
+use Rattle.page_warehouse.specs.declared.roots.Roots.{Roots}
+
+module _ {X : Type 0} (g : Ghosts X) where
+  -- the laws of the parts
+  pub record PageLaws : Type 0 where
+    pub table_by : StandsByItsPages
+    pub table_there : PagesAreThere
+    pub forest_by : ForestStandsByItsPages g
+    pub forest_there : ForestPagesAreThere g
+    pub anywhere : EntryStandsAnywhere g
+    pub parts : NoneTwiceByParts
+    pub both : ApartBothWays
+    pub stay : ApartPagesStay
+
+  -- The trees stand beside a table with these pages.
+  pub record ForestThere (params : Params) (pages : PageMap) (roots : List Tree) (entries : List Entered) (table : List ℕ) : Type 0 where
+    pub stands : ForestStands g pages params roots entries
+    pub once : NamesNoneTwice (forest_pages g pages params roots)
+    pub balanced : AreBalanced g pages params roots
+    pub apart : AreApart (forest_pages g pages params roots) table
+
+  -- The table changed, and the trees stand as before.
+  pub forest_stays : PageLaws → (params : Params) (before after : PageMap) (roots : List Tree) (entries : List Entered) (old new : List ℕ)
+      → ForestStands g before params roots entries → AreBalanced g before params roots → NamesNoneTwice (old ++ forest_pages g before params roots) → Replaces old new before after
+      → ForestThere params after roots entries new
+  forest_stays laws params before after roots entries old new stands balanced once change =
+      let pages : List ℕ = forest_pages g before params roots in
+      let split = (laws.parts old pages).0 once in
+      let kept = laws.stay pages old new before after change (laws.forest_there before params roots entries stands) (laws.both old pages split.2) in
+      let at = laws.forest_by before after params roots entries stands kept.0 in
+      record {
+        stands = at.0;
+        once = subst (λ (ps : List ℕ). NamesNoneTwice ps) (sym at.1) split.1;
+        balanced = at.2 balanced;
+        apart = subst (λ (ps : List ℕ). AreApart ps new) (sym at.1) kept.1;
+      }
+
+  -- The trees changed, and the table stands as before.
+  pub table_stays : PageLaws → (before after : PageMap) (table : Tree) (kept : List Dated) (old new : List ℕ)
+      → TableStands ByLives before table kept → AreApart old (table_pages ByLives before table) → Replaces old new before after → NamesNoneTwice new
+      → TableStands ByLives after table kept × NamesNoneTwice (table_pages ByLives after table ++ new)
+  table_stays laws before after table kept old new stands apart change once =
+      let pages : List ℕ = table_pages ByLives before table in
+      let stays = laws.stay pages old new before after change (laws.table_there ByLives before table kept stands) (laws.both old pages apart) in
+      let at = laws.table_by ByLives before after table kept stands stays.0 in
+      let own : NamesNoneTwice pages = stands.once in (
+        at.0,
+        subst (λ (ps : List ℕ). NamesNoneTwice (ps ++ new)) (sym at.1) ((laws.parts pages new).1 (own, once, stays.1)),
+      )
+
+  -- what is kept, of a forest for the same params
+  pub keeps : (pages : PageMap) (roots : Roots) (params : Params) (h : History) → roots.forest.params ≡ params → (kept : List Dated) → TableStands ByLives pages roots.table kept
+      → IsPermutation kept (lives h) → ForestStands g pages params roots.forest.roots.items (history_entries h) → AreBalanced g pages params roots.forest.roots.items
+      → NamesNoneTwice (table_pages ByLives pages roots.table ++ forest_pages g pages params roots.forest.roots.items) → PagesKeep g pages roots h
+  keeps pages roots params h same kept stands all forest balanced apart =
+      let at : params ≡ roots.forest.params = sym same in
+      record {
+        kept = kept;
+        stands = stands;
+        all = all;
+        forest = subst (λ (p : Params). ForestStands g pages p roots.forest.roots.items (history_entries h)) at forest;
+        balanced = subst (λ (p : Params). AreBalanced g pages p roots.forest.roots.items) at balanced;
+        apart = subst (λ (p : Params). NamesNoneTwice (table_pages ByLives pages roots.table ++ forest_pages g pages p roots.forest.roots.items)) at apart;
+      }
+
+  -- an entry that was made at the front, put in its place
+  pub entry_placed : PageLaws → (pages : PageMap) (params : Params) (roots : List Tree) (e : Entered) (before after es fs : List Entered) → es ≡ before ++ after → fs ≡ before ++ e ∷ after
+      → ForestStands g pages params roots (e ∷ es) → ForestStands g pages params roots fs
+  entry_placed laws pages params roots e before after es fs was is stands =
+      subst (λ (l : List Entered). ForestStands g pages params roots l) (sym is)
+      ((laws.anywhere pages params roots before after e).0 (subst (λ (l : List Entered). ForestStands g pages params roots (e ∷ l)) was stands))
+
+-- One life more, at the end of the one list and at its place in the other.
+pub one_more : (d : Dated) (kept with_d others all : List Dated) → IsPermutation kept others → IsPermutation (d ∷ kept) with_d → all ≡ others ++ d ∷ [] → IsPermutation with_d all
+one_more d kept with_d others all same put is =
+    subst (λ (l : List Dated). IsPermutation with_d l) (sym is)
+    (IsPermutation-trans with_d (d ∷ kept) (others ++ d ∷ []) (IsPermutation-sym (d ∷ kept) with_d put)
+    (IsPermutation-trans (d ∷ kept) (d ∷ others) (others ++ d ∷ []) (IsPermutation-cons d kept others same) (IsPermutation-sym (others ++ d ∷ []) (d ∷ others) (IsPermutation-to_front others d))))
