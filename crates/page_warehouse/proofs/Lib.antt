@@ -10,3 +10,5 @@ pub mod Next
 pub mod Stages
 pub mod Adding
 pub mod Withdrawing
+pub mod Steps
+pub mod Rows
