@@ -4,7 +4,9 @@ use Rattle.std.proofs.Math.Seq.{drop-cons}
 use Rattle.std.proofs.lemmas.Grind.{flat_map-append}
 use Rattle.std.proofs.lemmas.List.{take_more, take-append-drop, append-nil}
 use Rattle.bw_types.specs.History.{History, flat, flat_row}
+use Rattle.std.proofs.lemmas.List.Sums.{sum_by-append}
 use Rattle.bw_types.specs.Lawful.{IsLawfulBatch}
+use Rattle.bw_types.specs.Refusals.{added_mass, total_mass}
 use Rattle.bw_types.specs.declared.change.Change.{Change}
 use Rattle.bw_types.specs.declared.params.Params.{Params}
 use Rattle.bw_types.specs.declared.row.Row.{Row}
@@ -58,3 +60,16 @@ each-part a b c n each is = subst (λ (m : ℕ). a * each + b * each ≤ m * eac
 -- what stands at a place outside of a list of rows
 abbrev pub blank_row : Row
 blank_row = row.Add (record { id = 0; low = []; high = []; weight = pos 0; coeffs = [] })
+
+-- the mass of the rows before, of this one and of those after it
+pub mass-at : (params : Params) (rows : List Row) (i : ℕ) (d : Row) → i < length rows
+    → total_mass params (flat rows) ≡ total_mass params (flat (take i rows)) + (total_mass params (flat_row (get_or rows i d)) + total_mass params (flat (drop (i + 1) rows)))
+mass-at params rows i d within =
+    ap (total_mass params) (flat-at rows i d within)
+    ∙ sum_by-append (added_mass params) (flat (take i rows)) (flat_row (get_or rows i d) ++ flat (drop (i + 1) rows))
+    ∙ ap (λ (n : ℕ). total_mass params (flat (take i rows)) + n) (sum_by-append (added_mass params) (flat_row (get_or rows i d)) (flat (drop (i + 1) rows)))
+
+pub mass-more : (params : Params) (rows : List Row) (i : ℕ) (d : Row) → i < length rows
+    → total_mass params (flat (take (i + 1) rows)) ≡ total_mass params (flat (take i rows)) + total_mass params (flat_row (get_or rows i d))
+mass-more params rows i d within =
+    ap (total_mass params) (flat-more rows i d within) ∙ sum_by-append (added_mass params) (flat (take i rows)) (flat_row (get_or rows i d))

@@ -1,5 +1,5 @@
 -- What the pages of a stage keep while the changes of a batch are entered, one by one.
-use Rattle.std.specs.Prelude.{◌≡◌, ◌≢◌, ℕ, ◌+◌, ◌≤◌, IsTrue, List, ◌++◌, length, Result, Err, OnOk, IsPermutation}
+use Rattle.std.specs.Prelude.{◌≡◌, ◌≢◌, ℕ, ◌≤◌, Bool, true, false, IsTrue, List, ◌++◌, length, Result, Err, OnOk, IsPermutation}
 use Rattle.std.specs.List.{All}
 use Rattle.bw_types.specs.Fits.{IsInRange}
 use Rattle.bw_types.specs.History.{History}
@@ -17,7 +17,7 @@ use Rattle.page_layout.specs.TreeValue.{plain_tree_fits, tree_fits}
 use Rattle.corner_forest.specs.Entries.{root_count}
 use Rattle.object_table.specs.Lives.{table_pages}
 use Rattle.object_table.specs.Stands.{TableStands}
-use Rattle.object_table.specs.declared.form.Form.TheVariants.{ByLives}
+use Rattle.object_table.specs.declared.form.Form.TheVariants.{ByIds, ByLives}
 use Rattle.dom_index.specs.declared.index.DomIndex.{Ghosts}
 use Rattle.corner_forest.specs.Stands.{AreBalanced, ForestStands, forest_pages}
 use Rattle.history_entries.specs.Entries.{history_entries}
@@ -33,6 +33,19 @@ module _ {X : Type 0} (g : Ghosts X) where
     pub forest : ForestStands g pages roots.forest.params roots.forest.roots.items (history_entries h)
     pub balanced : AreBalanced g pages roots.forest.params roots.forest.roots.items
     pub apart : NamesNoneTwice (table_pages ByLives pages roots.table ++ forest_pages g pages roots.forest.params roots.forest.roots.items)
+
+  -- The same of a table of the earlier form.
+  pub record OldPagesKeep (pages : PageMap) (roots : Roots) (h : History) : Type 0 where
+    pub kept : List Dated
+    pub stands : TableStands ByIds pages roots.table kept
+    pub all : IsPermutation kept (lives h)
+    pub forest : ForestStands g pages roots.forest.params roots.forest.roots.items (history_entries h)
+    pub balanced : AreBalanced g pages roots.forest.params roots.forest.roots.items
+    pub apart : NamesNoneTwice (table_pages ByIds pages roots.table ++ forest_pages g pages roots.forest.params roots.forest.roots.items)
+
+  abbrev pub FormKeeps : Bool → PageMap → Roots → History → Type 0
+  FormKeeps true pages roots h = OldPagesKeep pages roots h
+  FormKeeps false pages roots h = PagesKeep pages roots h
 
 -- The table and the trees are such as a meta page may spell, and the forest is one for so many dimensions.
 pub record RootsFit (most : ℕ) (roots : Roots) : Type 0 where

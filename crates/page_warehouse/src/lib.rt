@@ -10,11 +10,13 @@ mod creating;
 mod entering;
 mod house;
 mod laws;
+mod masses;
 mod opening;
 mod querying;
 mod roots;
 mod seen;
 mod state;
+mod upgrading;
 #[cfg(test)]
 mod tests;
 
