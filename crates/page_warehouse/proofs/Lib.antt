@@ -12,3 +12,4 @@ pub mod Adding
 pub mod Withdrawing
 pub mod Steps
 pub mod Rows
+pub mod Here

@@ -6,6 +6,7 @@
 //! opening a disk, at whatever moment the program was stopped, gives the history that it holds.
 #![tactic(auto)]
 
+mod committing;
 mod creating;
 mod entering;
 mod house;

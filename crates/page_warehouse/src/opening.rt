@@ -46,7 +46,7 @@ fn goes_together(params: &Params, meta: &Meta, roots: usize) -> bool
 }
 
 // The roots as a forest keeps them.
-fn copied(trees: &[Tree]) -> ArrayVec<Tree, 96>
+pub(crate) fn copied(trees: &[Tree]) -> ArrayVec<Tree, 96>
     requires { length trees.now ≤ 96 }
     ensures { result.items ≡ trees.now }
 {
@@ -126,6 +126,7 @@ impl<D: Disk, X: DomIndex> Warehouse<D, X> {
         }
         forest.roots = copied(space.meta().roots.as_slice());
         Ok(Warehouse {
+            alloc,
             space,
             forest,
             index: PhantomData,

@@ -43,7 +43,8 @@ impl<D: Disk> Seen for TableSeen<D> {
 
     ghost faults = { λ seen. D.faults (disk_of seen.space) };
 
-    ghost may_blame = { λ seen page. Unit {0} };
+    // A page is damaged only where the table stands for none.
+    ghost may_blame = { λ seen page. IsTrue (D.tells (disk_of seen.space)) × ((kept : List Dated) × TableStands seen.form (map_of seen.space) seen.table kept) → ⊥ };
 
     // The space, the form and the table are as they were.
     ghost stays = { λ old new. (begun_of new.space ≡ begun_of old.space) × (new.form ≡ old.form) × (new.table ≡ old.table) };

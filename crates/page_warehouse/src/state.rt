@@ -10,6 +10,7 @@ use corner_forest::Forest;
 use dom_index::DomIndex;
 use page_disk::Disk;
 use page_space::{Space, holds_one};
+use std::alloc::Global;
 use std::marker::PhantomData;
 
 /// A warehouse on a disk, over an index of points.
@@ -17,6 +18,7 @@ use std::marker::PhantomData;
 /// Queries read the trees of the index alone, through the cache of the space.
 #[derive(Drop)]
 pub struct Warehouse<D: Disk, X: DomIndex> {
+    pub(crate) alloc: Global,
     pub(crate) space: Space<D>,
     pub(crate) forest: Forest,
     pub(crate) index: PhantomData<X>,
@@ -56,6 +58,7 @@ impl<D: Disk, X: DomIndex> Warehouse<D, X> {
         ensures { result ≡ disk_in self }
     {
         let Warehouse {
+            alloc: _,
             space,
             forest: _,
             index: _,

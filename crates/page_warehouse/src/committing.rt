@@ -1,0 +1,212 @@
+//! A commit: a batch is judged, entered in pages that stand by, and made lasting, all of it or nothing.
+ghost use Rattle.std.specs.Prelude.{◌≡◌, ◌≢◌, ℕ, ◌+◌, ◌^◌, ◌<◌, ◌≤◌, ◌⊎◌, true, None, Err, length, IsTrue, IfOk};
+ghost use Rattle.std.specs.List.{All, list_all};
+ghost use Rattle.bw_types.specs.Fits.{row_fits};
+ghost use Rattle.bw_types.specs.History.{History, flat, last_version};
+ghost use Rattle.bw_types.specs.Lawful.{IsLawfulBatch};
+ghost use Rattle.bw_types.specs.Refusals.{first_refusal, total_mass};
+ghost use Rattle.corner_forest.specs.Entries.{root_count};
+ghost use Rattle.counts.specs.Count.{Rose};
+ghost use Rattle.page_disk.specs.Since.{LeavesNow, LeavesOnly};
+ghost use Rattle.page_space.specs.Shown.{begun_of, disk_of, meta_of, params_of};
+ghost use Rattle.session_book.specs.declared.refusals.BookFault.{BookFault};
+ghost use Rattle.warehouse.specs.Committed.{IfDisk, IfDone, IfKept, IfPageLimit, IsCommitCause, device_out, with_batch};
+ghost use Rattle.page_warehouse.specs.Holds.{Holds, table_form};
+ghost use Rattle.page_warehouse.specs.Needs.{batch_need, charge_of};
+
+use crate::Warehouse;
+use crate::masses::mass_with;
+use crate::opening::copied;
+use crate::roots::Roots;
+use crate::seen::TableSeen;
+use crate::upgrading::enter_batch;
+use bw_types::{Refusal, Row};
+use change_laws::table_tells_ids;
+use corner_forest::Forest;
+use dom_index::DomIndex;
+use history_laws::{accepted_batches_are_lawful, histories_grow_by_lawful_batches, lawful_histories_have_room};
+use object_table::Form;
+use page_disk::Disk;
+use page_layout::Meta;
+use page_ports::StageFault;
+use page_space::{Space, Staged, holds_one};
+use session_book::{BookFault, first_refusal};
+use std::alloc::Global;
+use std::marker::PhantomData;
+use warehouse::Committed;
+
+// A warehouse that was judged, and what was found.
+#[derive(Drop)]
+pub(crate) struct Judged<D: Disk, X: DomIndex> {
+    pub(crate) house: Warehouse<D, X>,
+    pub(crate) found: Result<Option<Refusal>, BookFault>,
+}
+
+// The form of the table that the meta page names.
+fn form_of(meta: &Meta) -> Form
+    ensures { result ≡ table_form meta.now }
+{
+    if meta.lives == 0 {
+        Form::ByIds
+    } else {
+        Form::ByLives
+    }
+}
+
+impl<D: Disk, X: DomIndex> Warehouse<D, X> {
+    ghost use Rattle.page_warehouse.specs.Shown.{HoldsHistory, disk_in, meta_in, params_in, space_in};
+
+    // The warehouse over a space whose meta page keeps the rules of one.
+    pub(crate) fn over(alloc: Global, space: Space<D>) -> Warehouse<D, X>
+        requires dims { (params_of space).dims ≤ X.DIMS }
+        requires roots { length (meta_of space).roots.items ≡ root_count (params_of space) }
+        requires rows { (meta_of space).version + (meta_of space).rows ≡ (meta_of space).events }
+        requires events { (meta_of space).events ≤ (params_of space).events }
+        requires mass { (meta_of space).mass < 2 ^ 126 }
+        ensures { space_in result ≡ space }
+    {
+        let mut forest = Forest::new(&space.params());
+        forest.roots = copied(space.meta().roots.as_slice());
+        Warehouse {
+            alloc,
+            space,
+            forest,
+            index: PhantomData,
+        }
+    }
+
+    // The first refusal of the rows, by what the table tells.
+    pub(crate) fn judge(self, rows: &[Row]) -> Judged<D, X>
+        requires fit { IsTrue (list_all (row_fits (params_in self)) rows.now) }
+        ensures stays { begun_of (space_in result.house) ≡ begun_of (space_in self) }
+        ensures faults { D.faults (disk_in self) ≤ D.faults (disk_in result.house) }
+        ensures ok { IfOk result.found (λ refusal. (h : History) → HoldsHistory D.Disk X.DomIndex true (disk_in self) (params_in self) h
+            → refusal ≡ first_refusal (params_in self) h rows.now) }
+        ensures room { IfOk result.found (λ refusal. refusal ≡ None → (meta_in self).events + length (flat rows.now) + 1 ≤ (params_in self).events) }
+        ensures light { IfOk result.found (λ refusal. refusal ≡ None → (meta_in self).mass + total_mass (params_in self) (flat rows.now) < 2 ^ 126) }
+        ensures disk { result.found ≡ Err BookFault.Disk → Rose (D.faults (disk_in self)) (D.faults (disk_in result.house)) }
+        ensures sound { (h : History) (page : ℕ) → HoldsHistory D.Disk X.DomIndex true (disk_in self) (params_in self) h → result.found ≢ Err (BookFault.Damaged page) }
+    {
+        holds_one();
+        table_tells_ids();
+        self.space.is_held();
+        let Warehouse {
+            alloc,
+            space,
+            forest: _,
+            index: _,
+        } = self;
+        let (params, events, mass) = (space.params(), space.meta().events, space.meta().mass);
+        let (form, table) = (form_of(space.meta()), space.meta().table);
+        let mut seen = TableSeen { space, form, table };
+        let found = first_refusal(alloc, &mut seen, &params, events, mass, rows);
+        Judged {
+            house: Warehouse::over(alloc, seen.space),
+            found,
+        }
+    }
+
+    // What becomes of the warehouse where the stage is abandoned for this fault.
+    fn given_back(alloc: Global, space: Space<D>, fault: StageFault) -> Committed<Warehouse<D, X>, D>
+        requires dims { (params_of space).dims ≤ X.DIMS }
+        requires roots { length (meta_of space).roots.items ≡ root_count (params_of space) }
+        requires rows { (meta_of space).version + (meta_of space).rows ≡ (meta_of space).events }
+        requires events { (meta_of space).events ≤ (params_of space).events }
+        requires mass { (meta_of space).mass < 2 ^ 126 }
+        ensures kept { IfKept result (λ house. space_in house ≡ space) }
+        ensures device { device_out disk_in result ≡ disk_of space }
+        ensures disk { IfDisk result (fault ≡ StageFault.Disk) }
+        ensures cause { ((page : ℕ) → fault ≢ StageFault.Damaged page) → IsCommitCause None result }
+        ensures page_limit { IfPageLimit result (λ house allotted. fault ≡ StageFault.PageLimit allotted) }
+        ensures not_done { IfDone result (λ house version. ⊥) }
+    {
+        match fault {
+            StageFault::Disk => Committed::Disk {
+                device: space.into_disk(),
+            },
+            StageFault::Damaged(page) => Committed::Damaged {
+                house: Warehouse::over(alloc, space),
+                page,
+            },
+            StageFault::PageLimit(allotted) => Committed::PageLimit {
+                house: Warehouse::over(alloc, space),
+                allotted,
+            },
+            StageFault::NoMemory => Committed::NoMemory {
+                house: Warehouse::over(alloc, space),
+            },
+        }
+    }
+
+    // Puts rows that have no refusal last in the history.
+    pub(crate) fn put(self, rows: &[Row]) -> Committed<Warehouse<D, X>, D>
+        requires fit { IsTrue (list_all (row_fits (params_in self)) rows.now) }
+        requires room { (meta_in self).events + length (flat rows.now) + 1 ≤ (params_in self).events }
+        requires light { (meta_in self).mass + total_mass (params_in self) (flat rows.now) < 2 ^ 126 }
+        ensures cause { (h : History) → HoldsHistory D.Disk X.DomIndex true (disk_in self) (params_in self) h
+            → IsLawfulBatch (params_in self) h (flat rows.now) → IsCommitCause None result }
+        ensures done { (h : History) → HoldsHistory D.Disk X.DomIndex true (disk_in self) (params_in self) h
+            → IsLawfulBatch (params_in self) h (flat rows.now) → IfDone result (λ house version.
+            (version ≡ last_version h + 1) × HoldsHistory D.Disk X.DomIndex true (disk_in house) (params_in self) (with_batch h rows.now)) }
+        ensures kept { IfKept result (λ house. begun_of (space_in house) ≡ begun_of (space_in self)) }
+        ensures params_done { IfDone result (λ house version. params_in house ≡ params_in self) }
+        ensures any_moment { (h : History) → HoldsHistory D.Disk X.DomIndex true (disk_in self) (params_in self) h
+            → IsLawfulBatch (params_in self) h (flat rows.now) → LeavesOnly
+            (λ x. Holds X.DomIndex x (params_in self) h ⊎ Holds X.DomIndex x (params_in self) (with_batch h rows.now))
+            (D.moments (disk_in self)) (D.moments (device_out disk_in result)) }
+        ensures settled { IfDone result (λ house version. LeavesNow (D.moments (disk_in house)) (D.image (disk_in house))) }
+        ensures at_limit { IfPageLimit result (λ house allotted. allotted ≡ (params_in self).pages) }
+        ensures page_limit { (h : History) → HoldsHistory D.Disk X.DomIndex true (disk_in self) (params_in self) h
+            → IsLawfulBatch (params_in self) h (flat rows.now) → IfPageLimit result (λ house allotted.
+            (params_in self).pages < charge_of (D.image (disk_in self)) + batch_need (params_in self) h rows.now) }
+        ensures charge_done { (h : History) → HoldsHistory D.Disk X.DomIndex true (disk_in self) (params_in self) h
+            → IsLawfulBatch (params_in self) h (flat rows.now) → IfDone result (λ house version.
+            charge_of (D.image (disk_in house)) ≤ charge_of (D.image (disk_in self)) + batch_need (params_in self) h rows.now) }
+        ensures disk { IfDisk result (Rose (D.faults (disk_in self)) (D.faults (device_out disk_in result))) }
+        ensures faults { D.faults (disk_in self) ≤ D.faults (device_out disk_in result) }
+    {
+        // One space stands on a disk, and the batch makes a lawful history.
+        holds_one();
+        histories_grow_by_lawful_batches();
+        lawful_histories_have_room();
+        self.space.is_held();
+        let Warehouse {
+            alloc,
+            space,
+            forest,
+            index: _,
+        } = self;
+        let params = space.params();
+        let (by_ids, table) = (space.meta().lives == 0, space.meta().table);
+        let (events, first) = (space.meta().events, space.meta().rows);
+        let version = space.meta().version + 1;
+        let mass = mass_with(&params, rows, space.meta().mass);
+        let mut roots = Roots { table, forest };
+        let mut stage = space.begin();
+        let end = match enter_batch::<X, Staged<D>>(&mut stage, &mut roots, by_ids, rows, first, version) {
+            Ok(end) => end,
+            Err(fault) => return Warehouse::given_back(alloc, stage.abandon(), fault),
+        };
+        let meta = Meta {
+            lives: 1,
+            version,
+            events: events + (end - first) + 1,
+            rows: end,
+            allotted: 3,
+            free: 0,
+            mass,
+            table: roots.table,
+            roots: copied(roots.forest.roots.as_slice()),
+        };
+        if stage.set_meta(&meta).is_err() {
+            return Warehouse::given_back(alloc, stage.abandon(), StageFault::NoMemory);
+        }
+        match stage.commit() {
+            Ok(space) => Committed::Done {
+                house: Warehouse::over(alloc, space),
+                version,
+            },
+            Err(device) => Committed::Disk { device },
+        }
+    }
+}
