@@ -13,3 +13,6 @@ pub mod Withdrawing
 pub mod Steps
 pub mod Rows
 pub mod Here
+pub mod MetaSet
+pub mod Outcomes
+pub mod Drafted

@@ -1,10 +1,10 @@
 -- Calls on a stage, one after another.
-use Rattle.std.proofs.Common.{◌≡◌, ℕ, ◌+◌, ◌≤◌, IsTrue, Result, Ok, Err, OnOk, sym, ◌∙◌, ap, subst, arith}
+use Rattle.std.proofs.Common.{◌≡◌, ℕ, ◌+◌, ◌≤◌, IsTrue, Result, Ok, Err, OnErr, OnOk, sym, ◌∙◌, ap, subst, arith}
 use Rattle.counts.specs.Count.{Rose}
 use Rattle.page_ports.specs.Calls.{Changes, Grows, IsForgotten, WasRead, WentOn}
 use Rattle.page_ports.specs.Frame.{names_page}
 use Rattle.page_ports.specs.declared.page.StageFault.{StageFault}
-use Rattle.page_ports.specs.declared.page.StageFault.TheVariants.{Disk, PageLimit}
+use Rattle.page_ports.specs.declared.page.StageFault.TheVariants.{Damaged, Disk, NoMemory, PageLimit}
 use Rattle.page_ports.specs.declared.pages.Pages.{Ghosts}
 use Rattle.page_warehouse.proofs.Exits.{exit_error}
 
@@ -69,3 +69,12 @@ refused {P} {T} g most old new q fault told changes = record {
   disk = λ e. let same = exit_error q fault Disk told e in let asked : ◌≡◌ {A = Result T StageFault} (Err fault) (Err Disk) = cc in changes.disk asked;
   page_limit = λ n e. let same = exit_error q fault (PageLimit n) told e in let asked : ◌≡◌ {A = Result T StageFault} (Err fault) (Err (PageLimit n)) = cc in changes.page_limit n asked;
 }
+
+pub ok_anyway : {T E : Type 0} (r : Result T E) (Q : Type 0) → Q → OnOk r Q
+ok_anyway (Ok v) Q q = q
+ok_anyway (Err e) Q q = tt
+
+-- where only memory is wanting no page is damaged
+pub not_damaged : {T : Type 0} (r : Result T StageFault) → OnErr r (r ≡ Err NoMemory) → (page : ℕ) → r ≡ Err (Damaged page) → ⊥
+not_damaged (Ok v) p page asked = cc
+not_damaged (Err e) p page asked = cc

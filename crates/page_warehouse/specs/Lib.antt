@@ -4,5 +4,6 @@ pub mod Entering
 pub mod Holds
 pub mod Laws
 pub mod Needs
+pub mod NextMeta
 pub mod Opened
 pub mod Shown

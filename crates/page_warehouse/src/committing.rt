@@ -1,5 +1,5 @@
 //! A commit: a batch is judged, entered in pages that stand by, and made lasting, all of it or nothing.
-ghost use Rattle.std.specs.Prelude.{◌≡◌, ◌≢◌, ℕ, ◌+◌, ◌^◌, ◌<◌, ◌≤◌, ◌⊎◌, true, None, Err, length, IsTrue, IfOk};
+ghost use Rattle.std.specs.Prelude.{◌≡◌, ◌≢◌, ℕ, ◌+◌, ◌^◌, ◌<◌, ◌≤◌, ◌==◌, ◌⊎◌, true, None, Err, length, IsTrue, IfOk};
 ghost use Rattle.std.specs.List.{All, list_all};
 ghost use Rattle.bw_types.specs.Fits.{row_fits};
 ghost use Rattle.bw_types.specs.History.{History, flat, last_version};
@@ -12,24 +12,23 @@ ghost use Rattle.page_space.specs.Shown.{begun_of, disk_of, meta_of, params_of};
 ghost use Rattle.session_book.specs.declared.refusals.BookFault.{BookFault};
 ghost use Rattle.warehouse.specs.Committed.{IfDisk, IfDone, IfKept, IfPageLimit, IsCommitCause, device_out, with_batch};
 ghost use Rattle.page_warehouse.specs.Holds.{Holds, table_form};
-ghost use Rattle.page_warehouse.specs.Needs.{batch_need, charge_of};
+ghost use Rattle.page_warehouse.specs.Needs.{batch_need, meta_charge};
 
 use crate::Warehouse;
-use crate::masses::mass_with;
+use crate::drafting::{Counts, draft};
 use crate::opening::copied;
 use crate::roots::Roots;
 use crate::seen::TableSeen;
-use crate::upgrading::enter_batch;
 use bw_types::{Refusal, Row};
 use change_laws::table_tells_ids;
 use corner_forest::Forest;
 use dom_index::DomIndex;
-use history_laws::{accepted_batches_are_lawful, histories_grow_by_lawful_batches, lawful_histories_have_room};
+use history_laws::histories_grow_by_lawful_batches;
 use object_table::Form;
 use page_disk::Disk;
 use page_layout::Meta;
 use page_ports::StageFault;
-use page_space::{Space, Staged, holds_one};
+use page_space::{Space, holds_one};
 use session_book::{BookFault, first_refusal};
 use std::alloc::Global;
 use std::marker::PhantomData;
@@ -42,11 +41,33 @@ pub(crate) struct Judged<D: Disk, X: DomIndex> {
     pub(crate) found: Result<Option<Refusal>, BookFault>,
 }
 
+// Whether the table has the earlier form.
+fn is_by_ids(meta: &Meta) -> bool
+    ensures { result ≡ (meta.now.lives == 0) }
+{
+    meta.lives == 0
+}
+
+// What the meta page counts.
+fn counts(meta: &Meta) -> Counts
+    ensures version { result.version ≡ meta.now.version }
+    ensures events { result.events ≡ meta.now.events }
+    ensures rows { result.rows ≡ meta.now.rows }
+    ensures mass { result.mass ≡ meta.now.mass }
+{
+    Counts {
+        version: meta.version,
+        events: meta.events,
+        rows: meta.rows,
+        mass: meta.mass,
+    }
+}
+
 // The form of the table that the meta page names.
 fn form_of(meta: &Meta) -> Form
     ensures { result ≡ table_form meta.now }
 {
-    if meta.lives == 0 {
+    if is_by_ids(meta) {
         Form::ByIds
     } else {
         Form::ByLives
@@ -158,17 +179,16 @@ impl<D: Disk, X: DomIndex> Warehouse<D, X> {
         ensures at_limit { IfPageLimit result (λ house allotted. allotted ≡ (params_in self).pages) }
         ensures page_limit { (h : History) → HoldsHistory D.Disk X.DomIndex true (disk_in self) (params_in self) h
             → IsLawfulBatch (params_in self) h (flat rows.now) → IfPageLimit result (λ house allotted.
-            (params_in self).pages < charge_of (D.image (disk_in self)) + batch_need (params_in self) h rows.now) }
+            (params_in self).pages < meta_charge (meta_in self) + batch_need (params_in self) h rows.now) }
         ensures charge_done { (h : History) → HoldsHistory D.Disk X.DomIndex true (disk_in self) (params_in self) h
             → IsLawfulBatch (params_in self) h (flat rows.now) → IfDone result (λ house version.
-            charge_of (D.image (disk_in house)) ≤ charge_of (D.image (disk_in self)) + batch_need (params_in self) h rows.now) }
+            meta_charge (meta_in house) ≤ meta_charge (meta_in self) + batch_need (params_in self) h rows.now) }
         ensures disk { IfDisk result (Rose (D.faults (disk_in self)) (D.faults (device_out disk_in result))) }
         ensures faults { D.faults (disk_in self) ≤ D.faults (device_out disk_in result) }
     {
         // One space stands on a disk, and the batch makes a lawful history.
         holds_one();
         histories_grow_by_lawful_batches();
-        lawful_histories_have_room();
         self.space.is_held();
         let Warehouse {
             alloc,
@@ -176,35 +196,16 @@ impl<D: Disk, X: DomIndex> Warehouse<D, X> {
             forest,
             index: _,
         } = self;
-        let params = space.params();
-        let (by_ids, table) = (space.meta().lives == 0, space.meta().table);
-        let (events, first) = (space.meta().events, space.meta().rows);
-        let version = space.meta().version + 1;
-        let mass = mass_with(&params, rows, space.meta().mass);
+        let (by_ids, before, table) = (is_by_ids(space.meta()), counts(space.meta()), space.meta().table);
         let mut roots = Roots { table, forest };
         let mut stage = space.begin();
-        let end = match enter_batch::<X, Staged<D>>(&mut stage, &mut roots, by_ids, rows, first, version) {
-            Ok(end) => end,
-            Err(fault) => return Warehouse::given_back(alloc, stage.abandon(), fault),
-        };
-        let meta = Meta {
-            lives: 1,
-            version,
-            events: events + (end - first) + 1,
-            rows: end,
-            allotted: 3,
-            free: 0,
-            mass,
-            table: roots.table,
-            roots: copied(roots.forest.roots.as_slice()),
-        };
-        if stage.set_meta(&meta).is_err() {
-            return Warehouse::given_back(alloc, stage.abandon(), StageFault::NoMemory);
+        if let Err(fault) = draft::<D, X>(&mut stage, &mut roots, by_ids, before, rows) {
+            return Warehouse::given_back(alloc, stage.abandon(), fault);
         }
         match stage.commit() {
             Ok(space) => Committed::Done {
                 house: Warehouse::over(alloc, space),
-                version,
+                version: before.version + 1,
             },
             Err(device) => Committed::Disk { device },
         }

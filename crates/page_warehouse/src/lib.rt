@@ -8,6 +8,7 @@
 
 mod committing;
 mod creating;
+mod drafting;
 mod entering;
 mod house;
 mod laws;
