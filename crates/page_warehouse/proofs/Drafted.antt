@@ -106,8 +106,14 @@ module _ {X : Type 0} (g : Ghosts X) where
       let longer : last_version (with_changes h batch) ≡ last_version h + 1 = length-append h (batch ∷ []) in
       let all : changes (with_changes h batch) ≡ changes h ++ batch = flat_map-append (λ (b : List Change). b) h (batch ∷ []) ∙ ap (λ (l : List Change). changes h ++ l) (append-nil batch) in
       let heavier : total_mass params (changes (with_changes h batch)) ≡ total_mass params (changes h) + total_mass params batch = ap (total_mass params) all ∙ sum_by-append (added_mass params) (changes h) batch in
-      let (v, e, r, m) = (tells.version, tells.events, tells.rows, tells.mass) in
-      let (nv, ne, nr, nm) = (is.version, is.events, is.rows, is.mass) in
+      let v = tells.version in
+      let e = tells.events in
+      let r = tells.rows in
+      let m = tells.mass in
+      let nv = is.version in
+      let ne = is.events in
+      let nr = is.rows in
+      let nm = is.mass in
       record {
         version = omega (arith, nv, ver, v, longer);
         events = omega (arith, ne, ev, e, many, longer);
@@ -153,11 +159,14 @@ module _ {X : Type 0} (g : Ghosts X) where
             (subst (λ (f : Form). NamesNoneTwice (table_pages f after roots.table ++ forest_pages g after roots.forest.params roots.forest.roots.items)) form keep.apart)));
       }
 
+eight_times : (b : Bool) (n : ℕ) → (if b then 8 * n else 0) ≡ 8 * (if b then n else 0)
+eight_times true n = refl
+eight_times false n = refl
+
 -- what counts against the limit before the batch
 pub charge_before : (meta : Meta) (by_ids : Bool) (count : ℕ) → by_ids ≡ (meta.lives == 0) → count ≡ meta.table.count → meta.allotted + (if by_ids then 8 * count else 0) ≡ meta_charge meta
 charge_before meta by_ids count form many =
-    let eight : (b : Bool) → (if b then 8 * meta.table.count else 0) ≡ 8 * (if b then meta.table.count else 0) = λ b. elim b [ | true ↦ refl | false ↦ refl ] in
-    ap (λ (b : Bool). meta.allotted + (if b then 8 * count else 0)) form ∙ ap (λ (n : ℕ). meta.allotted + (if (meta.lives == 0) then 8 * n else 0)) many ∙ ap (λ (n : ℕ). meta.allotted + n) (eight (meta.lives == 0))
+    ap (λ (b : Bool). meta.allotted + (if b then 8 * count else 0)) form ∙ ap (λ (n : ℕ). meta.allotted + (if (meta.lives == 0) then 8 * n else 0)) many ∙ ap (λ (n : ℕ). meta.allotted + n) (eight_times (meta.lives == 0) meta.table.count)
 
 pub charge_after : (meta : Meta) → meta.lives ≡ 1 → meta_charge meta ≡ meta.allotted
 charge_after meta is = let none : old_objects meta ≡ 0 = rw is refl in omega (arith, none)

@@ -41,6 +41,12 @@ module _ {X : Type 0} (g : Ghosts X) where
       let at : Here params held.meta held.pages h = record { tells = held.tells; lawful = held.lawful; weights = held.weights; table = held.table; trees = held.trees; apart = held.apart } in
       subst (λ (m : PageMap). Here params meta m h) same.2 (subst (λ (m : Meta). Here params m held.pages h) same.1 at)
 
+  -- its free pages are in order
+  pub space_here : HoldsOne → (x : Image) (params : Params) (meta : Meta) (map : PageMap) (ordered : Type 0) → HoldsSpace x params meta map ordered → (h : History) → Holds g x params h → HoldsSpace x params meta map (Unit {0})
+  space_here one x params meta map ordered space h held =
+      let same = one x params params held.meta meta held.pages map (unordered x params held.meta held.pages (Unit {0}) held.space) (unordered x params meta map ordered space) in
+      subst (λ (m : PageMap). HoldsSpace x params meta m (Unit {0})) same.2 (subst (λ (m : Meta). HoldsSpace x params m held.pages (Unit {0})) same.1 held.space)
+
   -- the table that is looked at stands for the lives
   pub table_here : (params : Params) (meta : Meta) (map : PageMap) (h : History) → (now : Here params meta map h) → (form : Form) (table : Tree) → form ≡ table_form meta → table ≡ meta.table → TableStands form map table now.table.kept
   table_here params meta map h now form table is at =

@@ -29,6 +29,7 @@ use page_disk::Disk;
 use page_layout::Meta;
 use page_ports::StageFault;
 use page_space::{Space, holds_one};
+use redo_journal::settling_laws;
 use session_book::{BookFault, first_refusal};
 use std::alloc::Global;
 use std::marker::PhantomData;
@@ -188,6 +189,7 @@ impl<D: Disk, X: DomIndex> Warehouse<D, X> {
     {
         // One space stands on a disk, and the batch makes a lawful history.
         holds_one();
+        settling_laws();
         histories_grow_by_lawful_batches();
         self.space.is_held();
         let Warehouse {
