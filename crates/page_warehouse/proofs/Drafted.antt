@@ -13,12 +13,15 @@ use Rattle.bw_types.specs.declared.change.Change.{Change}
 use Rattle.bw_types.specs.declared.dated.Dated.{Dated}
 use Rattle.bw_types.specs.declared.params.Params.{Params}
 use Rattle.bw_types.specs.declared.tree.Tree.{Tree}
-use Rattle.page_disk.specs.Image.{Image}
+use Rattle.page_disk.specs.Image.{Image, PageList, page_at}
 use Rattle.page_disk.specs.Moment.{Moment}
 use Rattle.page_disk.specs.Since.{LeavesOnly}
 use Rattle.page_layout.specs.Footprint.{NamesNoneTwice}
+use Rattle.page_layout.specs.Meta.{meta_in, meta_page}
+use Rattle.page_layout.specs.MetaLaws.{meta_in-page}
 use Rattle.page_layout.specs.declared.meta.Meta.{Meta}
 use Rattle.page_ports.specs.Pages.{PageMap}
+use Rattle.redo_journal.specs.Settled.{SettlesTo, SettlesToOne}
 use Rattle.page_space.specs.Space.{HoldsSpace}
 use Rattle.object_table.specs.Lives.{table_pages}
 use Rattle.object_table.specs.Stands.{TableStands}
@@ -31,7 +34,7 @@ use Rattle.history_laws.specs.Bounds.{HasSmallWeight}
 use Rattle.change_laws.specs.Begun.{with_changes}
 use Rattle.page_warehouse.specs.Entering.{FormKeeps, PagesKeep}
 use Rattle.page_warehouse.specs.Holds.{Holds, TableKeeps, TellsOf, TreesStand, table_form}
-use Rattle.page_warehouse.specs.Needs.{meta_charge, old_objects}
+use Rattle.page_warehouse.specs.Needs.{charge_of, meta_charge, old_objects}
 use Rattle.page_warehouse.specs.NextMeta.{IsNextMeta}
 use Rattle.page_warehouse.specs.declared.drafting.Counts.{Counts}
 use Rattle.page_warehouse.specs.declared.roots.Roots.{Roots}
@@ -162,6 +165,13 @@ module _ {X : Type 0} (g : Ghosts X) where
 eight_times : (b : Bool) (n : ℕ) → (if b then 8 * n else 0) ≡ 8 * (if b then n else 0)
 eight_times true n = refl
 eight_times false n = refl
+
+-- the meta page in its place is the one of the space
+pub charge_is : SettlesToOne → (x : Image) (params : Params) (meta : Meta) (map : PageMap) (order : Type 0) → HoldsSpace x params meta map order → SettlesTo x x.pages → charge_of x ≡ meta_charge meta
+charge_is one x params meta map order held settles =
+    let same : held.pages ≡ x.pages = one x held.pages x.pages held.settled settles in
+    let spelled : page_at x.pages 2 ≡ meta_page meta = subst (λ (ps : PageList). page_at ps 2 ≡ meta_page meta) same held.space.roots.spelled in
+    ap (λ (bytes : List ℕ). meta_charge (meta_in bytes)) spelled ∙ ap meta_charge (meta_in-page meta held.space.roots.typed held.space.roots.rules)
 
 -- what counts against the limit before the batch
 pub charge_before : (meta : Meta) (by_ids : Bool) (count : ℕ) → by_ids ≡ (meta.lives == 0) → count ≡ meta.table.count → meta.allotted + (if by_ids then 8 * count else 0) ≡ meta_charge meta

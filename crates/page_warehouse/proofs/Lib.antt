@@ -16,3 +16,4 @@ pub mod Here
 pub mod MetaSet
 pub mod Outcomes
 pub mod Drafted
+pub mod Same

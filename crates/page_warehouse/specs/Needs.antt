@@ -1,15 +1,11 @@
 -- How many page numbers a batch may give out.
-use Rattle.std.specs.Prelude.{ℕ, ◌+◌, ◌*◌, ◌<◌, ◌≤◌, ◌==◌, if◌then◌else◌, List, length, get_or}
-use Rattle.bw_types.specs.Empty.{empty_tree}
+use Rattle.std.specs.Prelude.{ℕ, ◌+◌, ◌*◌, ◌<◌, ◌==◌, if◌then◌else◌, List, length}
 use Rattle.bw_types.specs.History.{History, changes, flat}
 use Rattle.bw_types.specs.declared.params.Params.{Params}
 use Rattle.bw_types.specs.declared.row.Row.{Row}
-use Rattle.bw_types.specs.declared.tree.Tree.{Tree}
 use Rattle.page_disk.specs.Image.{Image, page_at}
 use Rattle.page_layout.specs.Meta.{meta_in}
 use Rattle.page_layout.specs.declared.meta.Meta.{Meta}
-use Rattle.corner_forest.specs.Entries.{point_count, root_count}
-use Rattle.corner_forest.specs.Enters.{TakesMore}
 use Rattle.change_laws.specs.Growth.{most_growth}
 
 -- the objects of a table of the earlier form, which the next commit writes anew
@@ -32,13 +28,6 @@ changes_need params earlier n = n * (8 + most_growth params (earlier + n))
 abbrev pub batch_need : Params → History → List Row → ℕ
 batch_need params h rows = changes_need params (length (changes h)) (length (flat rows))
 
--- Each tree has at most one page, on which there is room for the points of so many changes more.
-abbrev pub HaveRoomFor : Params → List Tree → ℕ → Type 0
-HaveRoomFor params roots n = (root : ℕ) → root < root_count params → TakesMore (n * point_count params root) (get_or roots root empty_tree)
-
--- By its numbers a batch may find no page on this disk: what it may give out passes the limit. Over two and three dimensions that is
--- less where all trees stay on one page each.
-pub record LacksPages (x : Image) (params : Params) (h : History) (rows : List Row) : Type 0 where
-  pub need : params.pages < charge_of x + batch_need params h rows
-  pub small : 2 ≤ params.dims → HaveRoomFor params (meta_in (page_at x.pages 2)).roots.items (length (flat rows))
-      → params.pages < charge_of x + 8 * length (flat rows) + root_count params
+-- By its numbers a batch may find no page on this disk: what it may give out passes the limit.
+abbrev pub LacksPages : Image → Params → History → List Row → Type 0
+LacksPages x params h rows = params.pages < charge_of x + batch_need params h rows

@@ -12,7 +12,7 @@ ghost use Rattle.page_space.specs.Shown.{begun_of, disk_of, meta_of, params_of};
 ghost use Rattle.session_book.specs.declared.refusals.BookFault.{BookFault};
 ghost use Rattle.warehouse.specs.Committed.{IfDisk, IfDone, IfKept, IfPageLimit, IsCommitCause, device_out, with_batch};
 ghost use Rattle.page_warehouse.specs.Holds.{Holds, table_form};
-ghost use Rattle.page_warehouse.specs.Needs.{batch_need, meta_charge};
+ghost use Rattle.page_warehouse.specs.Needs.{batch_need, charge_of, meta_charge};
 
 use crate::Warehouse;
 use crate::drafting::{Counts, draft};
@@ -160,6 +160,14 @@ impl<D: Disk, X: DomIndex> Warehouse<D, X> {
         }
     }
 
+    // Proves that the meta page in its place on the disk is the one that is kept; it does nothing when it runs.
+    pub(crate) fn is_charged(&self)
+        ensures { IsTrue (D.tells (disk_in self.now)) → charge_of (D.image (disk_in self.now)) ≡ meta_charge (meta_in self.now) }
+    {
+        settling_laws();
+        self.space.is_held();
+    }
+
     // Puts rows that have no refusal last in the history.
     pub(crate) fn put(self, rows: &[Row]) -> Committed<Warehouse<D, X>, D>
         requires fit { IsTrue (list_all (row_fits (params_in self)) rows.now) }
@@ -180,10 +188,10 @@ impl<D: Disk, X: DomIndex> Warehouse<D, X> {
         ensures at_limit { IfPageLimit result (λ house allotted. allotted ≡ (params_in self).pages) }
         ensures page_limit { (h : History) → HoldsHistory D.Disk X.DomIndex true (disk_in self) (params_in self) h
             → IsLawfulBatch (params_in self) h (flat rows.now) → IfPageLimit result (λ house allotted.
-            (params_in self).pages < meta_charge (meta_in self) + batch_need (params_in self) h rows.now) }
+            (params_in self).pages < charge_of (D.image (disk_in self)) + batch_need (params_in self) h rows.now) }
         ensures charge_done { (h : History) → HoldsHistory D.Disk X.DomIndex true (disk_in self) (params_in self) h
             → IsLawfulBatch (params_in self) h (flat rows.now) → IfDone result (λ house version.
-            meta_charge (meta_in house) ≤ meta_charge (meta_in self) + batch_need (params_in self) h rows.now) }
+            charge_of (D.image (disk_in house)) ≤ charge_of (D.image (disk_in self)) + batch_need (params_in self) h rows.now) }
         ensures disk { IfDisk result (Rose (D.faults (disk_in self)) (D.faults (device_out disk_in result))) }
         ensures faults { D.faults (disk_in self) ≤ D.faults (device_out disk_in result) }
     {
@@ -192,6 +200,7 @@ impl<D: Disk, X: DomIndex> Warehouse<D, X> {
         settling_laws();
         histories_grow_by_lawful_batches();
         self.space.is_held();
+        self.is_charged();
         let Warehouse {
             alloc,
             space,
@@ -205,10 +214,14 @@ impl<D: Disk, X: DomIndex> Warehouse<D, X> {
             return Warehouse::given_back(alloc, stage.abandon(), fault);
         }
         match stage.commit() {
-            Ok(space) => Committed::Done {
-                house: Warehouse::over(alloc, space),
-                version: before.version + 1,
-            },
+            Ok(space) => {
+                let house = Warehouse::over(alloc, space);
+                house.is_charged();
+                Committed::Done {
+                    house,
+                    version: before.version + 1,
+                }
+            }
             Err(device) => Committed::Disk { device },
         }
     }

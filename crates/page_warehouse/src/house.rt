@@ -1,9 +1,12 @@
 //! The warehouse as the machine of rows and replies sees it.
 
 use crate::Warehouse;
+use crate::committing::Judged;
 use bw_types::{Params, Query, Row};
 use dom_index::DomIndex;
-use page_disk::Disk;
+use history_laws::accepted_batches_are_lawful;
+use page_disk::{Disk, crash_laws};
+use session_book::BookFault;
 use warehouse::{Committed, House, QueryFault};
 
 impl<D: Disk + Drop, X: DomIndex + Drop> House for Warehouse<D, X> {
@@ -63,7 +66,19 @@ impl<D: Disk + Drop, X: DomIndex + Drop> House for Warehouse<D, X> {
     }
 
     fn commit(self, rows: &[Row]) -> Committed<Self, D> {
-        Committed::NoMemory { house: self }
+        accepted_batches_are_lawful();
+        crash_laws();
+        self.is_charged();
+        let Judged { house, found } = self.judge(rows);
+        match found {
+            Ok(None) => house.put(rows),
+            Ok(Some(refusal)) => Committed::Refused { house, refusal },
+            Err(BookFault::NoMemory) => Committed::NoMemory { house },
+            Err(BookFault::Damaged(page)) => Committed::Damaged { house, page },
+            Err(BookFault::Disk) => Committed::Disk {
+                device: house.into_disk(),
+            },
+        }
     }
 
     fn into_device(self) -> D {

@@ -21,7 +21,7 @@ use Rattle.warehouse.specs.Committed.{IfDone, with_batch}
 use Rattle.change_laws.specs.Begun.{with_changes}
 use Rattle.page_warehouse.specs.Entering.{FormKeeps, PagesKeep}
 use Rattle.page_warehouse.specs.Holds.{Holds}
-use Rattle.page_warehouse.specs.Needs.{batch_need, changes_need, meta_charge}
+use Rattle.page_warehouse.specs.Needs.{batch_need, changes_need, charge_of, meta_charge}
 use Rattle.page_warehouse.specs.NextMeta.{IsNextMeta}
 use Rattle.page_warehouse.specs.Shown.{HoldsHistory, disk_in, meta_in, params_in, space_in}
 use Rattle.page_warehouse.specs.declared.roots.Roots.{Roots}
@@ -119,7 +119,7 @@ returns-in-Err-clause-page_limit g c = λ h held batch.
     let ro = c.counts-before.ensures.rows ∙ ap (λ (m : Meta). m.rows) c.meta-2.ensures.value in
     let ma = c.counts-before.ensures.mass ∙ ap (λ (m : Meta). m.mass) c.meta-2.ensures.value in
     let on = c.in-Err.ensures.keeps_on told h (subst (λ (p : Params). IsLawful p h) (sym same) now.lawful) (subst (λ (p : Params). IsLawfulBatch p h batched) (sym same) batch) (ver ∙ now.tells.version) (ro ∙ now.tells.rows) form1 in
-    if_page_limit c.given_back.result (λ house n. c.in-Err.fault ≡ fault.PageLimit n) (λ house n. params.pages < meta_charge meta + batch_need params h c.args.rows.now)
+    if_page_limit c.given_back.result (λ house n. c.in-Err.fault ≡ fault.PageLimit n) (λ house n. params.pages < charge_of x + batch_need params h c.args.rows.now)
     (λ house n is.
         let passed = on.changes.page_limit n (ap (λ (f : StageFault). Err f) is) in
         let last = passed.2 in
@@ -127,7 +127,8 @@ returns-in-Err-clause-page_limit g c = λ h held batch.
         let first : (staged_meta c.begin-stage.result).allotted ≡ meta.allotted = ap (λ (m : Meta). m.allotted) c.begin-stage.ensures.meta in
         let charge = charge_before meta c.is_by_ids-by_ids.result c.meta-3.result.now.table.count by_ids (ap (λ (m : Meta). m.table.count) c.meta-3.ensures.value) in
         let need : changes_need c.args.self.forest.params (length (changes h)) (length batched) ≡ batch_need params h c.args.rows.now = ap (λ (p : Params). changes_need p (length (changes h)) (length batched)) same in
-        omega (arith, last, limit, first, charge, need)) c.given_back.ensures.page_limit
+        let kept = c.is_charged.ensures held.0 in
+        omega (arith, last, limit, first, charge, need, kept)) c.given_back.ensures.page_limit
 
 pub returns-in-Err-clause-disk : goal.returns-in-Err-clause-disk
 returns-in-Err-clause-disk g c = 
@@ -138,8 +139,8 @@ returns-in-Err-clause-disk g c =
         let last = ap g.D.Disk.faults (c.given_back.ensures.device ∙ c.abandon.ensures.disk) in
         omega (arith, rose, first, last)) c.given_back.ensures.disk
 
-pub over-requires-clause-mass : goal.over-requires-clause-mass
-over-requires-clause-mass g c = 
+pub over-house-requires-clause-mass : goal.over-house-requires-clause-mass
+over-house-requires-clause-mass g c = 
     let at = ap (λ (p : Params). total_mass p (flat c.args.rows.now)) c.args.self.params in
     let before = c.counts-before.ensures.mass ∙ ap (λ (m : Meta). m.mass) c.meta-2.ensures.value in
     let is = c.in_default.ensures.meta.mass in
@@ -191,7 +192,7 @@ returns-in-Ok-clause-done g c = λ h held batch.
     let holds = held_of g.X.DomIndex y params (staged_meta mid) (staged_map mid) h1 next (ordered y params (staged_meta mid) (staged_map mid) (IsStagedInOrder mid) order2 stands) in
     let tells1 : IsTrue (g.D.Disk.tells (disk_of made)) = subst IsTrue (sym c.in-Ok.ensures.writes.tells) told1 in
     let number = now.tells.version in
-    (omega (arith, ver, number), subst (λ (s : Space g.row.D.Denot g.D.Disk). IsTrue (g.D.Disk.tells (disk_of s)) × Holds g.X.DomIndex (g.D.Disk.image (disk_of s)) params h1) (sym c.over.ensures) (tells1, holds))
+    (omega (arith, ver, number), subst (λ (s : Space g.row.D.Denot g.D.Disk). IsTrue (g.D.Disk.tells (disk_of s)) × Holds g.X.DomIndex (g.D.Disk.image (disk_of s)) params h1) (sym c.over-house.ensures) (tells1, holds))
 
 pub returns-in-Ok-clause-any_moment : goal.returns-in-Ok-clause-any_moment
 returns-in-Ok-clause-any_moment g c = λ h held batch.
@@ -228,7 +229,7 @@ returns-in-Ok-clause-any_moment g c = λ h held batch.
     here_then g.X.DomIndex params meta (staged_meta mid) c.counts-before.result map (staged_map mid) c.draft.new.roots h batched now c.args.self.dims ver ev ro ma is (c.draft.ensures.roots.0 ∙ same) on.left
     (c.histories_grow_by_lawful_batches.ensures.grows params h batched now.lawful batch) c.in_default.ensures.weights in
     let back : base_of mid ≡ begun_of space = c.draft.ensures.base ∙ c.begin-stage.ensures.base in
-    subst (λ (s : Space g.row.D.Denot g.D.Disk). LeavesOnly (λ (y : Image). Holds g.X.DomIndex y params h ⊎ Holds g.X.DomIndex y params h1) (g.D.Disk.moments (disk_of space)) (g.D.Disk.moments (disk_of s))) (sym c.over.ensures) (
+    subst (λ (s : Space g.row.D.Denot g.D.Disk). LeavesOnly (λ (y : Image). Holds g.X.DomIndex y params h ⊎ Holds g.X.DomIndex y params h1) (g.D.Disk.moments (disk_of space)) (g.D.Disk.moments (disk_of s))) (sym c.over-house.ensures) (
     let only = subst (λ (b : Begun). LeavesOnly (λ y. HoldsSpace y b.params b.meta (map_under b) (OrderedUnder b) ⊎ HoldsSpace y b.params (staged_meta mid) (staged_map mid) (IsStagedInOrder mid)) b.moments (g.D.Disk.moments (disk_of c.in-Ok.space))) back (c.in-Ok.ensures.any_moment told1) in
     weakened (λ y. HoldsSpace y params meta map (IsInOrder space) ⊎ HoldsSpace y params (staged_meta mid) (staged_map mid) (IsStagedInOrder mid)) (λ (y : Image). Holds g.X.DomIndex y params h ⊎ Holds g.X.DomIndex y params h1) _ _
     (λ y cases. elim cases [
@@ -276,8 +277,14 @@ returns-in-Ok-clause-charge_done g c = λ h held batch.
     let charge = charge_before meta c.is_by_ids-by_ids.result c.meta-3.result.now.table.count by_ids (ap (λ (m : Meta). m.table.count) c.meta-3.ensures.value) in
     let need : changes_need c.args.self.forest.params (length (changes h)) (length batched) ≡ batch_need params h c.args.rows.now = ap (λ (p : Params). changes_need p (length (changes h)) (length batched)) same in
     let after = charge_after (staged_meta mid) is.lives in
-    subst (λ (s : Space g.row.D.Denot g.D.Disk). meta_charge (meta_of s) ≤ meta_charge meta + batch_need params h c.args.rows.now) (sym c.over.ensures)
-    (subst (λ (m : Meta). meta_charge m ≤ meta_charge meta + batch_need params h c.args.rows.now) (sym c.in-Ok.ensures.meta) (omega (arith, most, first, charge, need, after)))
+    let made = c.in-Ok.space in
+    let tells1 : IsTrue (g.D.Disk.tells (disk_of made)) = subst IsTrue (sym c.in-Ok.ensures.writes.tells) told1 in
+    let tells2 = subst (λ (s : Space g.row.D.Denot g.D.Disk). IsTrue (g.D.Disk.tells (disk_of s))) (sym c.over-house.ensures) tells1 in
+    let now_kept = c.is_charged-in-Ok.ensures tells2 in
+    let kept = c.is_charged.ensures held.0 in
+    let last : meta_of c.over-house.result.space ≡ staged_meta mid = ap (λ (s : Space g.row.D.Denot g.D.Disk). meta_of s) c.over-house.ensures ∙ c.in-Ok.ensures.meta in
+    let as_much = ap meta_charge last in
+    omega (arith, most, first, charge, need, after, now_kept, kept, as_much)
 
 pub returns-in-Err-commit-clause-any_moment : goal.returns-in-Err-commit-clause-any_moment
 returns-in-Err-commit-clause-any_moment g c = λ h held batch.
