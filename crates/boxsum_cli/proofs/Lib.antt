@@ -1,1 +1,4 @@
+pub mod Asked
+pub mod Endings
+pub mod Opened
 pub mod Scratch

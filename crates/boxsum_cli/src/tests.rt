@@ -5,6 +5,7 @@ ghost use Rattle.std.specs.Prelude.{◌<◌};
 use crate::run::run;
 use crate::status::Status;
 use byte_ports::{MemSink, MemSource};
+use page_disk::{Area, PlainDisk};
 use std::alloc::Global;
 use std::test::Fail;
 
@@ -224,8 +225,9 @@ fn run_on(
     }
     let mut source = MemSource::new(Vec::from_slice(alloc, input)?, piece, takes);
     let mut sink = MemSink::new(alloc, puts);
-    let status = run(alloc, list.as_slice(), &mut source, &mut sink);
-    Ok((status, sink))
+    let disk = PlainDisk::blank(alloc);
+    let ran = run(alloc, list.as_slice(), disk, &mut source, &mut sink);
+    Ok((ran.status, sink))
 }
 
 #[test]
@@ -370,13 +372,37 @@ fn many_objects_at_one_point(rt: HostRuntime) -> Result<(), Fail> {
 
 #[test]
 fn texts_of_statuses(rt: HostRuntime) -> Result<(), Fail> {
-    let usage = "usage: boxsum scratch D [--degree G] [--events N] [--signed S]";
+    let usage = "usage: boxsum create D [--degree G] [--events N] [--pages N] [--signed S], run, scratch D [--degree G] [--events N] [--signed S]";
     let texts = [
         (Status::Usage, 2, usage),
+        (Status::NoWarehouse, 3, "no warehouse here"),
+        (Status::AlreadyThere, 4, "there is a warehouse already"),
         (Status::ReadFault, 5, "input failed"),
         (Status::WriteFault, 6, "output failed"),
+        (Status::DiskFault, 7, "disk failed"),
         (Status::NoMemory, 8, "no memory"),
+        (
+            Status::Damaged {
+                area: Area::Pages,
+                page: 2,
+            },
+            9,
+            "damaged page 2",
+        ),
+        (
+            Status::Damaged {
+                area: Area::Journal,
+                page: 0,
+            },
+            9,
+            "damaged journal page 0",
+        ),
         (Status::InputLimit { taken: 7 }, 10, "input too long"),
+        (
+            Status::PageLimit { allotted: 8 },
+            11,
+            "page limit 8 reached",
+        ),
     ];
     assert_eq!(rt; Status::Fine.code(), 0);
     for (status, code, text) in texts.iter() {
