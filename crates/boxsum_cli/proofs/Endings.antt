@@ -1,5 +1,5 @@
 -- The ending of a run, and the fault of an opening, by the status.
-use Rattle.std.proofs.Common.{◌≡◌, ◌≢◌, ◌⊎◌, ℕ, Bool, true, IsTrue, Option, Some, None, inl, inr, refl, sym, ◌∙◌, ap, subst}
+use Rattle.std.proofs.Common.{◌≡◌, ◌≢◌, ◌⊎◌, ℕ, IsTrue, Option, Some, None, inl, inr, refl, sym, ◌∙◌, ap, subst}
 use Rattle.counts.specs.Count.{Rose}
 use Rattle.std.specs.Prelude.{◌≤◌}
 use Rattle.std.specs.Bool.{MatchBool}

@@ -1,20 +1,18 @@
 -- A run over a disk: what it begins with, and what follows from how serving ends.
-use Rattle.std.proofs.Common.{◌≡◌, ◌≢◌, ◌⊎◌, ℕ, ◌+◌, ◌<◌, ◌≤◌, zero, Bool, true, false, IsTrue, List, [], ◌∷◌, ◌++◌, length, Option, Some, inl, inr, refl, sym, ◌∙◌, ap, subst, append_assoc, arith}
+use Rattle.std.proofs.Common.{◌≡◌, ◌≢◌, ◌⊎◌, ℕ, ◌+◌, ◌≤◌, Bool, true, false, IsTrue, List, [], ◌∷◌, ◌++◌, length, Some, inl, inr, refl, sym, ◌∙◌, ap, subst, append_assoc, arith}
 use Rattle.std.proofs.lemmas.List.{append-nil, append_cancel_left, append_cancel_right}
 use Rattle.bw_types.specs.History.{History}
 use Rattle.bw_types.specs.declared.params.Params.{Params}
 use Rattle.bw_types.specs.declared.row.Row.{Row}
-use Rattle.line_reader.specs.Lines.{lines, whole_part}
+use Rattle.line_reader.specs.Lines.{lines}
 use Rattle.csv_rows.specs.Input.{input as input_of}
-use Rattle.csv_rows.specs.Machine.{State, begun, replies, state_after, step, after}
+use Rattle.csv_rows.specs.Machine.{State, begun, replies, step}
 use Rattle.command_words.specs.declared.command.Command.TheVariants.{Run}
-use Rattle.page_disk.specs.Image.{Image, PageList}
-use Rattle.page_disk.specs.Moment.{Moment, MayBeLeftNow, MayBeLeftSince, clock_of}
+use Rattle.page_disk.specs.Image.{Image}
+use Rattle.page_disk.specs.Moment.{Moment, MayBeLeftSince, clock_of}
 use Rattle.page_disk.specs.Since.{LeavesNow, LeavesOnly}
 use Rattle.page_disk.specs.declared.disk.Disk.{Ghosts}
 use Rattle.redo_journal.specs.Gates.{is_empty, gate_of}
-use Rattle.redo_journal.specs.Settled.{SettlesTo, SettlesToOne}
-use Rattle.redo_journal.specs.declared.gate.Gate.{Gate}
 use Rattle.redo_journal.specs.declared.gate.Gate.TheVariants.{Blank, NoJournal, Armed}
 use Rattle.page_space.specs.Faults.{AtBadJournal, AtDamaged, AtEmpty}
 use Rattle.page_space.specs.Settling.{HasNoReplay, IsBadAt}
@@ -27,11 +25,11 @@ use Rattle.page_warehouse.specs.Needs.{LacksPages}
 use Rattle.page_warehouse.specs.Opened.{IsDamagedToOpen}
 use Rattle.page_warehouse.specs.Shown.{HoldsHistory}
 use Rattle.warehouse.specs.Crashes.{OnlyLeaves}
-use Rattle.row_machine.specs.Ended.{AfterGoesOn, AllMayBeServed, SilentLinesKeep}
-use Rattle.row_machine.specs.Housed.{GoesOnFrom, IsVersion, rows_committed}
+use Rattle.row_machine.specs.Ended.{AllMayBeServed, SilentLinesKeep}
+use Rattle.row_machine.specs.Housed.{GoesOnFrom, rows_committed}
 use Rattle.row_machine.specs.Runs.{WritesPart}
 use Rattle.row_machine.specs.Serving.{MayServe, NextIsVersion, lines_sum, lines_need, next_rows}
-use Rattle.boxsum_cli.specs.Held.{BeginsWith, HoldsBetween, HoldsFrom, LeavesEach, StaysAsRead}
+use Rattle.boxsum_cli.specs.Held.{BeginsWith, HoldsBetween, HoldsFrom, LeavesEach}
 use Rattle.boxsum_cli.specs.Runs.{AreReplied, LacksPagesNext, history_by, state_by}
 use Rattle.boxsum_cli.specs.Statuses.{status_of_fault}
 use Rattle.boxsum_cli.specs.declared.status.Status.{Status}

@@ -1,9 +1,9 @@
 -- With which statuses each command may end.
-use Rattle.std.specs.Prelude.{Bool, true, false, IsTrue, Option, Some, None}
+use Rattle.std.specs.Prelude.{Bool, true, false, Option, Some, None}
 use Rattle.command_words.specs.declared.command.Command.{Command}
 use Rattle.command_words.specs.declared.command.Command.TheVariants.{Create, Run, Scratch}
 use Rattle.boxsum_cli.specs.declared.status.Status.{Status}
-use Rattle.boxsum_cli.specs.declared.status.Status.TheVariants.{Fine, Usage, NoWarehouse, AlreadyThere, ReadFault, WriteFault, DiskFault, NoMemory, Damaged, InputLimit, PageLimit}
+use Rattle.boxsum_cli.specs.declared.status.Status.TheVariants.{Fine, Usage, AlreadyThere, ReadFault, WriteFault, DiskFault, NoMemory, InputLimit}
 
 abbrev pub ends_create : Status → Bool
 ends_create Fine = true

@@ -1,5 +1,5 @@
 -- What a disk holds when a command begins and when it ends, and what a crash may leave of it.
-use Rattle.std.specs.Prelude.{◌≡◌, ◌⊎◌, ◌+◌, ◌≤◌, Bool, true, false, IsTrue, ℕ, List, [], Option, Some, None}
+use Rattle.std.specs.Prelude.{◌≡◌, ◌⊎◌, Bool, true, false, IsTrue, ℕ, List, [], Option, Some, None}
 use Rattle.bw_types.specs.History.{History}
 use Rattle.bw_types.specs.declared.params.Params.{Params}
 use Rattle.line_reader.specs.Lines.{lines}

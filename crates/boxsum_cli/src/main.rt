@@ -38,10 +38,10 @@ fn run_on(rt: &HostRuntime) -> Status {
             return Status::NoMemory;
         }
     }
-    // The files are opened, and made where absent, at the first call on the disk.
     let Ok(files) = rt.clone() else {
         return Status::NoMemory;
     };
+    // The files are opened, and made where absent, at the first call on the disk.
     let disk = FileDisk::new(files);
     let mut source = StdSource::new(rt.stdin());
     let mut sink = StdSink::new(rt.stdout());

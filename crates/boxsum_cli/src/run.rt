@@ -109,7 +109,7 @@ pub fn run<D: Disk + Drop, S: Source, K: Sink>(
     // have been left before, or does so too; whatever the source gives.
     ensures goes_on { (params : Params) (h : History) → built_command (map string_bytes words.now) ≡ Some Command.Run →
         HoldsHistory D.Disk ⟦<Index as DomIndex>⟧ true disk params h → result.status ≢ Status.DiskFault →
-        HoldsFrom ⟦<Index as DomIndex>⟧ params h (D.image result.disk) }
+        IsTrue (D.tells result.disk) × HoldsFrom ⟦<Index as DomIndex>⟧ params h (D.image result.disk) }
     ensures goes_on_always { (params : Params) (h : History) → built_command (map string_bytes words.now) ≡ Some Command.Run →
         HoldsHistory D.Disk ⟦<Index as DomIndex>⟧ true disk params h →
         LeavesOnly (HoldsFrom ⟦<Index as DomIndex>⟧ params h) (D.moments disk) (D.moments result.disk) }
@@ -154,6 +154,9 @@ pub fn run<D: Disk + Drop, S: Source, K: Sink>(
         HoldsHistory D.Disk ⟦<Index as DomIndex>⟧ true disk params h →
         result.status ≡ Status.PageLimit allotted → IsTrue (S.tells source.old) →
         LacksPagesNext params h (S.left source.old) (D.image result.disk) (K.tells sink.old) (K.tells sink.new) (K.written sink.old) (K.written sink.new) allotted }
+    ensures reading_limit { (params : Params) (h : History) (allotted : ℕ) → built_command (map string_bytes words.now) ≡ Some Command.Run →
+        HoldsHistory D.Disk ⟦<Index as DomIndex>⟧ false disk params h →
+        IsTrue (S.tells source.old) → CommitsNothing params (S.left source.old) → result.status ≢ Status.PageLimit allotted }
     ensures at_limit { (params : Params) (h : History) (allotted : ℕ) → built_command (map string_bytes words.now) ≡ Some Command.Run →
         HoldsHistory D.Disk ⟦<Index as DomIndex>⟧ true disk params h → result.status ≡ Status.PageLimit allotted → allotted ≡ params.pages }
     ensures enough_pages { (params : Params) (h : History) (pages : PageList) (allotted : ℕ) → built_command (map string_bytes words.now) ≡ Some Command.Run →
@@ -257,7 +260,7 @@ fn run_on<X: DomIndex + Drop, D: Disk + Drop, S: Source, K: Sink>(
         HoldsHistory D.Disk X.DomIndex true result.disk params (after params h (whole_part taken)) }
     ensures goes_on { (params : Params) (h : History) →
         HoldsHistory D.Disk X.DomIndex true disk params h → result.status ≢ Status.DiskFault →
-        HoldsFrom X.DomIndex params h (D.image result.disk) }
+        IsTrue (D.tells result.disk) × HoldsFrom X.DomIndex params h (D.image result.disk) }
     ensures goes_on_always { (params : Params) (h : History) →
         HoldsHistory D.Disk X.DomIndex true disk params h →
         LeavesOnly (HoldsFrom X.DomIndex params h) (D.moments disk) (D.moments result.disk) }
@@ -296,6 +299,9 @@ fn run_on<X: DomIndex + Drop, D: Disk + Drop, S: Source, K: Sink>(
         HoldsHistory D.Disk X.DomIndex true disk params h →
         result.status ≡ Status.PageLimit allotted → IsTrue (S.tells source.old) →
         LacksPagesNext params h (S.left source.old) (D.image result.disk) (K.tells sink.old) (K.tells sink.new) (K.written sink.old) (K.written sink.new) allotted }
+    ensures reading_limit { (params : Params) (h : History) (allotted : ℕ) →
+        HoldsHistory D.Disk X.DomIndex false disk params h →
+        IsTrue (S.tells source.old) → CommitsNothing params (S.left source.old) → result.status ≢ Status.PageLimit allotted }
     ensures at_limit { (params : Params) (h : History) (allotted : ℕ) →
         HoldsHistory D.Disk X.DomIndex true disk params h → result.status ≡ Status.PageLimit allotted → allotted ≡ params.pages }
     ensures enough_pages { (params : Params) (h : History) (pages : PageList) (allotted : ℕ) →

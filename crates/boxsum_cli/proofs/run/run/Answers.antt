@@ -36,6 +36,10 @@ pub returns-in-Ok-Run-clause-whole_kept : goal.returns-in-Ok-Run-clause-whole_ke
 returns-in-Ok-Run-clause-whole_kept g c = λ params h taken asked.
     c.run_on.ensures.whole_kept params h taken
 
+pub returns-in-Ok-Run-clause-goes_on : goal.returns-in-Ok-Run-clause-goes_on
+returns-in-Ok-Run-clause-goes_on g c = λ params h asked.
+    c.run_on.ensures.goes_on params h
+
 pub returns-in-Ok-Run-clause-goes_on_always : goal.returns-in-Ok-Run-clause-goes_on_always
 returns-in-Ok-Run-clause-goes_on_always g c = λ params h asked.
     c.run_on.ensures.goes_on_always params h
@@ -103,3 +107,7 @@ returns-in-Err-NoMemory-clause-reads g c = λ params h asked held told may.
       wrote = λ sink disk tells still. sym (append-nil (g.K.Sink.written c.args.sink.now));
       most = omega arith;
     }
+
+pub returns-in-Ok-Run-clause-reading_limit : goal.returns-in-Ok-Run-clause-reading_limit
+returns-in-Ok-Run-clause-reading_limit g c = λ params h allotted asked.
+    c.run_on.ensures.reading_limit params h allotted

@@ -1,4 +1,4 @@
-use Rattle.std.proofs.Common.{◌≡◌, ◌∙◌, ◌≤◌, true, [], refl, sym, ap, subst, arith}
+use Rattle.std.proofs.Common.{◌∙◌, ◌≤◌, true, [], refl, sym, ap, subst, arith}
 use Rattle.line_reader.specs.Lines.{lines}
 use Rattle.row_machine.specs.declared.ending.Ending.{Ending}
 use Rattle.row_machine.specs.declared.ending.Ending.TheVariants as ending
@@ -44,6 +44,8 @@ returns-clause-whole_lines g c = λ why told left_told tells.
     (c.new-desk.ensures.params ∙ ap (λ x. x.params) c.new.ensures) c.new-desk.ensures.house c.new-desk.ensures.sessions
     (c.serve.ensures.ends told true []) (c.machine_laws.ensures.may c.args.params.now (lines (g.S.Source.left c.args.source.now))) (ap (λ x. x.history) c.new.ensures) in
     let ended = input_ending c.serve.result.ending c.from.result c.from.ensures why in
-    let still = c.serve.ensures.tells (input_flushes c.serve.result.ending ended) tells in
-    (still, whole_text _ true (g.K.Sink.tells c.args.sink.now) (g.K.Sink.tells c.serve.new.sink) (g.S.Source.tells c.serve.new.source)
-    (g.S.Source.left c.args.source.now) (g.S.Source.left c.serve.new.source) c.serve.result (g.K.Sink.written c.args.sink.now) (g.K.Sink.written c.serve.new.sink) c.args.params.now [] tells still (c.ends_laws.ensures.input _ _ _ _ _ _ _ _ _ _ _ _ e ended left_told))
+    let still = c.serve.ensures.tells (input_flushes c.serve.result.ending ended) tells in (
+      still,
+      whole_text _ true (g.K.Sink.tells c.args.sink.now) (g.K.Sink.tells c.serve.new.sink) (g.S.Source.tells c.serve.new.source)
+          (g.S.Source.left c.args.source.now) (g.S.Source.left c.serve.new.source) c.serve.result (g.K.Sink.written c.args.sink.now) (g.K.Sink.written c.serve.new.sink) c.args.params.now [] tells still (c.ends_laws.ensures.input _ _ _ _ _ _ _ _ _ _ _ _ e ended left_told),
+    )
