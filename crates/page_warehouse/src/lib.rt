@@ -6,6 +6,8 @@
 //! opening a disk, at whatever moment the program was stopped, gives the history that it holds.
 #![tactic(auto)]
 
+#[cfg(test)]
+mod commit_tests;
 mod committing;
 mod creating;
 mod drafting;
@@ -18,9 +20,9 @@ mod querying;
 mod roots;
 mod seen;
 mod state;
-mod upgrading;
 #[cfg(test)]
 mod tests;
+mod upgrading;
 
 pub use creating::{Created, create};
 pub use laws::{created_holds, holding_laws};
