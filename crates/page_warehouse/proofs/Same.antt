@@ -36,7 +36,7 @@ only_leaves P Q old new f h = record {
 }
 
 left_since : (moments : List Moment) (t : ℕ) (x : Image) → MayBeLeftNow moments x → MayBeLeftSince moments t x
-left_since [] t x no = no
+left_since [] t x never = absurd never
 left_since (m ∷ earlier) t x now = inl now
 
 -- what may be left now was possible before, or has P

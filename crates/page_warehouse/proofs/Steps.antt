@@ -20,8 +20,15 @@ module _ {P : Type 0} (s : PageGhosts P) where
   pub widened : {T : Type 0} (a c : ℕ) (old new : P) (r : Result T StageFault) → a ≤ c → Changes s a old new r → Changes s c old new r
   widened a c old new r le h = record {
     went_on = let w = h.went_on in record {
-      tells = w.tells; base = w.base; limit = w.limit; free_in_order = w.free_in_order; none_forgotten = w.none_forgotten; allotted = w.allotted;
-      at_most = let m = w.at_most in omega (arith, m, le); gets = w.gets; faults = w.faults;
+      tells = w.tells;
+      base = w.base;
+      limit = w.limit;
+      free_in_order = w.free_in_order;
+      none_forgotten = w.none_forgotten;
+      allotted = w.allotted;
+      at_most = let m = w.at_most in omega (arith, m, le);
+      gets = w.gets;
+      faults = w.faults;
     };
     disk = h.disk;
     page_limit = λ n e. let l = h.page_limit n e in let third = l.2 in (l.0, l.1, omega (arith, third, le));

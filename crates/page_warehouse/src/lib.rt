@@ -18,9 +18,9 @@ mod querying;
 mod roots;
 mod seen;
 mod state;
-mod upgrading;
 #[cfg(test)]
 mod tests;
+mod upgrading;
 
 pub use creating::{Created, create};
 pub use laws::{created_holds, holding_laws};
