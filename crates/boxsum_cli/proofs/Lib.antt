@@ -1,1 +1,5 @@
+pub mod Asked
+pub mod Endings
+pub mod Opened
+pub mod Reading
 pub mod Scratch

@@ -3,10 +3,12 @@ use Rattle.std.specs.Prelude.{ℕ, Bool, true, false, List, Option}
 use Rattle.csv_rows.specs.Input.{given, provided}
 use Rattle.command_words.specs.Command.{command_of}
 use Rattle.command_words.specs.declared.command.Command.{Command}
-use Rattle.command_words.specs.declared.command.Command.TheVariants.{Scratch}
+use Rattle.command_words.specs.declared.command.Command.TheVariants.{Create, Run, Scratch}
 
 -- the command is built already
 abbrev pub is_built : Command → Bool
+is_built (Create params) = true
+is_built Run = true
 is_built (Scratch params) = true
 is_built _ = false
 

@@ -1,3 +1,5 @@
 pub mod Built
+pub mod Ends
+pub mod Held
 pub mod Runs
 pub mod Statuses

@@ -5,6 +5,7 @@
 //! the text of the status and ends.
 #![tactic(auto)]
 
+mod index;
 mod run;
 mod status;
 #[cfg(test)]
@@ -13,6 +14,7 @@ mod tests;
 use crate::run::run;
 use crate::status::Status;
 use byte_ports::{StdSink, StdSource};
+use page_disk::FileDisk;
 use std::env;
 use std::process::ExitCode;
 
@@ -36,7 +38,13 @@ fn run_on(rt: &HostRuntime) -> Status {
             return Status::NoMemory;
         }
     }
+    let Ok(files) = rt.clone() else {
+        return Status::NoMemory;
+    };
+    // The files are opened, and made where absent, at the first call on the disk.
+    let disk = FileDisk::new(files);
     let mut source = StdSource::new(rt.stdin());
     let mut sink = StdSink::new(rt.stdout());
-    run(rt.alloc(), words.as_slice(), &mut source, &mut sink)
+    let ran = run(rt.alloc(), words.as_slice(), disk, &mut source, &mut sink);
+    ran.status
 }

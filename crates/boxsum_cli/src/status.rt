@@ -2,6 +2,8 @@
 ghost use Rattle.std.specs.Prelude.{◌≡◌};
 ghost use Rattle.boxsum_cli.specs.Statuses.{exit_code};
 
+use page_disk::Area;
+use page_space::OpenFault;
 use row_machine::Ending;
 use std::fmt;
 
@@ -14,6 +16,10 @@ pub enum Status {
     /// The words are not in the grammar, or ask for a command that is not built yet. Nothing was
     /// called.
     Usage,
+    /// There is no warehouse on the disk. Nothing was written to it.
+    NoWarehouse,
+    /// There is a warehouse on the disk already. Nothing was written to it.
+    AlreadyThere,
     /// The input failed.
     ReadFault,
     /// The output failed.
@@ -23,11 +29,18 @@ pub enum Status {
     /// Memory ran out.
     NoMemory,
     /// This page of the disk is not as the program leaves it.
-    Damaged { page: u64 },
+    Damaged { area: Area, page: u64 },
     /// So many bytes were taken from the input, as many as may be, and more are needed.
     InputLimit { taken: u64 },
     /// As many pages are given out as the limit allows: this number.
     PageLimit { allotted: u64 },
+}
+
+/// How a command ended, and the disk that it was carried out on.
+#[derive(Drop)]
+pub struct Ran<D> {
+    pub status: Status,
+    pub disk: D,
 }
 
 impl Status {
@@ -38,6 +51,8 @@ impl Status {
         match self {
             Status::Fine => 0,
             Status::Usage => 2,
+            Status::NoWarehouse => 3,
+            Status::AlreadyThere => 4,
             Status::ReadFault => 5,
             Status::WriteFault => 6,
             Status::DiskFault => 7,
@@ -62,9 +77,35 @@ impl From<Ending> for Status {
             Ending::WriteFault => Status::WriteFault,
             Ending::DiskFault => Status::DiskFault,
             Ending::NoMemory => Status::NoMemory,
-            Ending::Damaged { page } => Status::Damaged { page },
+            Ending::Damaged { page } => Status::Damaged {
+                area: Area::Pages,
+                page,
+            },
             Ending::InputLimit { taken } => Status::InputLimit { taken },
             Ending::PageLimit { allotted } => Status::PageLimit { allotted },
+        }
+    }
+}
+
+impl From<OpenFault> for Status {
+    ghost use Rattle.std.specs.Prelude.{◌≡◌};
+    ghost use Rattle.boxsum_cli.specs.Statuses.{status_of_fault};
+
+    ghost from_gives = { λ fault status. status ≡ status_of_fault fault };
+
+    fn from(fault: OpenFault) -> Status {
+        match fault {
+            OpenFault::Disk => Status::DiskFault,
+            OpenFault::Empty => Status::NoWarehouse,
+            OpenFault::Damaged(page) => Status::Damaged {
+                area: Area::Pages,
+                page,
+            },
+            OpenFault::NoMemory => Status::NoMemory,
+            OpenFault::BadJournal(page) => Status::Damaged {
+                area: Area::Journal,
+                page,
+            },
         }
     }
 }
@@ -78,14 +119,23 @@ impl fmt::Display for Status {
     fn fmt<W: fmt::Write>(&self, f: &mut fmt::Formatter<W>) -> fmt::Result {
         match self {
             Status::Fine => f.write_str(""),
-            Status::Usage => {
-                f.write_str("usage: boxsum scratch D [--degree G] [--events N] [--signed S]")
-            }
+            Status::Usage => f.write_str(
+                "usage: boxsum create D [--degree G] [--events N] [--pages N] [--signed S], run, scratch D [--degree G] [--events N] [--signed S]",
+            ),
+            Status::NoWarehouse => f.write_str("no warehouse here"),
+            Status::AlreadyThere => f.write_str("there is a warehouse already"),
             Status::ReadFault => f.write_str("input failed"),
             Status::WriteFault => f.write_str("output failed"),
             Status::DiskFault => f.write_str("disk failed"),
             Status::NoMemory => f.write_str("no memory"),
-            Status::Damaged { page } => write!(f, "damaged page {page}"),
+            Status::Damaged {
+                area: Area::Pages,
+                page,
+            } => write!(f, "damaged page {page}"),
+            Status::Damaged {
+                area: Area::Journal,
+                page,
+            } => write!(f, "damaged journal page {page}"),
             Status::InputLimit { .. } => f.write_str("input too long"),
             Status::PageLimit { allotted } => write!(f, "page limit {allotted} reached"),
         }

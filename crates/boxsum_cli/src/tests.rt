@@ -3,8 +3,10 @@
 ghost use Rattle.std.specs.Prelude.{◌<◌};
 
 use crate::run::run;
-use crate::status::Status;
+use crate::status::{Ran, Status};
 use byte_ports::{MemSink, MemSource};
+use page_disk::{Area, Disk, MemDisk, PlainDisk, Torn};
+use page_ports::blank_page;
 use std::alloc::Global;
 use std::test::Fail;
 
@@ -182,7 +184,7 @@ const CASES: [Case; 27] = [
 ];
 
 // Words that are refused: none, unknown ones, values out of range, and commands that are not built.
-const REFUSED_WORDS: [&str; 13] = [
+const REFUSED_WORDS: [&str; 16] = [
     "",
     "--help",
     "scratch",
@@ -193,10 +195,22 @@ const REFUSED_WORDS: [&str; 13] = [
     "scratch 1 --pages 8",
     "create",
     "create 4",
-    "create 1",
+    "create 1 --pages 2",
     "create 2 --degree 3",
     "run x",
+    "run --degree 1",
+    "check",
+    "sample 0 0",
 ];
+
+// The words of a command line.
+pub(crate) fn words_of(alloc: Global, words: &str) -> Result<Vec<String>, Fail> {
+    let mut list = Vec::new(alloc);
+    for word in words.split_whitespace() {
+        list.push(String::from_str(alloc, word)?)?;
+    }
+    Ok(list)
+}
 
 // Runs the words on an input that comes in pieces and may fail at a take, with a sink that may fail
 // at a put, both counted from 1. What is written is left in the sink.
@@ -210,10 +224,7 @@ fn run_on(
 ) -> Result<(Status, MemSink), Fail>
     requires { 0 < piece }
 {
-    let mut list = Vec::new(alloc);
-    for word in words.split_whitespace() {
-        list.push(String::from_str(alloc, word)?)?;
-    }
+    let list = words_of(alloc, words)?;
     let mut takes = Vec::new(alloc);
     if let Some(call) = failing_take {
         takes.push(call)?;
@@ -224,8 +235,61 @@ fn run_on(
     }
     let mut source = MemSource::new(Vec::from_slice(alloc, input)?, piece, takes);
     let mut sink = MemSink::new(alloc, puts);
-    let status = run(alloc, list.as_slice(), &mut source, &mut sink);
-    Ok((status, sink))
+    let disk = PlainDisk::blank(alloc);
+    let ran = run(alloc, list.as_slice(), disk, &mut source, &mut sink);
+    Ok((ran.status, sink))
+}
+
+// Runs the words on an input over a disk.
+pub(crate) fn run_over<D: Disk + Drop>(
+    alloc: Global,
+    words: &str,
+    input: &[u8],
+    disk: D,
+) -> Result<(Ran<D>, MemSink), Fail> {
+    let list = words_of(alloc, words)?;
+    let mut source = MemSource::new(Vec::from_slice(alloc, input)?, 4096, Vec::new(alloc));
+    let mut sink = MemSink::new(alloc, Vec::new(alloc));
+    let ran = run(alloc, list.as_slice(), disk, &mut source, &mut sink);
+    Ok((ran, sink))
+}
+
+// A further run over the disk that the one before left; `create` begins with a new disk.
+pub(crate) struct Step {
+    pub(crate) words: &'static str,
+    pub(crate) input: &'static str,
+    pub(crate) text: &'static str,
+}
+
+// The place of the first step that does not end as it is to: well, and with this text.
+pub(crate) fn first_wrong(alloc: Global, steps: &[Step]) -> Result<Option<usize>, Fail> {
+    let mut plain = PlainDisk::blank(alloc);
+    let mut recording = MemDisk::blank(alloc);
+    for (place, step) in steps.iter().enumerate() {
+        if step.words.starts_with("create") {
+            plain = PlainDisk::blank(alloc);
+            recording = MemDisk::blank(alloc);
+        }
+        let (ran, sink) = run_over(alloc, step.words, step.input.as_bytes(), plain)?;
+        let Ran { status, disk } = ran;
+        plain = disk;
+        if status != Status::Fine || sink.bytes() != step.text.as_bytes() {
+            return Ok(Some(place));
+        }
+        let (ran, sink) = run_over(alloc, step.words, step.input.as_bytes(), recording)?;
+        let Ran { status, disk } = ran;
+        recording = disk;
+        if status != Status::Fine || sink.bytes() != step.text.as_bytes() {
+            return Ok(Some(place));
+        }
+    }
+    Ok(None)
+}
+
+// A recording disk with a new warehouse of one dimension.
+pub(crate) fn new_warehouse(alloc: Global) -> Result<MemDisk, Fail> {
+    let (ran, _) = run_over(alloc, "create 1", b"", MemDisk::blank(alloc))?;
+    Ok(ran.disk)
 }
 
 #[test]
@@ -250,8 +314,10 @@ fn whole_inputs(rt: HostRuntime) -> Result<(), Fail> {
 #[test]
 fn refused_words(rt: HostRuntime) -> Result<(), Fail> {
     for words in REFUSED_WORDS.iter() {
-        let (status, sink) = run_on(rt.alloc(), words, b"commit,1\n", 9, None, None)?;
-        assert_eq!(rt; status, Status::Usage, "{words}");
+        let disk = MemDisk::blank(rt.alloc());
+        let (ran, sink) = run_over(rt.alloc(), words, b"commit,1\n", disk)?;
+        assert_eq!(rt; ran.status, Status::Usage, "{words}");
+        assert_eq!(rt; ran.disk.calls(), 0, "{words}");
         assert_eq!(rt; sink.bytes(), b"".as_slice());
     }
     Ok(())
@@ -370,19 +436,205 @@ fn many_objects_at_one_point(rt: HostRuntime) -> Result<(), Fail> {
 
 #[test]
 fn texts_of_statuses(rt: HostRuntime) -> Result<(), Fail> {
-    let usage = "usage: boxsum scratch D [--degree G] [--events N] [--signed S]";
+    let usage =
+        "usage: boxsum create D [--degree G] [--events N] [--pages N] [--signed S], run, scratch D [--degree G] [--events N] [--signed S]";
     let texts = [
         (Status::Usage, 2, usage),
+        (Status::NoWarehouse, 3, "no warehouse here"),
+        (Status::AlreadyThere, 4, "there is a warehouse already"),
         (Status::ReadFault, 5, "input failed"),
         (Status::WriteFault, 6, "output failed"),
+        (Status::DiskFault, 7, "disk failed"),
         (Status::NoMemory, 8, "no memory"),
+        (
+            Status::Damaged {
+                area: Area::Pages,
+                page: 2,
+            },
+            9,
+            "damaged page 2",
+        ),
+        (
+            Status::Damaged {
+                area: Area::Journal,
+                page: 0,
+            },
+            9,
+            "damaged journal page 0",
+        ),
         (Status::InputLimit { taken: 7 }, 10, "input too long"),
+        (
+            Status::PageLimit { allotted: 8 },
+            11,
+            "page limit 8 reached",
+        ),
     ];
     assert_eq!(rt; Status::Fine.code(), 0);
     for (status, code, text) in texts.iter() {
         assert_eq!(rt; status.code(), *code);
         let shown = format!(in rt.alloc(); "{status}")?;
         assert_eq!(rt; shown.as_str(), *text);
+    }
+    Ok(())
+}
+
+const STEPS: [Step; 8] = [
+    Step {
+        words: "create 1",
+        input: "",
+        text: "",
+    },
+    Step {
+        words: "run",
+        input: "",
+        text: "",
+    },
+    Step {
+        words: "run",
+        input: "sum,now,0,9\ncount,0,0,4294967294\nsum,1,0,9\nintegral,now,0,1\n",
+        text: "sum,0,0\ncount,0,0\nnoversion,3\nbad,4\n",
+    },
+    Step {
+        words: "run",
+        input: "add,1,1,2,5,10\nsum,now,5,5\ndrop,1\ncommit,17\n",
+        text: "sum,0,0\ndropped,1\nbad,4\n",
+    },
+    Step {
+        words: "create --pages 8 -- 2",
+        input: "sum,now,0,9",
+        text: "",
+    },
+    Step {
+        words: "run",
+        input: "count,now,0,9,0,9",
+        text: "count,0,0\n",
+    },
+    Step {
+        words: "create 3 --degree 2 --signed 1",
+        input: "",
+        text: "",
+    },
+    Step {
+        words: "run",
+        input: "integral,now,-5,9,0,9,-2147483647,2147483646\n",
+        text: "integral,0,0\n",
+    },
+];
+
+#[test]
+fn warehouses_without_versions(rt: HostRuntime) -> Result<(), Fail> {
+    assert_eq!(rt; first_wrong(rt.alloc(), &STEPS)?, None);
+    Ok(())
+}
+
+#[test]
+fn disks_that_are_not_as_they_should_be(rt: HostRuntime) -> Result<(), Fail> {
+    let alloc = rt.alloc();
+    let (ran, sink) = run_over(alloc, "run", b"sum,now,5,5", MemDisk::blank(alloc))?;
+    assert_eq!(rt; ran.status, Status::NoWarehouse);
+    assert_eq!(rt; sink.bytes(), b"".as_slice());
+    let disk = new_warehouse(alloc)?;
+    let calls = disk.calls();
+    let (ran, _) = run_over(alloc, "create 1", b"", disk)?;
+    assert_eq!(rt; ran.status, Status::AlreadyThere);
+    assert!(rt; calls < ran.disk.calls());
+    // An open creation gate, and behind it no superblock.
+    let mut gate = blank_page();
+    gate[0] = 1;
+    let mut pages = Vec::new(alloc);
+    pages.push(gate)?;
+    pages.push(blank_page())?;
+    pages.push(blank_page())?;
+    let mut journal = Vec::new(alloc);
+    journal.push(blank_page())?;
+    let (ran, _) = run_over(alloc, "run", b"", MemDisk::holding(alloc, pages, journal))?;
+    let damaged = Status::Damaged {
+        area: Area::Pages,
+        page: 1,
+    };
+    assert_eq!(rt; ran.status, damaged);
+    // The same without a journal.
+    let mut pages = Vec::new(alloc);
+    pages.push(gate)?;
+    pages.push(blank_page())?;
+    pages.push(blank_page())?;
+    let (ran, _) = run_over(
+        alloc,
+        "run",
+        b"",
+        MemDisk::holding(alloc, pages, Vec::new(alloc)),
+    )?;
+    let damaged = Status::Damaged {
+        area: Area::Journal,
+        page: 0,
+    };
+    assert_eq!(rt; ran.status, damaged);
+    Ok(())
+}
+
+#[test]
+fn rows_in_memory_leave_the_disk(rt: HostRuntime) -> Result<(), Fail> {
+    let disk = MemDisk::blank(rt.alloc());
+    let (ran, sink) = run_over(rt.alloc(), "scratch 1", b"sum,now,0,9", disk)?;
+    assert_eq!(rt; ran.status, Status::Fine);
+    assert_eq!(rt; sink.bytes(), b"sum,0,0\n".as_slice());
+    assert_eq!(rt; ran.disk.calls(), 0);
+    Ok(())
+}
+
+// The status of the words where this call on the disk fails, and how often the disk failed.
+pub(crate) fn failing_at(
+    alloc: Global,
+    words: &str,
+    input: &[u8],
+    disk: MemDisk,
+    call: u64,
+) -> Result<(Status, u64), Fail> {
+    let mut disk = disk;
+    let mut calls = Vec::new(alloc);
+    calls.push(call)?;
+    disk.fail_at(calls);
+    let (ran, _) = run_over(alloc, words, input, disk)?;
+    Ok((ran.status, ran.disk.faults()))
+}
+
+#[test]
+fn each_call_on_the_disk_fails(rt: HostRuntime) -> Result<(), Fail> {
+    let alloc = rt.alloc();
+    let (ran, _) = run_over(alloc, "create 1", b"", MemDisk::blank(alloc))?;
+    let calls = ran.disk.calls();
+    assert!(rt; calls < 1000);
+    for call in 1..calls + 1 {
+        let ended = failing_at(alloc, "create 1", b"", MemDisk::blank(alloc), call)?;
+        assert_eq!(rt; ended, (Status::DiskFault, 1), "call {call}");
+    }
+    let input = b"sum,now,5,5\ncount,0,0,9\n";
+    let disk = new_warehouse(alloc)?;
+    let before = disk.calls();
+    let (ran, _) = run_over(alloc, "run", input, disk)?;
+    let after = ran.disk.calls();
+    assert!(rt; before < after && after < 1000);
+    for call in 1..after - before + 1 {
+        let ended = failing_at(alloc, "run", input, new_warehouse(alloc)?, call)?;
+        assert_eq!(rt; ended, (Status::DiskFault, 1), "call {call}");
+    }
+    Ok(())
+}
+
+#[test]
+fn a_creation_that_is_stopped(rt: HostRuntime) -> Result<(), Fail> {
+    let alloc = rt.alloc();
+    for torn in [Torn::Lost, Torn::Landed, Torn::Filled(0), Torn::Filled(1)] {
+        for calls in 0..16 {
+            let mut disk = MemDisk::blank(alloc);
+            disk.stop_after(calls);
+            let (ran, _) = run_over(alloc, "create 1", b"", disk)?;
+            let made = ran.status == Status::Fine;
+            let (ran, _) = run_over(alloc, "run", b"", ran.disk.crash(torn))?;
+            let there = ran.status == Status::Fine;
+            assert!(rt; there || ran.status == Status::NoWarehouse);
+            assert!(rt; there || !made);
+        }
     }
     Ok(())
 }

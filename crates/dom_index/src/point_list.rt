@@ -15,6 +15,7 @@ use page_ports::{PageFault, Pages, Stage, StageFault};
 ///
 /// The root is the first page. A sum gets at most one page for each point; an addition puts the point into the first
 /// page, and gives out one page where that is full.
+#[derive(Drop)]
 pub struct PointList;
 
 impl DomIndex for PointList {

@@ -38,7 +38,7 @@ silent_line params n s (Some (Commit session)) e = silent_commit s session (firs
 silent_line params n s (Some (Forget session)) e = refl
 silent_line params n s (Some (Ask version q)) e = ask_history params n s _ q
 
-silent_lines : (params : Params) (n : ℕ) (s : State) (ls : List (List ℕ)) → replies params n s ls ≡ [] → (state_after params n s ls).history ≡ s.history
+pub silent_lines : (params : Params) (n : ℕ) (s : State) (ls : List (List ℕ)) → replies params n s ls ≡ [] → (state_after params n s ls).history ≡ s.history
 silent_lines params n s [] e = refl
 silent_lines params n s (line ∷ ls) e =
     let parts = front_empty (replied (step params n s line).reply) (replies params (n + 1) (step params n s line).state ls) e in

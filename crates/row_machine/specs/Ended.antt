@@ -1,5 +1,5 @@
 -- What follows from how a run ended.
-use Rattle.std.specs.Prelude.{◌≡◌, ℕ, ◌+◌, Bool, true, IsTrue, List, ◌++◌, length}
+use Rattle.std.specs.Prelude.{◌≡◌, ℕ, ◌+◌, Bool, true, IsTrue, List, [], ◌++◌, length}
 use Rattle.bw_types.specs.History.{History}
 use Rattle.bw_types.specs.declared.params.Params.{Params}
 use Rattle.line_reader.specs.Lines.{is_whole, lines, whole_part}
@@ -72,6 +72,10 @@ AllMayBeServed = (params : Params) (ls : List (List ℕ)) → MayServe true para
 -- The history after an input goes on from the one before it.
 abbrev pub AfterGoesOn : Type 0
 AfterGoesOn = (params : Params) (h : History) (bytes : List ℕ) → GoesOnFrom h (after params h bytes)
+
+-- Lines without a reply leave the history.
+abbrev pub SilentLinesKeep : Type 0
+SilentLinesKeep = (params : Params) (n : ℕ) (s : State) (ls : List (List ℕ)) → replies params n s ls ≡ [] → (state_after params n s ls).history ≡ s.history
 
 -- What is written for two inputs that meet at a line's end is what is written for the first, and then the replies to the
 -- second from the state that the first leaves.

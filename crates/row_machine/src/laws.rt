@@ -1,5 +1,5 @@
 //! What follows from how a run ended, and the laws of what is written and kept.
-ghost use Rattle.row_machine.specs.Ended.{AfterGoesOn, AfterJoins, AllMayBeServed, EndsInPart, EndsWithinAll, FineServesAll, FineSettles, HoldsAcknowledged, InputServesWhole, TextJoins};
+ghost use Rattle.row_machine.specs.Ended.{AfterGoesOn, AfterJoins, AllMayBeServed, EndsInPart, EndsWithinAll, FineServesAll, FineSettles, HoldsAcknowledged, InputServesWhole, SilentLinesKeep, TextJoins};
 
 use line_reader::lines_join;
 use warehouse::House;
@@ -14,10 +14,11 @@ pub fn ends_laws<H: House>()
     ensures within { EndsWithinAll ⟦<H as House>⟧ }
 {}
 
-/// Proves that all lines may be served, that a history only goes on, and that inputs join at a line's end; it does nothing when it runs.
+/// Proves that all lines may be served, that a history only goes on, by lines with replies alone, and that inputs join at a line's end; it does nothing when it runs.
 pub fn machine_laws()
     ensures may { AllMayBeServed }
     ensures goes_on { AfterGoesOn }
+    ensures silent { SilentLinesKeep }
     ensures text { TextJoins }
     ensures after { AfterJoins }
 {

@@ -3,6 +3,7 @@ use Rattle.bw_types.specs.declared.params.Params.{Params}
 use Rattle.row_machine.specs.Serving.{MayServe}
 use Rattle.csv_rows.specs.Machine.{State, begun, replies, state_after}
 use Rattle.line_reader.specs.Lines.{lines}
+use Rattle.row_machine.proofs.Acknowledging.{silent_lines}
 use Rattle.row_machine.proofs.Housing.{after_goes_on}
 use Rattle.row_machine.proofs.Replies.{replies-append, state_after-append}
 use Rattle.row_machine.proofs.laws.machine_laws.Goals as goal
@@ -16,6 +17,9 @@ returns-clause-may c = may_all
 
 pub returns-clause-goes_on : goal.returns-clause-goes_on
 returns-clause-goes_on c = λ params h bytes. after_goes_on params 1 (begun h) (lines bytes)
+
+pub returns-clause-silent : goal.returns-clause-silent
+returns-clause-silent c = silent_lines
 
 pub returns-clause-text : goal.returns-clause-text
 returns-clause-text c = λ params h first second whole.

@@ -1,0 +1,69 @@
+-- What a disk holds when a command begins and when it ends, and what a crash may leave of it.
+use Rattle.std.specs.Prelude.{◌≡◌, ◌⊎◌, Bool, true, false, IsTrue, ℕ, List, [], Option, Some, None}
+use Rattle.bw_types.specs.History.{History}
+use Rattle.bw_types.specs.declared.params.Params.{Params}
+use Rattle.line_reader.specs.Lines.{lines}
+use Rattle.command_words.specs.declared.command.Command.{Command}
+use Rattle.command_words.specs.declared.command.Command.TheVariants.{Run, Scratch}
+use Rattle.page_disk.specs.Image.{Image, PageList}
+use Rattle.page_disk.specs.Moment.{Moment, MayBeLeftNow}
+use Rattle.page_disk.specs.Since.{LeavesOnly}
+use Rattle.page_disk.specs.declared.disk.Disk.{Ghosts}
+use Rattle.redo_journal.specs.Gates.{is_empty}
+use Rattle.dom_index.specs.declared.index.DomIndex.{Ghosts as IndexGhosts}
+use Rattle.page_warehouse.specs.Holds.{Holds}
+use Rattle.page_warehouse.specs.Needs.{charge_of}
+use Rattle.page_warehouse.specs.Shown.{HoldsHistory}
+use Rattle.row_machine.specs.Housed.{GoesOnFrom}
+use Rattle.row_machine.specs.Serving.{MayServe}
+
+-- no row of the input commits, so that it reads alone
+abbrev pub CommitsNothing : Params → List ℕ → Type 0
+CommitsNothing params input = MayServe false params (lines input)
+
+-- each image that a crash now may leave has P
+abbrev pub LeavesEach : (Image → Type 0) → List Moment → Type 0
+LeavesEach P moments = (x : Image) → MayBeLeftNow moments x → P x
+
+-- what counts against the limit of pages, in these pages
+abbrev pub charge_in : PageList → ℕ
+charge_in pages = charge_of (record { pages = pages; journal = [] })
+
+module _ {X : Type 0} (i : IndexGhosts X) where
+  -- The image holds a history that goes on from this one.
+  pub record HoldsFrom (params : Params) (first : History) (x : Image) : Type 0 where
+    pub kept : History
+    pub holds : Holds i x params kept
+    pub begins : GoesOnFrom first kept
+
+  -- The image holds a history that goes on from the first and of which the second goes on.
+  pub record HoldsBetween (params : Params) (first second : History) (x : Image) : Type 0 where
+    pub kept : History
+    pub holds : Holds i x params kept
+    pub begins : GoesOnFrom first kept
+    pub within : GoesOnFrom kept second
+
+  -- no warehouse is there, or one with this history
+  abbrev pub IsEmptyOrHolds : Params → History → Image → Type 0
+  IsEmptyOrHolds params h x = (is_empty x ≡ true) ⊎ Holds i x params h
+
+module _ {D : Type 0} (g : Ghosts D) where
+  -- Nothing was written: the disk reads as before, and a crash leaves no more than what it might have left, or that.
+  pub record StaysAsRead (old new : D) : Type 0 where
+    pub image : g.image new ≡ g.image old
+    pub moments : LeavesOnly (λ x. x ≡ g.image old) (g.moments old) (g.moments new)
+
+module _ {D X : Type 0} (g : Ghosts D) (i : IndexGhosts X) where
+  -- The disk holds this history, and so does each image that a crash now may leave.
+  pub record HoldsSurely (params : Params) (h : History) (d : D) : Type 0 where
+    pub holds : HoldsHistory g i true d params h
+    pub left : LeavesEach (λ x. Holds i x params h) (g.moments d)
+
+  -- The history with which a command begins to answer the rows of an input: none for `scratch`, and for `run` the one that the
+  -- disk holds. Where no row commits, which is known where the source tells what it has left, queries alone are to find it there.
+  abbrev pub BeginsWith : Option Command → D → Bool → List ℕ → Params → History → Type 0
+  BeginsWith None d told input params h = ⊥
+  BeginsWith (Some Run) d told input params h =
+      HoldsHistory g i true d params h ⊎ (IsTrue told × CommitsNothing params input × HoldsHistory g i false d params h)
+  BeginsWith (Some (Scratch given)) d told input params h = (given ≡ params) × (h ≡ [])
+  BeginsWith (Some _) d told input params h = ⊥
