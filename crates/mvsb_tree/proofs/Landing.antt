@@ -112,7 +112,7 @@ all_rest P [] ys all = all
 all_rest P (x ∷ xs) ys all = all_rest P xs ys (All-tail P x (xs ++ ys) all)
 
 -- What a new page holds.
-next_spells : (a b : PageMap) (last : ℕ) (node : MvNode) (page : ℕ) → IsNext a b last node page → All IsMvEntryTyped node.entries.items
+pub next_spells : (a b : PageMap) (last : ℕ) (node : MvNode) (page : ℕ) → IsNext a b last node page → All IsMvEntryTyped node.entries.items
     → SpellsNode b page × (node_on b page ≡ next_node a last node)
 next_spells a b last node page next typed =
     let on : node_on b page ≡ next_node a last node = node_on-spelled b page (next_node a last node) (next.typed typed) next.rules next.made in (

@@ -1,14 +1,18 @@
 pub mod Adding
 pub mod Assembling
+pub mod Beginning
 pub mod Chains
 pub mod Costs
 pub mod Cutting
 pub mod Exits
+pub mod Firsts
 pub mod Frames
 pub mod Freeing
 pub mod Growing
 pub mod Intervals
+pub mod Joining
 pub mod Landing
+pub mod Leading
 pub mod Nodes
 pub mod Past
 pub mod Putting
@@ -21,3 +25,4 @@ pub mod Storing
 pub mod Topping
 pub mod Values
 pub mod Ways
+pub mod Whole

@@ -2,6 +2,7 @@ pub mod Changed
 pub mod Damage
 pub mod Grown
 pub mod Laws
+pub mod Led
 pub mod Stands
 pub mod Steps
 pub mod Stored

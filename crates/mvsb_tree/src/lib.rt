@@ -10,21 +10,28 @@
 //! The calls work over any `Pages` and `Stage`, on any content: what they find broken they name.
 #![tactic(auto)]
 
+mod add;
 mod below;
 mod chain;
 mod change;
 mod directory;
+mod first;
 mod free;
 mod laws;
+mod lead;
 mod place;
 mod replaced;
+mod root;
 mod step;
 mod store;
 #[cfg(test)]
 mod tests;
+#[cfg(test)]
+mod tests_add;
 mod top;
 mod value;
 
+pub use add::mv_add;
 pub use free::mv_free;
 pub use laws::mv_laws;
 pub use value::mv_value;

@@ -1,0 +1,44 @@
+use Rattle.std.proofs.Common.{◌≡◌, ◌≢◌, ◌+◌, ◌^◌, ◌<◌, ◌≤◌, ◌==◌, inl, inr, false, ℕ, List, [], ◌∷◌, Some, None, Option, IsTrue, refl, sym, ap, ◌∙◌, subst, arith, rules}
+use Rattle.std.specs.List.{All}
+use Rattle.std.proofs.lemmas.Result.{IfOk-weaker}
+use Rattle.bw_types.specs.declared.point.Point.{Point}
+use Rattle.page_ports.specs.Pages.{PageMap}
+use Rattle.mvsb_tree.specs.Grown.{NodesHold}
+use Rattle.mvsb_tree.specs.Stands.{ChainStands, MvStands, StandsOnWay, is_marked, key_of}
+use Rattle.mvsb_tree.specs.Steps.{chain_from, place_count, root_at, root_level}
+use Rattle.mvsb_tree.specs.Tops.{RootAdded}
+use Rattle.mvsb_tree.proofs.Beginning.{begun_root, first_of_tree, root_ways}
+use Rattle.mvsb_tree.proofs.Whole.{marked_own, nodes_hold}
+use Rattle.mvsb_tree.proofs.add.add_to_nodes.Goals as goal
+
+pub returns-then-tree-eq0-clause-added : goal.returns-then-tree-eq0-clause-added
+returns-then-tree-eq0-clause-added g c = λ tells points p s past key_is.
+    let m0 : PageMap = g.S.Pages.map c.args.stage.now in
+    let made = c.in_ok-top.ensures.made tells in
+    let no_page : (bytes : List ℕ) → m0 0 ≡ Some bytes → ⊥ = λ bytes there. (let three = g.met.S.Stage.from_three c.args.stage.now 0 bytes tells there in omega (arith, three)) in
+    first_of_tree m0 (g.S.Pages.map c.first_leaf.new.stage) c.args.tree.now points p c.in_ok-top.top c.args.key c.args.version c.args.value c.args.last.now s c.if-tree-eq0.true c.requires.last c.requires.version c.ranges.key.fits c.ranges.value.fits key_is
+    no_page c.in_ok-top.ensures.number c.in_ok-top.ensures.rules made.0 made.1 made.2
+
+pub returns-clause-added : goal.returns-clause-added
+returns-clause-added g c = λ tells points p s past key_is.
+    let m0 : PageMap = g.S.Pages.map c.args.stage.now in
+    let mx : PageMap = g.S.Pages.map c.root_at.new.pages in
+    let m1 : PageMap = g.S.Pages.map c.add_at_root.new.stage in
+    let tree = c.args.tree.now in
+    let v = c.args.version in
+    let key = c.args.key in
+    let root = c.in_ok-root.root in
+    let top = c.in_ok-top-2.top in
+    let last = c.args.last.now in
+    let new_last = c.add_at_root.new.last in
+    let test = is_marked (p ∷ points) in
+    let places = place_count m0 tree in
+    let Adds : PageMap → Type 0 = λ m. IsTrue (test key) → ChainStands places m last → NodesHold v test m (chain_from places m last)
+        → ((q : ℕ) → q < 2 ^ 64 → StandsOnWay (root_level m root) m (chain_from places m last) root v q 0 None 1) → RootAdded test m m1 root top v key c.args.value places last new_last in
+    let a0 : Adds mx = c.in_ok-top-2.ensures.added (search rules) test places in
+    let a1 : Adds m0 = subst (λ (m : PageMap). Adds m) c.root_at.ensures.reads.read.map a0 in
+    let root_is : root ≡ root_at m0 tree v = c.in_ok-root.ensures.root tells in
+    let last_is : tree.last ≡ last = sym c.requires.last in
+    let ways = root_ways m0 tree points v root s past c.if-tree-eq0.false c.requires.version root_is in
+    a1 (marked_own points p key key_is) (subst (λ (l : ℕ). ChainStands places m0 l) last_is s.chain) (subst (λ (l : ℕ). NodesHold v test m0 (chain_from places m0 l)) last_is (nodes_hold m0 tree points p v s past))
+    (subst (λ (l : ℕ). (q : ℕ) → q < 2 ^ 64 → StandsOnWay (root_level m0 root) m0 (chain_from places m0 l) root v q 0 None 1) last_is ways)

@@ -1,0 +1,86 @@
+use Rattle.std.proofs.Common.{◌≡◌, ◌≢◌, ◌^◌, ◌<◌, ◌≤◌, ℕ, List, ◌∷◌, Some, None, [], IsTrue, length, refl, sym, ap, ◌∙◌, subst, arith, rules}
+use Rattle.std.specs.List.{All}
+use Rattle.bw_types.specs.declared.point.Point.{Point}
+use Rattle.bw_types.specs.declared.tree.Tree.{Tree}
+use Rattle.page_ports.specs.Pages.{PageMap}
+use Rattle.sb_tree.specs.Stands.{SbStands}
+use Rattle.mvsb_tree.specs.Led.{Led}
+use Rattle.mvsb_tree.specs.Stands.{MvStands, is_marked, key_of}
+use Rattle.mvsb_tree.specs.Steps.{directory, node_on, place_count, root_at, root_level}
+use Rattle.mvsb_tree.specs.Tops.{RootAdded}
+use Rattle.mvsb_tree.proofs.Joining as joining
+use Rattle.mvsb_tree.proofs.Sound.{root_spelled}
+use Rattle.mvsb_tree.proofs.Whole.{added_stands}
+use Rattle.mvsb_tree.proofs.add.mv_add.Given
+use Rattle.mvsb_tree.proofs.add.mv_add.Goals as goal
+
+-- The nodes of the tree took the addition in.
+nodes_took : (g : Given.Over) (c : goal.After-grown g) → IsTrue (g.S.Pages.tells c.args.stage.now) → (points : List Point) (p : Point) → MvStands (g.S.Pages.map c.args.stage.now) c.args.tree.now points
+    → All (λ q. q.version ≤ c.args.version) points → key_of p ≡ c.args.key
+    → RootAdded (is_marked (p ∷ points)) (g.S.Pages.map c.args.stage.now) (g.S.Pages.map c.add_to_nodes.new.stage) c.in_ok-ends.ends.root c.in_ok-ends.ends.top c.args.version c.args.key c.args.value
+    (place_count (g.S.Pages.map c.args.stage.now) c.args.tree.now) c.args.tree.now.last c.add_to_nodes.new.last
+nodes_took g c tells points p s past key_is = c.in_ok-ends.ensures.added tells points p s past key_is
+
+-- The directory leads to the new root.
+led : (g : Given.Over) (c : goal.After-grown g) → IsTrue (g.S.Pages.tells c.args.stage.now) → (changes : List Point)
+    → SbStands (g.S.Pages.map c.add_to_nodes.new.stage) (directory c.args.tree.now) changes
+    → Led (g.S.Pages.map c.add_to_nodes.new.stage) (g.S.Pages.map c.lead_to.new.stage) (directory c.args.tree.now) c.lead_to.new.roots changes c.args.version c.in_ok-ends.ends.root c.in_ok-ends.ends.top
+led g c tells changes s =
+    let m1 : PageMap = g.S.Pages.map c.add_to_nodes.new.stage in
+    let Leads : Tree → Type 0 = λ t. SbStands m1 t changes → Led m1 (g.S.Pages.map c.lead_to.new.stage) t c.lead_to.new.roots changes c.args.version c.in_ok-ends.ends.root c.in_ok-ends.ends.top in
+    let l0 : Leads c.directory-roots.result = c.in_ok-lead_to.ensures.led (c.add_to_nodes.ensures.grows.went_on.tells ∙ tells) changes in
+    subst (λ (t : Tree). Leads t) c.directory-roots.ensures l0 s
+
+-- The directory of the new tree is what the old one became.
+new_roots : (g : Given.Over) (c : goal.After-grown g) → directory c.grown.result ≡ c.lead_to.new.roots
+new_roots g c =
+    let no_changes : c.lead_to.new.roots.changes ≡ 0 = c.in_ok-lead_to.ensures.beside.0 ∙ ap (λ (t : Tree). t.changes) c.directory-roots.ensures in
+    let no_last : c.lead_to.new.roots.last ≡ 0 = c.in_ok-lead_to.ensures.beside.1 ∙ ap (λ (t : Tree). t.last) c.directory-roots.ensures in
+    λ i. record {
+      root = c.grown.ensures.root i;
+      levels = c.grown.ensures.levels i;
+      count = c.grown.ensures.changes i;
+      changes = (sym no_changes) i;
+      last = (sym no_last) i;
+    }
+
+pub returns-clause-change : goal.returns-clause-change
+returns-clause-change g c = λ tells points s past. (
+  let m0 : PageMap = g.S.Pages.map c.args.stage.now in
+  let p : Point = record { keys = c.args.key ∷ []; version = c.args.version; weight = c.args.value } in
+  joining.change_whole m0 (g.S.Pages.map c.add_to_nodes.new.stage) (g.S.Pages.map c.lead_to.new.stage) c.args.tree.now c.grown.result points p c.args.key c.args.version c.args.value
+  c.in_ok-ends.ends.root c.in_ok-ends.ends.top c.add_to_nodes.new.last s c.tree_laws.ensures.in_map c.tree_laws.ensures.by_its_pages past refl c.ranges.version.fits
+  (c.in_ok-ends.ensures.root tells) c.in_ok-ends.ensures.number.0 (nodes_took g c tells points p s past refl) c.lead_to.new.roots (led g c tells) (new_roots g c) c.grown.ensures.last c.in_ok-ends.ensures.number.1)
+
+pub returns-clause-stands : goal.returns-clause-stands
+returns-clause-stands g c = λ tells points p s few past key_is version_is weight_is. (
+  let m0 : PageMap = g.S.Pages.map c.args.stage.now in
+  let m1 : PageMap = g.S.Pages.map c.add_to_nodes.new.stage in
+  let m2 : PageMap = g.S.Pages.map c.lead_to.new.stage in
+  let old = c.args.tree.now in
+  let new = c.grown.result in
+  let key = c.args.key in
+  let v = c.args.version in
+  let value = c.args.value in
+  let root = c.in_ok-ends.ends.root in
+  let top = c.in_ok-ends.ends.top in
+  let last = c.add_to_nodes.new.last in
+  let in_map = c.tree_laws.ensures.in_map in
+  let by_pages = c.tree_laws.ensures.by_its_pages in
+  let v_fits = c.ranges.version.fits in
+  let root_is = c.in_ok-ends.ensures.root tells in
+  let three = c.in_ok-ends.ensures.number.0 in
+  let took = nodes_took g c tells points p s past key_is in
+  let leads = led g c tells in
+  let is_new = new_roots g c in
+  let last_is = c.grown.ensures.last in
+  let no_root = c.in_ok-ends.ensures.number.1 in
+  let d = joining.directory_added m0 m1 m2 old new points p key v value root top last s in_map by_pages past version_is v_fits root_is three took c.lead_to.new.roots leads is_new last_is no_root in
+  let a = joining.nodes_added m0 m1 m2 old new points p key v value root top last s in_map by_pages past version_is v_fits root_is three took c.lead_to.new.roots leads is_new last_is no_root in
+  let chain = joining.chain_stands2 m0 m1 m2 old new points p key v value root top last s in_map by_pages past version_is v_fits root_is three took c.lead_to.new.roots leads is_new last_is no_root in
+  let levels = joining.new_levels m0 m1 m2 old new points p key v value root top last s in_map by_pages past version_is v_fits root_is three took c.lead_to.new.roots leads is_new last_is no_root in
+  let places = joining.some_places m0 m1 m2 old new points p key v value root top last s in_map by_pages past version_is v_fits root_is three took c.lead_to.new.roots leads is_new last_is no_root in
+  let once = joining.once_whole m0 m1 m2 old new points p key v value root top last s in_map by_pages past version_is v_fits root_is three took c.lead_to.new.roots leads is_new last_is no_root in
+  let there = (root_spelled (root_level m1 top) m1 _ top v 0 0 None 1 (took.ways 0 (omega arith))).spelled in
+  let top_fits : top < 2 ^ 64 = omega (arith, g.met.S.Stage.below_allotted c.add_to_nodes.new.stage top _ (c.add_to_nodes.ensures.grows.went_on.tells ∙ tells) there, g.met.S.Stage.within_limit c.add_to_nodes.new.stage, g.met.S.Stage.limit_fits c.add_to_nodes.new.stage) in
+  added_stands m0 m2 old new points p key v value top s few c.requires past key_is version_is weight_is d (λ none. omega (arith, none, three)) top_fits chain a c.grown.ensures.count levels places once)
