@@ -39,12 +39,12 @@ pub fn mv_add<S: Stage>(
     ensures unchanged { OnErr result (tree.new ≡ tree.old) }
     ensures grows { Grows S.Pages (tree.old.levels + 34) stage.old stage.new result }
 {
+    let mut roots = directory(tree);
+    let mut last = tree.last;
     if tree.count >= 1 << 31 || tree.changes >= 1 << 31 {
         return Err(StageFault::Damaged(tree.root));
     }
-    let mut last = tree.last;
     let ends = add_to_nodes(stage, tree, key, version, value, &mut last)?;
-    let mut roots = directory(tree);
     lead_to(stage, &mut roots, version, ends.root, ends.top)?;
     tree_laws();
     *tree = grown(tree, &roots, last);
