@@ -1,5 +1,5 @@
 -- The nodes grow, and then the directory changes beside them.
-use Rattle.std.proofs.Common.{◌≡◌, ◌≢◌, ℕ, ◌+◌, ◌%◌, ◌^◌, ◌<◌, ◌≤◌, ◌==◌, ◌||◌, inl, inr, true, false, Bool, IsTrue, List, [], ◌∷◌, ◌++◌, length, Some, None, IsSome, cond, if◌then◌else◌, slice_index_or, refl, sym, ap, ◌∙◌, subst, arith}
+use Rattle.std.proofs.Common.{◌≡◌, ◌≢◌, ℕ, ◌+◌, ◌%◌, ◌^◌, ◌<◌, ◌≤◌, ◌==◌, ◌||◌, inl, inr, true, false, Bool, IsTrue, List, [], ◌∷◌, ◌++◌, length, Some, None, IsSome, cond, if◌then◌else◌, slice_index_or, refl, sym, ap, ◌∙◌, subst, arith, lit≤}
 use Rattle.std.specs.List.{All}
 use Rattle.std.proofs.lemmas.Bool.{cases_Bool, cases_lt, cond-false, eqb-true, ne_eqb, or_cases, true≢false}
 use Rattle.bw_types.specs.declared.point.Point.{Point}
@@ -15,7 +15,7 @@ use Rattle.sb_tree.specs.Stands.{SbStands}
 use Rattle.sb_tree.specs.Steps as over_versions
 use Rattle.mvsb_tree.specs.Grown.{EntriesHold, Grown, PastStays}
 use Rattle.mvsb_tree.specs.Led.{Led}
-use Rattle.mvsb_tree.specs.Stands.{ChainStands, MvStands, StandsOnWay, has_come, is_marked}
+use Rattle.mvsb_tree.specs.Stands.{ChainStands, IsBalanced, MvStands, StandsOnWay, has_come, is_marked}
 use Rattle.mvsb_tree.specs.Steps.{chain_from, directory, node_on, node_pages, place_count, root_at, root_level, total_below, tree_pages}
 use Rattle.mvsb_tree.specs.Tops.{RootAdded}
 use Rattle.mvsb_tree.specs.Ways.{added_at}
@@ -24,7 +24,11 @@ use Rattle.mvsb_tree.proofs.Frames.{way_stands, way_total}
 use Rattle.mvsb_tree.proofs.Growing.{named_first, named_second, once_together}
 use Rattle.mvsb_tree.proofs.Landing.{place_is}
 use Rattle.mvsb_tree.proofs.Sound.{root_spelled}
-use Rattle.mvsb_tree.proofs.Whole.{DirectoryAdded, NodesAdded, come_early, come_with, sum_stays}
+use Rattle.mvsb_tree.proofs.Whole.{DirectoryAdded, NodesAdded, come_early, come_with, level_stays, sum_stays}
+use Rattle.mvsb_tree.proofs.Counting.{SameLeads, high_root}
+use Rattle.bw_types.specs.Heights.{digit_count}
+use Rattle.bw_types.specs.HeightLaws.{digits_grow, powers_have_digits}
+use Rattle.sb_tree.specs.Stands as over_versions_stands
 
 none_some : (o : Rattle.std.specs.Prelude.Option (List ℕ)) → o ≡ None → IsSome o → ⊥
 none_some o none some = (let h : IsSome {T = List ℕ} None = subst IsSome none some in cc)
@@ -76,7 +80,7 @@ module _ (m0 m1 m2 : PageMap) (old new : Tree) (points : List Point) (p : Point)
   dir_agree : AgreeOn dir0 m0 m1
   dir_agree = Replaces-agree dir0 chain0 chain1 m0 m1 r.grown.replaces dir_there (once_apart dir0 chain0 s.once)
 
-  moved : SbStands m1 (directory old) s.changes × (over_versions.tree_pages m1 (directory old) ≡ dir0)
+  pub moved : SbStands m1 (directory old) s.changes × (over_versions.tree_pages m1 (directory old) ≡ dir0)
   moved = by_pages m0 m1 (directory old) s.changes s.roots dir_agree
 
   led : Led m1 m2 (directory old) roots s.changes v root top
@@ -176,3 +180,41 @@ module _ (m0 m1 m2 : PageMap) (old new : Tree) (points : List Point) (p : Point)
     early = λ w less. ap (λ (t : Tree). over_versions.tree_value m2 t w) new_roots ∙ led.early w less ∙ middle_root w (omega (arith, less, version_fits));
     late = λ w late fits. ap (λ (t : Tree). over_versions.tree_value m2 t w) new_roots ∙ led.late w late fits (middle_root w fits ∙ root_stays w late fits ∙ sym root_is);
   }
+
+  -- The root is no higher than the count of points allows.
+  height_fits : SameLeads → IsBalanced m0 old → root_level m1 top ≤ digit_count 24 (old.count + 1)
+  height_fits same b =
+      let low : root_level m0 root ≤ digit_count 24 old.count = subst (λ (x : ℕ). root_level m0 x ≤ digit_count 24 old.count) (sym root_is) (b.roots v version_fits) in
+      let more : digit_count 24 old.count ≤ digit_count 24 (old.count + 1) = digits_grow 24 old.count (old.count + 1) (lit≤ tt) (omega arith) in
+      let count : old.count + 1 ≡ length (p ∷ points) = omega (arith, s.count) in
+      elim r.height [
+        | inl same_level ↦ omega (arith, same_level, low, more)
+        | inr (inl one) ↦
+            let power : 24 ^ 0 ≡ 1 = refl in
+            let digits = powers_have_digits 24 0 (old.count + 1) (lit≤ tt) (omega (arith, power)) in
+            omega (arith, one, digits)
+        | inr (inr higher) ↦
+            let is : root_level m1 top ≡ Rattle.std.specs.Prelude.suc (root_level m0 root) = omega (arith, higher.0) in
+            let digits = high_root m1 chain1 v (p ∷ points) top (root_level m0 root) same r.grown.hold (λ q fits. subst (λ (l : ℕ). StandsOnWay l m1 chain1 top v q 0 None 1) is (r.ways q fits)) higher.1 in
+            subst (λ (n : ℕ). root_level m1 top ≤ digit_count 24 n) (sym count) (omega (arith, is, digits))
+      ]
+
+  pub balanced_whole : SameLeads → IsBalanced m0 old → over_versions_stands.IsBalanced (directory new) → new.count ≡ old.count + 1 → new.changes ≤ old.changes + 1 → IsBalanced m2 new
+  balanced_whole same b dir count changes =
+      let d = directory_added in
+      let a = nodes_added in
+      let more : digit_count 24 old.count ≤ digit_count 24 (old.count + 1) = digits_grow 24 old.count (old.count + 1) (lit≤ tt) (omega arith) in
+      record {
+        changes = omega (arith, count, changes, b.changes);
+        directory = dir;
+        roots = λ w fits. subst (λ (n : ℕ). root_level m2 (root_at m2 new w) ≤ digit_count 24 n) (sym count) (elim (cases_lt w v) [
+          | inl less ↦
+              let level = level_stays m0 m2 chain0 (root_at m0 old w) w 0 v a.past (s.nodes 0 w (omega arith) fits) in
+              let at = ap (λ (x : ℕ). root_level m2 x) (d.early w less) in
+              let low = b.roots w fits in
+              omega (arith, at, level, low, more)
+          | inr late ↦
+              let at = ap (λ (x : ℕ). root_level m2 x) (d.late w late fits) in
+              omega (arith, at, top_level, height_fits same b)
+        ]);
+      }

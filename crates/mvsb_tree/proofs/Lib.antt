@@ -3,6 +3,7 @@ pub mod Assembling
 pub mod Beginning
 pub mod Chains
 pub mod Costs
+pub mod Counting
 pub mod Cutting
 pub mod Exits
 pub mod Firsts

@@ -137,6 +137,14 @@ pub record DirectoryAdded (before after : PageMap) (old new : Tree) (points : Li
   pub early : (w : ℕ) → w < version → root_at after new w ≡ root_at before old w
   pub late : (w : ℕ) → version ≤ w → w < 2 ^ 32 → root_at after new w ≡ top
 
+-- A root keeps its level.
+pub level_stays : (m0 m2 : PageMap) (nodes : List ℕ) (root w q version : ℕ) → ((p : ℕ) → names_page nodes p ≡ true → PastStays version (node_on m0 p) (node_on m2 p)) → RootStands m0 nodes root w q
+    → root_level m2 root ≡ root_level m0 root
+level_stays m0 m2 nodes root w q version past (inl none) = ap (λ (r : ℕ). root_level m2 r) none ∙ sym (ap (λ (r : ℕ). root_level m0 r) none)
+level_stays m0 m2 nodes root w q version past (inr s) =
+    let listed = (root_spelled (root_level m0 root) m0 nodes root w q 0 None 1 s.1).listed in
+    ap (λ (l : ℕ). if root == 0 then 0 else l) (past root listed).level
+
 module _ (m0 m2 : PageMap) (old new : Tree) (points : List Point) (p : Point) (key v value top : ℕ) (s : MvStands m0 old points) (few : length points < 2 ^ 31)
     (early : v < 4294967295) (past : All (λ q. q.version ≤ v) points) (key_is : key_of p ≡ key) (version_is : p.version ≡ v) (weight_is : p.weight ≡ value)
     (d : DirectoryAdded m0 m2 old new (p ∷ points) v top) (top_some : top ≢ 0) (top_fits : top < 2 ^ 64) (chain2 : ChainStands (place_count m2 new) m2 new.last)
@@ -147,12 +155,6 @@ module _ (m0 m2 : PageMap) (old new : Tree) (points : List Point) (p : Point) (k
   nodes2 : List ℕ
   nodes2 = node_pages m2 new
 
-  early_level : (root w q : ℕ) → RootStands m0 (node_pages m0 old) root w q → root_level m2 root ≡ root_level m0 root
-  early_level root w q (inl none) = ap (λ (r : ℕ). root_level m2 r) none ∙ sym (ap (λ (r : ℕ). root_level m0 r) none)
-  early_level root w q (inr s) =
-      let listed = (root_spelled (root_level m0 root) m0 (node_pages m0 old) root w q 0 None 1 s.1).listed in
-      ap (λ (l : ℕ). if root == 0 then 0 else l) (a.past root listed).level
-
   early_root : (root w q : ℕ) → w < v → RootStands m0 (node_pages m0 old) root w q
       → RootStands m2 (node_pages m2 new) root w q × (total_below (root_level m2 root) m2 root q w % 2 ^ 128 ≡ total_below (root_level m0 root) m0 root q w % 2 ^ 128)
   early_root root w q less (inl none) = (
@@ -160,7 +162,7 @@ module _ (m0 m2 : PageMap) (old new : Tree) (points : List Point) (p : Point) (k
     ap (λ (r : ℕ). total_below (root_level m2 r) m2 r q w % 2 ^ 128) none ∙ sym (ap (λ (r : ℕ). total_below (root_level m0 r) m0 r q w % 2 ^ 128) none),
   )
   early_root root w q less (inr st) =
-      let level = early_level root w q (inr st) in
+      let level = level_stays m0 m2 (node_pages m0 old) root w q v a.past (inr st) in
       let kept = way_past m0 m2 (node_pages m0 old) (node_pages m2 new) v w q less a.past a.listed (chain_spells (place_count m2 new) m2 new.last chain2) (root_level m0 root) root 0 None 1 st.1 in (
         inr (st.0, subst (λ (l : ℕ). StandsOnWay l m2 (node_pages m2 new) root w q 0 None 1) (sym level) kept.0),
         ap (λ (l : ℕ). total_below l m2 root q w % 2 ^ 128) level ∙ kept.1,

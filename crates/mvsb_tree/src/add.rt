@@ -14,6 +14,7 @@ use crate::first::first_leaf;
 use crate::lead::lead_to;
 use crate::root::add_at_root;
 use bw_types::Tree;
+use mv_pages::path_laws;
 use page_ports::{Stage, StageFault};
 use sb_tree::tree_laws;
 
@@ -30,6 +31,9 @@ pub fn mv_add<S: Stage>(
     ensures stands { OnOk result (IsTrue (S.tells stage.old) → (points : List Point) (p : Point)
         → MvStands (S.map stage.old) tree.old points → length points < 2 ^ 31 → All (λ q. q.version ≤ version) points
         → key_of p ≡ key → p.version ≡ version → p.weight ≡ value → MvStands (S.map stage.new) tree.new (p ∷ points)) }
+    ensures balanced { OnOk result (IsTrue (S.tells stage.old) → (points : List Point)
+        → MvStands (S.map stage.old) tree.old points → length points < 2 ^ 31 → All (λ q. q.version ≤ version) points
+        → IsBalanced (S.map stage.old) tree.old → IsBalanced (S.map stage.new) tree.new) }
     ensures change { OnOk result (IsTrue (S.tells stage.old) → (points : List Point)
         → MvStands (S.map stage.old) tree.old points → All (λ q. q.version ≤ version) points
         → Replaces (tree_pages (S.map stage.old) tree.old) (tree_pages (S.map stage.new) tree.new) (S.map stage.old) (S.map stage.new)) }
@@ -38,6 +42,8 @@ pub fn mv_add<S: Stage>(
     ensures typed { IsTreeTyped tree.new }
     ensures unchanged { OnErr result (tree.new ≡ tree.old) }
     ensures grows { Grows S.Pages (tree.old.levels + 34) stage.old stage.new result }
+    ensures few { (points : List Point) → IsTrue (S.tells stage.old) → MvStands (S.map stage.old) tree.old points → length points < 2 ^ 31
+        → All (λ q. q.version ≤ version) points → IsBalanced (S.map stage.old) tree.old → Grows S.Pages 24 stage.old stage.new result }
 {
     let mut roots = directory(tree);
     let mut last = tree.last;
@@ -47,6 +53,7 @@ pub fn mv_add<S: Stage>(
     let ends = add_to_nodes(stage, tree, key, version, value, &mut last)?;
     lead_to(stage, &mut roots, version, ends.root, ends.top)?;
     tree_laws();
+    path_laws();
     *tree = grown(tree, &roots, last);
     Ok(())
 }
@@ -75,6 +82,9 @@ fn add_to_nodes<S: Stage>(
         → MvStands (S.map stage.old) tree.now points → All (λ q. q.version ≤ version) points → key_of p ≡ key
         → RootAdded (is_marked (p ∷ points)) (S.map stage.old) (S.map stage.new) ends.root ends.top version key value (place_count (S.map stage.old) tree.now) last.old last.new) }
     ensures grows { Grows S.Pages 33 stage.old stage.new result }
+    // The root of a balanced tree has at most 7 levels.
+    ensures few { (points : List Point) → IsTrue (S.tells stage.old) → MvStands (S.map stage.old) tree.now points → length points < 2 ^ 31
+        → IsBalanced (S.map stage.old) tree.now → Grows S.Pages 15 stage.old stage.new result }
 {
     if tree.levels == 0 {
         let top = first_leaf(stage, key, version, value)?;

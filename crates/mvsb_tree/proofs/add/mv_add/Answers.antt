@@ -1,9 +1,10 @@
-use Rattle.std.proofs.Common.{◌≡◌, ◌≢◌, ◌^◌, ◌<◌, ◌≤◌, ℕ, List, ◌∷◌, Some, None, [], IsTrue, length, refl, sym, ap, ◌∙◌, subst, arith, rules}
+use Rattle.std.proofs.Common.{◌≡◌, ◌≢◌, ◌+◌, ◌^◌, ◌<◌, ◌≤◌, ℕ, List, ◌∷◌, Some, None, [], IsTrue, length, refl, sym, ap, ◌∙◌, subst, arith, rules}
 use Rattle.std.specs.List.{All}
 use Rattle.bw_types.specs.declared.point.Point.{Point}
 use Rattle.bw_types.specs.declared.tree.Tree.{Tree}
 use Rattle.page_ports.specs.Pages.{PageMap}
 use Rattle.sb_tree.specs.Stands.{SbStands}
+use Rattle.sb_tree.specs.Stands as over_versions
 use Rattle.mvsb_tree.specs.Led.{Led}
 use Rattle.mvsb_tree.specs.Stands.{MvStands, is_marked, key_of}
 use Rattle.mvsb_tree.specs.Steps.{directory, node_on, place_count, root_at, root_level}
@@ -84,3 +85,26 @@ returns-clause-stands g c = λ tells points p s few past key_is version_is weigh
   let there = (root_spelled (root_level m1 top) m1 _ top v 0 0 None 1 (took.ways 0 (omega arith))).spelled in
   let top_fits : top < 2 ^ 64 = omega (arith, g.met.S.Stage.below_allotted c.add_to_nodes.new.stage top _ (c.add_to_nodes.ensures.grows.went_on.tells ∙ tells) there, g.met.S.Stage.within_limit c.add_to_nodes.new.stage, g.met.S.Stage.limit_fits c.add_to_nodes.new.stage) in
   added_stands m0 m2 old new points p key v value top s few c.requires past key_is version_is weight_is d (λ none. omega (arith, none, three)) top_fits chain a c.grown.ensures.count levels places once)
+
+pub returns-clause-balanced : goal.returns-clause-balanced
+returns-clause-balanced g c = λ tells points s few past b. (
+  let m0 : PageMap = g.S.Pages.map c.args.stage.now in
+  let m1 : PageMap = g.S.Pages.map c.add_to_nodes.new.stage in
+  let m2 : PageMap = g.S.Pages.map c.lead_to.new.stage in
+  let old = c.args.tree.now in
+  let new = c.grown.result in
+  let p : Point = record { keys = c.args.key ∷ []; version = c.args.version; weight = c.args.value } in
+  let root = c.in_ok-ends.ends.root in
+  let top = c.in_ok-ends.ends.top in
+  let in_map = c.tree_laws.ensures.in_map in
+  let by_pages = c.tree_laws.ensures.by_its_pages in
+  let took = nodes_took g c tells points p s past refl in
+  let moved = joining.moved m0 m1 m2 old new points p c.args.key c.args.version c.args.value root top c.add_to_nodes.new.last s in_map by_pages past refl c.ranges.version.fits
+  (c.in_ok-ends.ensures.root tells) c.in_ok-ends.ensures.number.0 took c.lead_to.new.roots (led g c tells) (new_roots g c) c.grown.ensures.last c.in_ok-ends.ensures.number.1 in
+  let same_dir = c.directory-roots.ensures in
+  let dir = c.in_ok-lead_to.ensures.balanced (c.add_to_nodes.ensures.grows.went_on.tells ∙ tells) s.changes (subst (λ (t : Tree). SbStands m1 t s.changes) (sym same_dir) moved.0)
+  (subst (λ (t : Tree). over_versions.IsBalanced t) (sym same_dir) b.directory) in
+  let changes : new.changes ≤ old.changes + 1 = omega (arith, c.grown.ensures.changes, c.in_ok-lead_to.ensures.count.1, ap (λ (t : Tree). t.count) same_dir) in
+  joining.balanced_whole m0 m1 m2 old new points p c.args.key c.args.version c.args.value root top c.add_to_nodes.new.last s in_map by_pages past refl c.ranges.version.fits
+  (c.in_ok-ends.ensures.root tells) c.in_ok-ends.ensures.number.0 took c.lead_to.new.roots (led g c tells) (new_roots g c) c.grown.ensures.last c.in_ok-ends.ensures.number.1
+  c.path_laws.ensures.same b (subst (λ (t : Tree). over_versions.IsBalanced t) (sym (new_roots g c)) dir) c.grown.ensures.count changes)
