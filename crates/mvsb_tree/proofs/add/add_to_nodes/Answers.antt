@@ -1,14 +1,15 @@
-use Rattle.std.proofs.Common.{◌≡◌, ◌≢◌, ◌+◌, ◌^◌, ◌<◌, ◌≤◌, ◌==◌, inl, inr, false, ℕ, List, [], ◌∷◌, Some, None, Option, IsTrue, refl, sym, ap, ◌∙◌, subst, arith, rules}
+use Rattle.std.proofs.Common.{◌≡◌, ◌≢◌, ◌+◌, ◌^◌, ◌<◌, ◌≤◌, ◌==◌, inl, inr, false, ℕ, List, [], ◌∷◌, Some, None, Option, IsTrue, length, refl, sym, ap, ◌∙◌, subst, arith, rules}
 use Rattle.std.specs.List.{All}
 use Rattle.std.proofs.lemmas.Result.{IfOk-weaker}
 use Rattle.bw_types.specs.declared.point.Point.{Point}
 use Rattle.page_ports.specs.Pages.{PageMap}
 use Rattle.mvsb_tree.specs.Grown.{NodesHold}
-use Rattle.mvsb_tree.specs.Stands.{ChainStands, MvStands, StandsOnWay, is_marked, key_of}
+use Rattle.mvsb_tree.specs.Stands.{ChainStands, IsBalanced, MvStands, StandsOnWay, is_marked, key_of}
 use Rattle.mvsb_tree.specs.Steps.{chain_from, place_count, root_at, root_level}
 use Rattle.mvsb_tree.specs.Tops.{RootAdded}
 use Rattle.mvsb_tree.proofs.Beginning.{begun_root, first_of_tree, root_ways}
 use Rattle.mvsb_tree.proofs.Whole.{marked_own, nodes_hold}
+use Rattle.mvsb_tree.proofs.Costs.{low_moved}
 use Rattle.mvsb_tree.proofs.add.add_to_nodes.Goals as goal
 
 pub returns-then-tree-eq0-clause-added : goal.returns-then-tree-eq0-clause-added
@@ -42,3 +43,15 @@ returns-clause-added g c = λ tells points p s past key_is.
     let ways = root_ways m0 tree points v root s past c.if-tree-eq0.false c.requires.version root_is in
     a1 (marked_own points p key key_is) (subst (λ (l : ℕ). ChainStands places m0 l) last_is s.chain) (subst (λ (l : ℕ). NodesHold v test m0 (chain_from places m0 l)) last_is (nodes_hold m0 tree points p v s past))
     (subst (λ (l : ℕ). (q : ℕ) → q < 2 ^ 64 → StandsOnWay (root_level m0 root) m0 (chain_from places m0 l) root v q 0 None 1) last_is ways)
+
+pub returns-in_err-top-2-clause-few : goal.returns-in_err-top-2-clause-few
+returns-in_err-top-2-clause-few g c = λ points tells s few b. (
+  let low = low_moved (g.S.Pages.map c.args.stage.now) (g.S.Pages.map c.root_at.new.pages) c.args.tree.now points c.args.version c.in_ok-root.root s few b c.ranges.version.fits c.root_at.ensures.reads.read.map (c.in_ok-root.ensures.root tells) in
+  let grows = c.in_err-top-2.ensures.few 7 (c.root_at.ensures.reads.read.tells ∙ tells) low in
+  search rules)
+
+pub returns-clause-few : goal.returns-clause-few
+returns-clause-few g c = λ points tells s few b. (
+  let low = low_moved (g.S.Pages.map c.args.stage.now) (g.S.Pages.map c.root_at.new.pages) c.args.tree.now points c.args.version c.in_ok-root.root s few b c.ranges.version.fits c.root_at.ensures.reads.read.map (c.in_ok-root.ensures.root tells) in
+  let grows = c.in_ok-top-2.ensures.few 7 (c.root_at.ensures.reads.read.tells ∙ tells) low in
+  search rules)

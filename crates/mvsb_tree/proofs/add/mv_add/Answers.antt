@@ -9,6 +9,7 @@ use Rattle.mvsb_tree.specs.Led.{Led}
 use Rattle.mvsb_tree.specs.Stands.{MvStands, is_marked, key_of}
 use Rattle.mvsb_tree.specs.Steps.{directory, node_on, place_count, root_at, root_level}
 use Rattle.mvsb_tree.specs.Tops.{RootAdded}
+use Rattle.mvsb_tree.proofs.Costs.{low_directory}
 use Rattle.mvsb_tree.proofs.Joining as joining
 use Rattle.mvsb_tree.proofs.Sound.{root_spelled}
 use Rattle.mvsb_tree.proofs.Whole.{added_stands}
@@ -108,3 +109,19 @@ returns-clause-balanced g c = λ tells points s few past b. (
   joining.balanced_whole m0 m1 m2 old new points p c.args.key c.args.version c.args.value root top c.add_to_nodes.new.last s in_map by_pages past refl c.ranges.version.fits
   (c.in_ok-ends.ensures.root tells) c.in_ok-ends.ensures.number.0 took c.lead_to.new.roots (led g c tells) (new_roots g c) c.grown.ensures.last c.in_ok-ends.ensures.number.1
   c.path_laws.ensures.same b (subst (λ (t : Tree). over_versions.IsBalanced t) (sym (new_roots g c)) dir) c.grown.ensures.count changes)
+
+pub returns-in_err-lead_to-clause-few : goal.returns-in_err-lead_to-clause-few
+returns-in_err-lead_to-clause-few g c = λ points tells s few past b. (
+  let low = low_directory (g.S.Pages.map c.args.stage.now) c.args.tree.now points s few b in
+  let levels : c.directory-roots.result.levels ≡ c.args.tree.now.levels = ap (λ (t : Tree). t.levels) c.directory-roots.ensures in
+  let first = c.add_to_nodes.ensures.few points tells s few b in
+  let second = c.lead_to.ensures.grows in
+  search rules)
+
+pub returns-clause-few : goal.returns-clause-few
+returns-clause-few g c = λ points tells s few past b. (
+  let low = low_directory (g.S.Pages.map c.args.stage.now) c.args.tree.now points s few b in
+  let levels : c.directory-roots.result.levels ≡ c.args.tree.now.levels = ap (λ (t : Tree). t.levels) c.directory-roots.ensures in
+  let first = c.add_to_nodes.ensures.few points tells s few b in
+  let second = c.lead_to.ensures.grows in
+  search rules)
