@@ -13,6 +13,7 @@ pub mod Growing
 pub mod Intervals
 pub mod Joining
 pub mod Landing
+pub mod Lasting
 pub mod Leading
 pub mod Nodes
 pub mod Past
