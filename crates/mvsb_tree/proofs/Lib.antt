@@ -5,6 +5,7 @@ pub mod Chains
 pub mod Costs
 pub mod Counting
 pub mod Cutting
+pub mod Descending
 pub mod Exits
 pub mod Firsts
 pub mod Frames
