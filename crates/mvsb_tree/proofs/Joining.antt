@@ -42,6 +42,40 @@ names_swap xs ys p = names_page-append xs ys p ∙ or_swap (names_page xs p) (na
     or_swap false true = refl
     or_swap false false = refl
 
+module _ (m0 m1 : PageMap) (old : Tree) (points : List Point) (p : Point) (key v value root top last : ℕ) (s : MvStands m0 old points)
+    (all_there : over_versions_laws.PagesAreThere) (by_pages : over_versions_laws.StandsByItsPages)
+    (r : RootAdded (is_marked (p ∷ points)) m0 m1 root top v key value (place_count m0 old) old.last last) where
+  abbrev dir_before : List ℕ
+  dir_before = over_versions.tree_pages m0 (directory old)
+
+  abbrev nodes_before : List ℕ
+  nodes_before = chain_from (place_count m0 old) m0 old.last
+
+  abbrev nodes_between : List ℕ
+  nodes_between = chain_from r.new_places m1 last
+
+  dir_present : AreInMap m0 dir_before
+  dir_present = all_there m0 (directory old) s.changes s.roots
+
+  nodes_there : AreInMap m0 nodes_before
+  nodes_there = chain_there (place_count m0 old) m0 old.last s.chain
+
+  -- The nodes' pages, old and new, are apart from the directory's.
+  new_apart : AreApart r.grown.new dir_before
+  new_apart page named = elim (cases_Bool (names_page dir_before page)) [
+    | inl both ↦ absurd (none_some (m0 page) (r.grown.fresh page named) (dir_present page both))
+    | inr other ↦ other
+  ]
+
+  between_apart : AreApart nodes_between dir_before
+  between_apart = subst (λ (xs : List ℕ). AreApart xs dir_before) (sym r.grown.chain) (apart_append r.grown.new nodes_before dir_before new_apart (apart_sym dir_before nodes_before (once_apart dir_before nodes_before s.once)))
+
+  dir_agree : AgreeOn dir_before m0 m1
+  dir_agree = Replaces-agree dir_before nodes_before nodes_between m0 m1 r.grown.replaces dir_present (once_apart dir_before nodes_before s.once)
+
+  pub dir_moved : SbStands m1 (directory old) s.changes × (over_versions.tree_pages m1 (directory old) ≡ dir_before)
+  dir_moved = by_pages m0 m1 (directory old) s.changes s.roots dir_agree
+
 module _ (m0 m1 m2 : PageMap) (old new : Tree) (points : List Point) (p : Point) (key v value root top last : ℕ) (s : MvStands m0 old points)
     (all_there : over_versions_laws.PagesAreThere) (by_pages : over_versions_laws.StandsByItsPages)
     (past : All (λ q. q.version ≤ v) points) (version_is : p.version ≡ v) (version_fits : v < 2 ^ 32)
@@ -61,27 +95,14 @@ module _ (m0 m1 m2 : PageMap) (old new : Tree) (points : List Point) (p : Point)
   abbrev dir2 : List ℕ
   dir2 = over_versions.tree_pages m2 (directory new)
 
-  dir_there : AreInMap m0 dir0
-  dir_there = all_there m0 (directory old) s.changes s.roots
-
   chain0_there : AreInMap m0 chain0
   chain0_there = chain_there (place_count m0 old) m0 old.last s.chain
 
-  -- The nodes' pages, old and new, are apart from the directory's.
-  new_apart : AreApart r.grown.new dir0
-  new_apart page named = elim (cases_Bool (names_page dir0 page)) [
-    | inl both ↦ absurd (none_some (m0 page) (r.grown.fresh page named) (dir_there page both))
-    | inr other ↦ other
-  ]
-
   chain1_apart : AreApart chain1 dir0
-  chain1_apart = subst (λ (xs : List ℕ). AreApart xs dir0) (sym r.grown.chain) (apart_append r.grown.new chain0 dir0 new_apart (apart_sym dir0 chain0 (once_apart dir0 chain0 s.once)))
-
-  dir_agree : AgreeOn dir0 m0 m1
-  dir_agree = Replaces-agree dir0 chain0 chain1 m0 m1 r.grown.replaces dir_there (once_apart dir0 chain0 s.once)
+  chain1_apart = between_apart m0 m1 old points p key v value root top last s all_there by_pages r
 
   pub moved : SbStands m1 (directory old) s.changes × (over_versions.tree_pages m1 (directory old) ≡ dir0)
-  moved = by_pages m0 m1 (directory old) s.changes s.roots dir_agree
+  moved = dir_moved m0 m1 old points p key v value root top last s all_there by_pages r
 
   led : Led m1 m2 (directory old) roots s.changes v root top
   led = led_from s.changes moved.0

@@ -21,6 +21,7 @@ pub mod Past
 pub mod Putting
 pub mod Raising
 pub mod Sound
+pub mod Sounding
 pub mod Splitting
 pub mod Standing
 pub mod Stepping

@@ -41,6 +41,9 @@ pub fn mv_add<S: Stage>(
     ensures rules { OnOk result (IsTrue (tree_fits tree.old) → IsTrue (tree_fits tree.new)) }
     ensures typed { IsTreeTyped tree.new }
     ensures unchanged { OnErr result (tree.new ≡ tree.old) }
+    ensures sound { (points : List Point) (page : ℕ) → IsTrue (S.tells stage.old) → MvStands (S.map stage.old) tree.old points
+        → length points < 2 ^ 31 → All (λ q. q.version ≤ version) points → IsBalanced (S.map stage.old) tree.old
+        → S.free_in_order stage.old → result ≢ Err (StageFault.Damaged page) }
     ensures grows { Grows S.Pages (tree.old.levels + 34) stage.old stage.new result }
     ensures few { (points : List Point) → IsTrue (S.tells stage.old) → MvStands (S.map stage.old) tree.old points → length points < 2 ^ 31
         → All (λ q. q.version ≤ version) points → IsBalanced (S.map stage.old) tree.old → Grows S.Pages 24 stage.old stage.new result }
@@ -51,8 +54,8 @@ pub fn mv_add<S: Stage>(
         return Err(StageFault::Damaged(tree.root));
     }
     let ends = add_to_nodes(stage, tree, key, version, value, &mut last)?;
-    lead_to(stage, &mut roots, version, ends.root, ends.top)?;
     tree_laws();
+    lead_to(stage, &mut roots, version, ends.root, ends.top)?;
     path_laws();
     *tree = grown(tree, &roots, last);
     Ok(())
@@ -81,6 +84,9 @@ fn add_to_nodes<S: Stage>(
     ensures added { IfOk result (λ ends. IsTrue (S.tells stage.old) → (points : List Point) (p : Point)
         → MvStands (S.map stage.old) tree.now points → All (λ q. q.version ≤ version) points → key_of p ≡ key
         → RootAdded (is_marked (p ∷ points)) (S.map stage.old) (S.map stage.new) ends.root ends.top version key value (place_count (S.map stage.old) tree.now) last.old last.new) }
+    ensures sound { (points : List Point) (page : ℕ) → IsTrue (S.tells stage.old) → MvStands (S.map stage.old) tree.now points
+        → length points < 2 ^ 31 → All (λ q. q.version ≤ version) points → IsBalanced (S.map stage.old) tree.now
+        → S.free_in_order stage.old → result ≢ Err (StageFault.Damaged page) }
     ensures grows { Grows S.Pages 33 stage.old stage.new result }
     // The root of a balanced tree has at most 7 levels.
     ensures few { (points : List Point) → IsTrue (S.tells stage.old) → MvStands (S.map stage.old) tree.now points → length points < 2 ^ 31

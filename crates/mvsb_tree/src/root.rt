@@ -33,6 +33,10 @@ pub fn add_at_root<S: Stage>(
         → ChainStands places (S.map stage.old) last.old → NodesHold version test (S.map stage.old) (chain_from places (S.map stage.old) last.old)
         → ((q : ℕ) → q < 2 ^ 64 → StandsOnWay (root_level (S.map stage.old) root) (S.map stage.old) (chain_from places (S.map stage.old) last.old) root version q 0 None 1)
         → RootAdded test (S.map stage.old) (S.map stage.new) root top version key value places last.old last.new) }
+    ensures sound { (test : ℕ → Bool) (places p : ℕ) → IsTrue (S.tells stage.old) → IsTrue (test key)
+        → ChainStands places (S.map stage.old) last.old → NodesHold version test (S.map stage.old) (chain_from places (S.map stage.old) last.old)
+        → ((q : ℕ) → q < 2 ^ 64 → StandsOnWay (root_level (S.map stage.old) root) (S.map stage.old) (chain_from places (S.map stage.old) last.old) root version q 0 None 1)
+        → root_level (S.map stage.old) root ≤ 15 → S.free_in_order stage.old → result ≢ Err (StageFault.Damaged p) }
     ensures grows { Grows S.Pages 33 stage.old stage.new result }
     // Two pages a level and a new root at most.
     ensures few { (most : ℕ) → IsTrue (S.tells stage.old) → root_level (S.map stage.old) root ≤ most

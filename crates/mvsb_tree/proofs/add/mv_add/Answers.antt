@@ -1,8 +1,10 @@
-use Rattle.std.proofs.Common.{◌≡◌, ◌≢◌, ◌+◌, ◌^◌, ◌<◌, ◌≤◌, ℕ, List, ◌∷◌, Some, None, [], IsTrue, length, refl, sym, ap, ◌∙◌, subst, arith, rules}
+use Rattle.std.proofs.Common.{◌≡◌, ◌≢◌, ◌+◌, ◌^◌, ◌<◌, ◌≤◌, ℕ, List, ◌∷◌, Some, None, [], Err, IsTrue, length, refl, sym, ap, ◌∙◌, subst, arith, rules}
 use Rattle.std.specs.List.{All}
 use Rattle.bw_types.specs.declared.point.Point.{Point}
 use Rattle.bw_types.specs.declared.tree.Tree.{Tree}
+use Rattle.std.proofs.lemmas.Result.{err_from_is_err_and}
 use Rattle.page_ports.specs.Pages.{PageMap}
+use Rattle.page_ports.specs.declared.page.StageFault.TheVariants.{Damaged}
 use Rattle.sb_tree.specs.Stands.{SbStands}
 use Rattle.sb_tree.specs.Stands as over_versions
 use Rattle.mvsb_tree.specs.Led.{Led}
@@ -10,6 +12,7 @@ use Rattle.mvsb_tree.specs.Stands.{MvStands, is_marked, key_of}
 use Rattle.mvsb_tree.specs.Steps.{directory, node_on, place_count, root_at, root_level}
 use Rattle.mvsb_tree.specs.Tops.{RootAdded}
 use Rattle.mvsb_tree.proofs.Costs.{low_directory}
+use Rattle.mvsb_tree.proofs.Exits.{exit_error}
 use Rattle.mvsb_tree.proofs.Joining as joining
 use Rattle.mvsb_tree.proofs.Sound.{root_spelled}
 use Rattle.mvsb_tree.proofs.Whole.{added_stands}
@@ -125,3 +128,16 @@ returns-clause-few g c = λ points tells s few past b. (
   let first = c.add_to_nodes.ensures.few points tells s few b in
   let second = c.lead_to.ensures.grows in
   search rules)
+
+pub returns-in_err-lead_to-clause-sound : goal.returns-in_err-lead_to-clause-sound
+returns-in_err-lead_to-clause-sound g c = λ points page tells s few past b ordered e. (
+  let m1 : PageMap = g.S.Pages.map c.add_to_nodes.new.stage in
+  let told = err_from_is_err_and c.from_residual-in_err-lead_to.result c.from_residual-in_err-lead_to.ensures.1 in
+  let same = exit_error c.from_residual-in_err-lead_to.result c.in_err-lead_to.field-0.0 (Damaged page) told e in
+  let p : Point = record { keys = c.args.key ∷ []; version = c.args.version; weight = c.args.value } in
+  let took = c.in_ok-ends.ensures.added tells points p s past refl in
+  let moved = joining.dir_moved (g.S.Pages.map c.args.stage.now) m1 c.args.tree.now points p c.args.key c.args.version c.args.value c.in_ok-ends.ends.root c.in_ok-ends.ends.top c.add_to_nodes.new.last s
+  c.tree_laws.ensures.in_map c.tree_laws.ensures.by_its_pages took in
+  let grows = c.add_to_nodes.ensures.grows.went_on in
+  c.in_err-lead_to.ensures.sound s.changes page (grows.tells ∙ tells) (subst (λ (t : Tree). SbStands m1 t s.changes) (sym c.directory-roots.ensures) moved.0)
+  (subst (λ (t : Tree). over_versions.IsBalanced t) (sym c.directory-roots.ensures) b.directory) (grows.free_in_order tells ordered) (ap Err same))

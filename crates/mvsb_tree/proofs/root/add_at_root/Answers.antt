@@ -1,17 +1,25 @@
-use Rattle.std.proofs.Common.{◌≡◌, ◌-◌, ◌^◌, ◌<◌, ℕ, suc, Some, None, IsTrue, List, refl, sym, ap, ◌∙◌, subst, arith, rules}
-use Rattle.std.proofs.lemmas.Result.{IfOk-weaker}
+use Rattle.std.proofs.Common.{◌≡◌, ◌-◌, ◌^◌, ◌<◌, ℕ, suc, Some, None, Err, IsTrue, List, refl, sym, ap, ◌∙◌, subst, arith, rules}
+use Rattle.std.proofs.lemmas.Result.{IfOk-weaker, err_from_is_err_and}
+use Rattle.std.proofs.lemmas.Bool.{iff_false}
 use Rattle.page_ports.specs.Pages.{PageMap}
+use Rattle.page_ports.specs.declared.page.StageFault.TheVariants.{Damaged}
+use Rattle.page_layout.specs.MvNode.{mv_node_page}
 use Rattle.mvsb_tree.specs.declared.place.Place.{Place}
 use Rattle.mvsb_tree.specs.Stands.{StandsOnWay}
-use Rattle.mvsb_tree.specs.Steps.{chain_from, root_level}
+use Rattle.mvsb_tree.specs.Steps.{chain_from, node_on, root_level}
+use Rattle.mvsb_tree.specs.Damage.{IsInPlace}
 use Rattle.mvsb_tree.specs.Tops.{IsReplacedTyped, IsTop}
 use Rattle.mvsb_tree.specs.Changed.{ReplacedFits}
 use Rattle.mvsb_tree.specs.declared.replaced.Replaced.{Replaced}
 use Rattle.mvsb_tree.proofs.Assembling.{AddsBelow}
-use Rattle.mvsb_tree.proofs.Exits.{both_if}
+use Rattle.mvsb_tree.proofs.Exits.{both_if, exit_error, read_damaged}
+use Rattle.mvsb_tree.proofs.Growing.{named_second}
+use Rattle.mvsb_tree.proofs.Lasting.{some_by_name}
 use Rattle.mvsb_tree.proofs.Sound.{root_spelled}
+use Rattle.mvsb_tree.proofs.Sounding.{Fails, changeable_where_stands, root_in_place}
 use Rattle.mvsb_tree.proofs.Topping.{tops}
 use Rattle.mvsb_tree.proofs.Values.{level_of_root}
+use Rattle.mvsb_tree.proofs.root.add_at_root.Goals.{then-not-admits-via-then-not-admits, then-not-admits-via-else-not-admits+then-not-is_changeable}
 use Rattle.mvsb_tree.proofs.root.add_at_root.Goals as goal
 
 pub returns-clause-added : goal.returns-clause-added
@@ -42,3 +50,86 @@ returns-clause-added g c =
     tops (node.level - 1) node.level (omega (arith, spells.rules.low_level)) test m0 m1 m2 root top v key c.args.value places c.args.last.now last1 c.top_of.new.last replaced level c.if-root-lt3.false told.0 c.requires.version fits told.1.0 listed added
     (told.1.1 (search rules)))
     (both_if _ _ c.top_of.result c.top_of.ensures.number (both_if _ _ c.top_of.result c.top_of.ensures.typed c.top_of.ensures.top))
+
+pub returns-in_err-node-clause-sound : goal.returns-in_err-node-clause-sound
+returns-in_err-node-clause-sound g c = λ test places p tells key_test s h ways low ordered e. (
+    let m0 : PageMap = g.S.Pages.map c.args.stage.now in
+    let root = c.args.root in
+    let v = c.args.version in
+    let key = c.args.key in
+    let nodes : List ℕ = chain_from places m0 c.args.last.now in
+    let top = root_spelled (root_level m0 root) m0 nodes root v 0 0 None 1 (ways 0 (omega arith)) in
+    let told = err_from_is_err_and c.from_residual.result c.from_residual.ensures.1 in
+    let same = read_damaged c.from_residual.result c.in_err-node.field-0.0 p told e in
+    let why = c.in_err-node.ensures.damaged p (ap Err same) in
+    why.1 tells (node_on m0 root) (mv_node_page (node_on m0 root)) top.spelled (record { spelled = refl; rules = top.rules; typed = top.typed }))
+
+pub returns-then-not-admits-clause-sound : goal.returns-then-not-admits-clause-sound
+returns-then-not-admits-clause-sound g c = λ test places p tells key_test s h ways low ordered e. (
+    let m0 : PageMap = g.S.Pages.map c.args.stage.now in
+    let root = c.args.root in
+    let v = c.args.version in
+    let key = c.args.key in
+    let nodes : List ℕ = chain_from places m0 c.args.last.now in
+    let top = root_spelled (root_level m0 root) m0 nodes root v 0 0 None 1 (ways 0 (omega arith)) in
+    let node = c.in_ok-node.node in
+    let spells = c.in_ok-node.ensures.spells in
+    let there = c.in_ok-node.ensures.found tells in
+    let level : root_level m0 root ≡ node.level = level_of_root m0 root node (λ none. omega (arith, none, c.if-root-lt3.false)) spells.typed spells.rules there in
+    let at_level : (q : ℕ) → q < 2 ^ 64 → StandsOnWay node.level m0 nodes root v q 0 None 1 = λ q q_fits. subst (λ (l : ℕ). StandsOnWay l m0 nodes root v q 0 None 1) level (ways q q_fits) in
+    elim c.then-not-admits.branch [
+      | then-not-admits-via-then-not-admits w ↦
+          let inside = root_in_place m0 nodes root v key 1 node (at_level key c.ranges.key.fits) there spells.typed spells.rules in
+          iff_false c.admits.ensures w.if-not-admits.true (subst (λ (q : Place). IsInPlace node.level q node) (sym c.root_place-place.ensures) inside)
+      | then-not-admits-via-else-not-admits+then-not-is_changeable w ↦
+          let can = changeable_where_stands m0 nodes (root_level m0 root) root v 0 None 1 node c.requires.version (h root top.listed).past top there spells.typed spells.rules in
+          iff_false w.is_changeable.ensures w.if-not-is_changeable.true can
+    ])
+
+pub returns-in_err-replaced-clause-sound : goal.returns-in_err-replaced-clause-sound
+returns-in_err-replaced-clause-sound g c = λ test places p tells key_test s h ways low ordered e. (
+    let m0 : PageMap = g.S.Pages.map c.args.stage.now in
+    let root = c.args.root in
+    let v = c.args.version in
+    let key = c.args.key in
+    let nodes : List ℕ = chain_from places m0 c.args.last.now in
+    let top = root_spelled (root_level m0 root) m0 nodes root v 0 0 None 1 (ways 0 (omega arith)) in
+    let node = c.in_ok-node.node in
+    let spells = c.in_ok-node.ensures.spells in
+    let there = c.in_ok-node.ensures.found tells in
+    let level : root_level m0 root ≡ node.level = level_of_root m0 root node (λ none. omega (arith, none, c.if-root-lt3.false)) spells.typed spells.rules there in
+    let at_level : (q : ℕ) → q < 2 ^ 64 → StandsOnWay node.level m0 nodes root v q 0 None 1 = λ q q_fits. subst (λ (l : ℕ). StandsOnWay l m0 nodes root v q 0 None 1) level (ways q q_fits) in
+    let told = err_from_is_err_and c.from_residual-in_err-replaced.result c.from_residual-in_err-replaced.ensures.1 in
+    let same = exit_error c.from_residual-in_err-replaced.result c.in_err-replaced.field-0.0 (Damaged p) told e in
+    let read = c.read_page.ensures.reads.read in
+    let r0 : Fails node.level (g.S.Pages.map c.read_page.new.pages) root c.root_place-place.result.version c.root_place-place.result.key c.root_place-place.result.low c.root_place-place.result.high c.args.last.now =
+    λ test1 places1 least1 kt s1 h1 w1. c.in_err-replaced.ensures.sound test1 places1 least1 p (read.tells ∙ tells) kt s1 h1 w1 (read.free_in_order ordered) (ap Err same) in
+    let r1 = subst (λ (m : PageMap). Fails node.level m root c.root_place-place.result.version c.root_place-place.result.key c.root_place-place.result.low c.root_place-place.result.high c.args.last.now) read.map r0 in
+    let r2 = subst (λ (q : Place). Fails node.level m0 root q.version q.key q.low q.high c.args.last.now) c.root_place-place.ensures r1 in
+    r2 test places 1 key_test s h (λ q inside. at_level q inside.fits))
+
+pub returns-clause-sound : goal.returns-clause-sound
+returns-clause-sound g c = λ test places p tells key_test s h ways low ordered. (
+    let m0 : PageMap = g.S.Pages.map c.args.stage.now in
+    let root = c.args.root in
+    let v = c.args.version in
+    let key = c.args.key in
+    let nodes : List ℕ = chain_from places m0 c.args.last.now in
+    let top = root_spelled (root_level m0 root) m0 nodes root v 0 0 None 1 (ways 0 (omega arith)) in
+    let node = c.in_ok-node.node in
+    let spells = c.in_ok-node.ensures.spells in
+    let there = c.in_ok-node.ensures.found tells in
+    let level : root_level m0 root ≡ node.level = level_of_root m0 root node (λ none. omega (arith, none, c.if-root-lt3.false)) spells.typed spells.rules there in
+    let at_level : (q : ℕ) → q < 2 ^ 64 → StandsOnWay node.level m0 nodes root v q 0 None 1 = λ q q_fits. subst (λ (l : ℕ). StandsOnWay l m0 nodes root v q 0 None 1) level (ways q q_fits) in
+    let m1 : PageMap = g.S.Pages.map c.add_on.new.stage in
+    let replaced = c.in_ok-replaced.replaced in
+    let last1 = c.add_on.new.last in
+    let read = c.read_page.ensures.reads.read in
+    let r0 : AddsBelow node.level (g.S.Pages.map c.read_page.new.pages) m1 root c.root_place-place.result.version c.root_place-place.result.key c.args.value c.root_place-place.result.low c.root_place-place.result.high c.args.last.now last1 replaced =
+    c.in_ok-replaced.ensures.added (search rules) in
+    let r1 = subst (λ (m : PageMap). AddsBelow node.level m m1 root c.root_place-place.result.version c.root_place-place.result.key c.args.value c.root_place-place.result.low c.root_place-place.result.high c.args.last.now last1 replaced) read.map r0 in
+    let r2 = subst (λ (q : Place). AddsBelow node.level m0 m1 root q.version q.key c.args.value q.low q.high c.args.last.now last1 replaced) c.root_place-place.ensures r1 in
+    let added = r2 test places 1 key_test s h (λ q inside. at_level q inside.fits) in
+    let named = named_second added.grown.new nodes (chain_from added.new_places m1 last1) root added.grown.chain top.listed in
+    let grows = c.add_on.ensures.grows.went_on in
+    c.top_of.ensures.sound added.new_places p (grows.tells ∙ read.tells ∙ tells) added.grown.stands (some_by_name added.new_places m1 last1 root named) (omega (arith, low, level)) (grows.free_in_order (read.tells ∙ tells) (read.free_in_order ordered)))
