@@ -18,8 +18,14 @@ use mv_pages::path_laws;
 use page_ports::{Stage, StageFault};
 use sb_tree::tree_laws;
 
-/// Adds a value, a residue modulo `2^128`, from a key and a version on, which is at least that of every
-/// addition so far.
+/// Adds a value, a residue modulo `2^128`, from a key and a version on. The version is to be at least
+/// that of every addition so far.
+///
+/// Where the tree stood, it stands for one point more, past versions included, and stays balanced; at
+/// most 24 pages are given out then, and no page is found damaged where the free pages are in order.
+/// After a refusal the tree value is as it was, and the stage is to be abandoned. `Disk` comes only
+/// where the count of faults rose, and `PageLimit` only where as many pages are given out as the limit
+/// allows.
 pub fn mv_add<S: Stage>(
     stage: &mut S,
     tree: &mut Tree,
@@ -28,12 +34,14 @@ pub fn mv_add<S: Stage>(
     value: u128,
 ) -> Result<(), StageFault>
     requires { version < 4294967295 }
+    // Where the tree stands, and no point is later, it stands for one more.
     ensures stands { OnOk result (IsTrue (S.tells stage.old) → (points : List Point) (p : Point)
         → MvStands (S.map stage.old) tree.old points → length points < 2 ^ 31 → All (λ q. q.version ≤ version) points
         → key_of p ≡ key → p.version ≡ version → p.weight ≡ value → MvStands (S.map stage.new) tree.new (p ∷ points)) }
     ensures balanced { OnOk result (IsTrue (S.tells stage.old) → (points : List Point)
         → MvStands (S.map stage.old) tree.old points → length points < 2 ^ 31 → All (λ q. q.version ≤ version) points
         → IsBalanced (S.map stage.old) tree.old → IsBalanced (S.map stage.new) tree.new) }
+    // The map changes exactly by the tree's pages.
     ensures change { OnOk result (IsTrue (S.tells stage.old) → (points : List Point)
         → MvStands (S.map stage.old) tree.old points → All (λ q. q.version ≤ version) points
         → Replaces (tree_pages (S.map stage.old) tree.old) (tree_pages (S.map stage.new) tree.new) (S.map stage.old) (S.map stage.new)) }
@@ -44,7 +52,9 @@ pub fn mv_add<S: Stage>(
     ensures sound { (points : List Point) (page : ℕ) → IsTrue (S.tells stage.old) → MvStands (S.map stage.old) tree.old points
         → length points < 2 ^ 31 → All (λ q. q.version ≤ version) points → IsBalanced (S.map stage.old) tree.old
         → S.free_in_order stage.old → result ≢ Err (StageFault.Damaged page) }
+    // Two pages a level of the root, of which there are 16 at most, a new root, and what the directory takes.
     ensures grows { Grows S.Pages (tree.old.levels + 34) stage.old stage.new result }
+    // Neither the root nor the directory of a balanced tree has more than 7 levels.
     ensures few { (points : List Point) → IsTrue (S.tells stage.old) → MvStands (S.map stage.old) tree.old points → length points < 2 ^ 31
         → All (λ q. q.version ≤ version) points → IsBalanced (S.map stage.old) tree.old → Grows S.Pages 24 stage.old stage.new result }
 {

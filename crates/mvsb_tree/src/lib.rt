@@ -28,6 +28,8 @@ mod store;
 mod tests;
 #[cfg(test)]
 mod tests_add;
+#[cfg(test)]
+mod tests_broken;
 mod top;
 mod value;
 
