@@ -6,6 +6,7 @@ pub mod Costs
 pub mod Counting
 pub mod Cutting
 pub mod Descending
+pub mod Ending
 pub mod Exits
 pub mod Firsts
 pub mod Frames

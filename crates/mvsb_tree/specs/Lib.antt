@@ -1,3 +1,4 @@
+pub mod AddDamage
 pub mod Changed
 pub mod Damage
 pub mod Grown
