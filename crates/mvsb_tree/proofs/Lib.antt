@@ -1,3 +1,4 @@
+pub mod AddPast
 pub mod Adding
 pub mod Assembling
 pub mod Beginning

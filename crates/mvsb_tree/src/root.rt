@@ -1,10 +1,14 @@
 //! Additions to a whole tree below its directory.
-ghost use Rattle.std.specs.Prelude.{◌≡◌, ◌≢◌, ◌+◌, ◌^◌, ◌<◌, ◌≤◌, ℕ, Bool, List, Err, IsTrue, IfOk, None};
+ghost use Rattle.std.specs.Prelude.{◌≡◌, ◌≢◌, ◌⊎◌, ◌+◌, ◌^◌, ◌<◌, ◌≤◌, ℕ, Bool, List, Err, IsTrue, IfOk, None};
 ghost use Rattle.page_ports.specs.Calls.{Grows};
+ghost use Rattle.sb_tree.specs.Stored.{OthersStay};
+ghost use Rattle.mvsb_tree.specs.AddDamage.{IsDamagedFromRootForAdd, IsEndDamaged};
+ghost use Rattle.mvsb_tree.specs.Damage.{root_place as spec_root_place};
 ghost use Rattle.mvsb_tree.specs.Grown.{NodesHold};
 ghost use Rattle.mvsb_tree.specs.Stands.{ChainStands, StandsOnWay};
 ghost use Rattle.mvsb_tree.specs.Steps.{chain_from, root_level};
 ghost use Rattle.mvsb_tree.specs.Tops.{RootAdded};
+ghost use Rattle.mvsb_tree.specs.Ways.{way_pages};
 
 use crate::below::add_on;
 use crate::place::root_place;
@@ -33,6 +37,12 @@ pub fn add_at_root<S: Stage>(
         → ChainStands places (S.map stage.old) last.old → NodesHold version test (S.map stage.old) (chain_from places (S.map stage.old) last.old)
         → ((q : ℕ) → q < 2 ^ 64 → StandsOnWay (root_level (S.map stage.old) root) (S.map stage.old) (chain_from places (S.map stage.old) last.old) root version q 0 None 1)
         → RootAdded test (S.map stage.old) (S.map stage.new) root top version key value places last.old last.new) }
+    // The pages that are not on the way of the key stay, whatever they hold.
+    ensures apart { IfOk result (λ top. IsTrue (S.tells stage.old)
+        → OthersStay (way_pages (root_level (S.map stage.old) root) (S.map stage.old) root key version) (S.map stage.old) (S.map stage.new)) }
+    ensures damaged { (p : ℕ) → result ≡ Err (StageFault.Damaged p) → IsTrue (S.tells stage.old)
+        → IsDamagedFromRootForAdd (S.map stage.old) root (spec_root_place key version) p ⊎ IsEndDamaged 33 (S.map stage.old) last.old p
+        ⊎ ((p ≡ directory) × (root_level (S.map stage.old) root ≡ 16)) ⊎ (¬ S.free_in_order stage.old) }
     ensures sound { (test : ℕ → Bool) (places p : ℕ) → IsTrue (S.tells stage.old) → IsTrue (test key)
         → ChainStands places (S.map stage.old) last.old → NodesHold version test (S.map stage.old) (chain_from places (S.map stage.old) last.old)
         → ((q : ℕ) → q < 2 ^ 64 → StandsOnWay (root_level (S.map stage.old) root) (S.map stage.old) (chain_from places (S.map stage.old) last.old) root version q 0 None 1)

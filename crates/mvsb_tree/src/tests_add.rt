@@ -116,6 +116,9 @@ fn plain_sum(additions: &[Addition], key: u64, version: u32) -> u128 {
 // Whether the tree has the plain sum at some keys of additions and versions of others, and right before them.
 fn has_plain_sums(stage: &mut MemStage, tree: &Tree, additions: &[Addition]) -> bool {
     let count = additions.len();
+    if count == 0 {
+        return true;
+    }
     for i in 0..400usize {
         let key = additions[(i * 7919) % count].key;
         let version = additions[(i * 104729) % count].version;
