@@ -22,6 +22,7 @@ pub mod Nodes
 pub mod Past
 pub mod Putting
 pub mod Raising
+pub mod Sharing
 pub mod Sound
 pub mod Sounding
 pub mod Splitting

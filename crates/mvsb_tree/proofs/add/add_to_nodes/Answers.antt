@@ -4,6 +4,8 @@ use Rattle.std.proofs.lemmas.Result.{err_from_is_err_and}
 use Rattle.bw_types.specs.declared.point.Point.{Point}
 use Rattle.page_ports.specs.Pages.{PageMap}
 use Rattle.page_ports.specs.declared.page.StageFault.TheVariants.{Damaged}
+use Rattle.mvsb_tree.specs.AddDamage.{IsDamagedFromRootForAdd, IsEndDamaged}
+use Rattle.mvsb_tree.specs.Damage.{root_place}
 use Rattle.mvsb_tree.specs.Grown.{NodesHold}
 use Rattle.mvsb_tree.specs.Stands.{ChainStands, IsBalanced, MvStands, StandsOnWay, is_marked, key_of}
 use Rattle.mvsb_tree.specs.Steps.{chain_from, place_count, root_at, root_level}
@@ -88,3 +90,21 @@ returns-in_err-top-2-clause-sound g c = λ points page tells s few past b ordere
     let low = low_moved m0 m0 tree points v root s few b c.ranges.version.fits refl root_is in
     f1 (marked_own points p key refl) (subst (λ (l : ℕ). ChainStands places m0 l) last_is s.chain) (subst (λ (l : ℕ). NodesHold v test m0 (chain_from places m0 l)) last_is (nodes_hold m0 tree points p v s past))
     (subst (λ (l : ℕ). (q : ℕ) → q < 2 ^ 64 → StandsOnWay (root_level m0 root) m0 (chain_from places m0 l) root v q 0 None 1) last_is ways) (omega (arith, low)))
+
+pub returns-in_err-top-2-clause-damaged : goal.returns-in_err-top-2-clause-damaged
+returns-in_err-top-2-clause-damaged g c = λ page e tells. (
+    let m0 : PageMap = g.S.Pages.map c.args.stage.now in
+    let tree = c.args.tree.now in
+    let v = c.args.version in
+    let key = c.args.key in
+    let root = c.in_ok-root.root in
+    let told = err_from_is_err_and c.from_residual-in_err-top-2.result c.from_residual-in_err-top-2.ensures.1 in
+    let same = exit_error c.from_residual-in_err-top-2.result c.in_err-top-2.field-0.0 (Damaged page) told e in
+    let read = c.root_at.ensures.reads.read in
+    let root_is : root ≡ root_at m0 tree v = c.in_ok-root.ensures.root tells in
+    elim (c.in_err-top-2.ensures.damaged page (ap Err same) (read.tells ∙ tells)) [
+      | inl way ↦ inr (inr (inl (subst (λ (r : ℕ). IsDamagedFromRootForAdd m0 r (root_place key v) page) root_is (subst (λ (m : PageMap). IsDamagedFromRootForAdd m root (root_place key v) page) read.map way))))
+      | inr (inl end) ↦ inr (inr (inr (inl (subst (λ (l : ℕ). IsEndDamaged 33 m0 l page) c.requires.last (subst (λ (m : PageMap). IsEndDamaged 33 m c.args.last.now page) read.map end)))))
+      | inr (inr (inl high)) ↦ inr (inr (inr (inr (inl (high.0, subst (λ (r : ℕ). root_level m0 r ≡ 16) root_is (subst (λ (m : PageMap). root_level m root ≡ 16) read.map high.1))))))
+      | inr (inr (inr unordered)) ↦ inr (inr (inr (inr (inr (λ ordered. unordered (read.free_in_order ordered))))))
+    ])

@@ -1,4 +1,4 @@
-use Rattle.std.proofs.Common.{◌≡◌, ◌≢◌, ◌+◌, ◌^◌, ◌<◌, ◌≤◌, ℕ, List, ◌∷◌, Some, None, [], Err, IsTrue, length, refl, sym, ap, ◌∙◌, subst, arith, rules}
+use Rattle.std.proofs.Common.{◌≡◌, ◌≢◌, ◌+◌, ◌^◌, ◌<◌, ◌≤◌, ℕ, List, ◌∷◌, Some, None, [], Err, inl, inr, IsTrue, length, refl, sym, ap, ◌∙◌, subst, arith, rules}
 use Rattle.std.specs.List.{All}
 use Rattle.bw_types.specs.declared.point.Point.{Point}
 use Rattle.bw_types.specs.declared.tree.Tree.{Tree}
@@ -7,6 +7,9 @@ use Rattle.page_ports.specs.Pages.{PageMap}
 use Rattle.page_ports.specs.declared.page.StageFault.TheVariants.{Damaged}
 use Rattle.sb_tree.specs.Stands.{SbStands}
 use Rattle.sb_tree.specs.Stands as over_versions
+use Rattle.sb_tree.specs.Damage as damage
+use Rattle.mvsb_tree.specs.AddDamage.{node_way}
+use Rattle.mvsb_tree.proofs.Sharing.{damage_before}
 use Rattle.mvsb_tree.specs.Led.{Led}
 use Rattle.mvsb_tree.specs.Stands.{MvStands, is_marked, key_of}
 use Rattle.mvsb_tree.specs.Steps.{directory, node_on, place_count, root_at, root_level}
@@ -141,3 +144,26 @@ returns-in_err-lead_to-clause-sound g c = λ points page tells s few past b orde
   let grows = c.add_to_nodes.ensures.grows.went_on in
   c.in_err-lead_to.ensures.sound s.changes page (grows.tells ∙ tells) (subst (λ (t : Tree). SbStands m1 t s.changes) (sym c.directory-roots.ensures) moved.0)
   (subst (λ (t : Tree). over_versions.IsBalanced t) (sym c.directory-roots.ensures) b.directory) (grows.free_in_order tells ordered) (ap Err same))
+
+pub returns-in_err-ends-clause-damaged : goal.returns-in_err-ends-clause-damaged
+returns-in_err-ends-clause-damaged g c = λ page e tells. (
+  let told = err_from_is_err_and c.from_residual.result c.from_residual.ensures.1 in
+  let same = exit_error c.from_residual.result c.in_err-ends.field-0.0 (Damaged page) told e in
+  inr (inl (c.in_err-ends.ensures.damaged page (ap Err same) tells)))
+
+pub returns-in_err-lead_to-clause-damaged : goal.returns-in_err-lead_to-clause-damaged
+returns-in_err-lead_to-clause-damaged g c = λ page e tells. (
+  let m0 : PageMap = g.S.Pages.map c.args.stage.now in
+  let m1 : PageMap = g.S.Pages.map c.add_to_nodes.new.stage in
+  let tree = c.args.tree.now in
+  let order0 : Type 0 = g.S.Pages.free_in_order c.args.stage.now in
+  let order1 : Type 0 = g.S.Pages.free_in_order c.add_to_nodes.new.stage in
+  let told = err_from_is_err_and c.from_residual-in_err-lead_to.result c.from_residual-in_err-lead_to.ensures.1 in
+  let same = exit_error c.from_residual-in_err-lead_to.result c.in_err-lead_to.field-0.0 (Damaged page) told e in
+  let grows = c.add_to_nodes.ensures.grows.went_on in
+  let d0 = c.in_err-lead_to.ensures.damaged page (ap Err same) (grows.tells ∙ tells) in
+  let d1 = subst (λ (t : Tree). damage.IsDamagedForAdd m1 order1 t c.args.version page) c.directory-roots.ensures d0 in
+  elim (damage_before m0 m1 (node_way m0 tree c.args.key c.args.version) (c.in_ok-ends.ensures.apart tells) order0 order1 (directory tree) c.args.version page (λ ordered. grows.free_in_order tells ordered) d1) [
+    | inl before ↦ inr (inr (inl before))
+    | inr shared ↦ inr (inr (inr shared))
+  ])
