@@ -166,17 +166,17 @@ module _ (m : PageMap) (nodes : List ℕ) (v : ℕ) (test : ℕ → Bool) (same 
         let child : ℕ = way.1 in
         let next_ends : (x : ℕ) → IsTrue (ends_after (next_of ls high) x) → IsTrue (ends_after high x) × IsTrue (ends_after (first_of ls) x) = λ x h. both_end ls high x all_end h in
         let at_key : (q : ℕ) → IsKeyIn l (next_of ls high) q → StandsOnWay (suc level) m nodes child v q l (next_of ls high) 24 = λ q q_in.
-            let before = next_ends q q_in.before in
-            let interval = same_interval None (alive_lows (entries_on m page) v) l q l node.differ at q_in.from (subst (λ (o : Option ℕ). IsTrue (ends_after o q)) (sym above) before.1) in
-            let q_way = ways q (record { from = (let le : low ≤ q = omega (arith, from, q_in.from) in le); before = before.0; fits = q_in.fits }) in
-            let leads : child_of (node_on m page) q v ≡ child_of (node_on m page) l v = same_leads (node_on m page) q l v (same (entries_on m page) q l v (interval.0 ∙ sym at)) in
-            let child_is : q_way.1 ≡ child = some_same q_way.1 child (sym q_way.2 ∙ leads ∙ way.2) in
-            let low_is : inner_low low (alive_lows (entries_on m page) v) q ≡ l = ap (λ (o : Option ℕ). option_map_or (λ x. x) o low) interval.0 in
-            let high_is : inner_high high (alive_lows (entries_on m page) v) q ≡ next_of ls high = ap (λ (o : Option ℕ). or_later high o) (interval.1 ∙ above) in
-            let w0 = q_way.3 in
-            let w1 = subst (λ (c : ℕ). StandsOnWay (suc level) m nodes c v q (inner_low low (alive_lows (entries_on m page) v) q) (inner_high high (alive_lows (entries_on m page) v) q) 24) child_is w0 in
-            let w2 = subst (λ (x : ℕ). StandsOnWay (suc level) m nodes child v q x (inner_high high (alive_lows (entries_on m page) v) q) 24) low_is w1 in
-            subst (λ (o : Option ℕ). StandsOnWay (suc level) m nodes child v q l o 24) high_is w2 in
+        let before = next_ends q q_in.before in
+        let interval = same_interval None (alive_lows (entries_on m page) v) l q l node.differ at q_in.from (subst (λ (o : Option ℕ). IsTrue (ends_after o q)) (sym above) before.1) in
+        let q_way = ways q (record { from = (let le : low ≤ q = omega (arith, from, q_in.from) in le); before = before.0; fits = q_in.fits }) in
+        let leads : child_of (node_on m page) q v ≡ child_of (node_on m page) l v = same_leads (node_on m page) q l v (same (entries_on m page) q l v (interval.0 ∙ sym at)) in
+        let child_is : q_way.1 ≡ child = some_same q_way.1 child (sym q_way.2 ∙ leads ∙ way.2) in
+        let low_is : inner_low low (alive_lows (entries_on m page) v) q ≡ l = ap (λ (o : Option ℕ). option_map_or (λ x. x) o low) interval.0 in
+        let high_is : inner_high high (alive_lows (entries_on m page) v) q ≡ next_of ls high = ap (λ (o : Option ℕ). or_later high o) (interval.1 ∙ above) in
+        let w0 = q_way.3 in
+        let w1 = subst (λ (c : ℕ). StandsOnWay (suc level) m nodes c v q (inner_low low (alive_lows (entries_on m page) v) q) (inner_high high (alive_lows (entries_on m page) v) q) 24) child_is w0 in
+        let w2 = subst (λ (x : ℕ). StandsOnWay (suc level) m nodes child v q x (inner_high high (alive_lows (entries_on m page) v) q) 24) low_is w1 in
+        subst (λ (o : Option ℕ). StandsOnWay (suc level) m nodes child v q l o 24) high_is w2 in
         let begins : IsKeyIn l (next_of ls high) l = record { from = omega arith; before = own_end ls high l up ends; fits = fits } in
         let below = rec child l (next_of ls high) begins at_key in
         let filled : 24 ≤ length (alive_lows (entries_on m child) v) = (root_spelled (suc level) m nodes child v l l (next_of ls high) 24 (at_key l begins)).filled in

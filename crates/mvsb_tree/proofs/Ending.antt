@@ -48,17 +48,23 @@ end_before a b m0 m1 last0 last1 p k d = elim k.ends [
 
     before_same : (last1 ≡ last0) × ((node_on m1 last0).place ≡ (node_on m0 last0).place) × (SpellsNone mv_pages m1 last0 → SpellsNone mv_pages m0 last0) → IsEndDamaged b m1 last0 p → IsEndDamaged (a + b) m0 last0 p
     before_same same (inl none) = inl (none.0, same.2 none.1)
-    before_same same (inr full) = inr (omega (arith, full.0, same.1), elim full.1 [
-      | inl here ↦ inl here
-      | inr gone ↦ inr (missing gone)
-    ])
+    before_same same (inr full) = inr (
+      omega (arith, full.0, same.1),
+      elim full.1 [
+        | inl here ↦ inl here
+        | inr gone ↦ inr (missing gone)
+      ],
+    )
 
     before_new : (m0 last1 ≡ None) × (SpellsNone mv_pages m1 last1 → ⊥) × ((node_on m1 last1).place ≤ (node_on m0 last0).place + a) → IsEndDamaged b m1 last1 p → IsEndDamaged (a + b) m0 last0 p
     before_new new (inl none) = absurd (new.1 none.1)
-    before_new new (inr full) = inr (omega (arith, full.0, new.2), elim full.1 [
-      | inl here ↦ inr (subst (λ (x : ℕ). m0 x ≡ None) (sym here) new.0)
-      | inr gone ↦ inr (missing gone)
-    ])
+    before_new new (inr full) = inr (
+      omega (arith, full.0, new.2),
+      elim full.1 [
+        | inl here ↦ inr (subst (λ (x : ℕ). m0 x ≡ None) (sym here) new.0)
+        | inr gone ↦ inr (missing gone)
+      ],
+    )
 
 pub keeps_then : (a b : ℕ) (m0 m1 m2 : PageMap) (last0 last1 last2 : ℕ) → KeepsPlaces a m0 m1 last0 last1 → KeepsPlaces b m1 m2 last1 last2 → KeepsPlaces (a + b) m0 m2 last0 last2
 keeps_then a b m0 m1 m2 last0 last1 last2 f g = record {
@@ -114,15 +120,22 @@ put_keeps m0 m1 page last node is rules typed placed =
       | inr other ↦ ap (λ (n : MvNode). n.place) (same_node m0 m1 p (others p other))
     ] in
     record {
-      kept = λ p some. (elim (cases_Bool (page == p)) [
-        | inl same ↦ subst (λ (x : ℕ). IsSome (m1 x)) (eqb-true page p same) (subst IsSome (sym there) refl)
-        | inr other ↦ subst IsSome (sym (others p other)) some
-      ], place p);
-      ends = inl (refl, place last, elim (cases_Bool (page == last)) [
-        | inl same ↦ λ none. absurd (subst (λ (x : ℕ). SpellsNone mv_pages m1 x → ⊥) (eqb-true page last same)
-            (spelled_there m1 page (record { spelled = there ∙ ap (λ (n : MvNode). Some (mv_node_page n)) (sym on); rules = subst IsMvNode (sym on) rules; typed = subst IsTyped (sym on) node_typed })) none)
-        | inr other ↦ none_moves m0 m1 last (others last other)
-      ]);
+      kept = λ p some. (
+        elim (cases_Bool (page == p)) [
+          | inl same ↦ subst (λ (x : ℕ). IsSome (m1 x)) (eqb-true page p same) (subst IsSome (sym there) refl)
+          | inr other ↦ subst IsSome (sym (others p other)) some
+        ],
+        place p,
+      );
+      ends = inl (
+        refl,
+        place last,
+        elim (cases_Bool (page == last)) [
+          | inl same ↦ λ none. absurd (subst (λ (x : ℕ). SpellsNone mv_pages m1 x → ⊥) (eqb-true page last same)
+              (spelled_there m1 page (record { spelled = there ∙ ap (λ (n : MvNode). Some (mv_node_page n)) (sym on); rules = subst IsMvNode (sym on) rules; typed = subst IsTyped (sym on) node_typed })) none)
+          | inr other ↦ none_moves m0 m1 last (others last other)
+        ],
+      );
     }
   where
     put_same : (page == page) ≡ true → put_page m0 page (mv_node_page node) page ≡ Some (mv_node_page node)

@@ -187,30 +187,30 @@ two_top l level level_suc test m0 m1 m2 root first cut second top v key value pl
     ] in
     let item_is : entries_on m2 top ≡ items v first cut second = ap (λ (n : MvNode). n.entries.items) on in
     let leads : (q : ℕ) → child_of (node_on m2 top) q v ≡ Some (cond (nat_le cut q) second first) = λ q.
-        ap (λ (n : MvNode). child_of n q v) on ∙ cond-false (level + 1 == 1) None (path_child (items v first cut second) q v) (ne_eqb (level + 1) 1 (λ e. omega (arith, e, some))) ∙ items_child v first cut second q in
+    ap (λ (n : MvNode). child_of n q v) on ∙ cond-false (level + 1 == 1) None (path_child (items v first cut second) q v) (ne_eqb (level + 1) 1 (λ e. omega (arith, e, some))) ∙ items_child v first cut second q in
     let stays : (q : ℕ) → names_page nodes1 q ≡ true → (m2 q ≡ m1 q) × (names_page nodes2 q ≡ true) = λ q named.
-        (next.others q (not_new m1 top q next.fresh (chain_there added.new_places m1 last1 added.grown.stands q named)), named_second step.new nodes1 nodes2 q step.chain named) in
+    (next.others q (not_new m1 top q next.fresh (chain_there added.new_places m1 last1 added.grown.stands q named)), named_second step.new nodes1 nodes2 q step.chain named) in
     let part : (q : ℕ) → q < 2 ^ 64 → StandsOnWay level m2 nodes2 (cond (nat_le cut q) second first) v q (cond (nat_le cut q) cut 0) (cond (nat_le cut q) None (Some cut)) 24
-        × (total_below level m2 (cond (nat_le cut q) second first) q v % 2 ^ 128 ≡ (total_below level m0 root q v + added_at key value q) % 2 ^ 128) = λ q fits.
-        let w = added.parts.ways q (any_key q fits) in
-        let inside : IsKeyIn (cond (nat_le cut q) cut 0) (cond (nat_le cut q) None (Some cut)) q = part_key cut q fits in
-        let moved = way_moves level m1 m2 nodes1 nodes2 (cond (nat_le cut q) second first) v q (cond (nat_le cut q) cut 0) (cond (nat_le cut q) None (Some cut)) 24
-        (λ x named. stays x (way_within level m1 nodes1 (cond (nat_le cut q) second first) v q (cond (nat_le cut q) cut 0) (cond (nat_le cut q) None (Some cut)) 24 w inside x named).6) w in
-        (moved.0, ap (λ (n : ℕ). n % 2 ^ 128) moved.1 ∙ added.parts.totals q (any_key q fits)) in
+    × (total_below level m2 (cond (nat_le cut q) second first) q v % 2 ^ 128 ≡ (total_below level m0 root q v + added_at key value q) % 2 ^ 128) = λ q fits.
+    let w = added.parts.ways q (any_key q fits) in
+    let inside : IsKeyIn (cond (nat_le cut q) cut 0) (cond (nat_le cut q) None (Some cut)) q = part_key cut q fits in
+    let moved = way_moves level m1 m2 nodes1 nodes2 (cond (nat_le cut q) second first) v q (cond (nat_le cut q) cut 0) (cond (nat_le cut q) None (Some cut)) 24
+    (λ x named. stays x (way_within level m1 nodes1 (cond (nat_le cut q) second first) v q (cond (nat_le cut q) cut 0) (cond (nat_le cut q) None (Some cut)) 24 w inside x named).6) w in
+    (moved.0, ap (λ (n : ℕ). n % 2 ^ 128) moved.1 ∙ added.parts.totals q (any_key q fits)) in
     let top_way : (q : ℕ) → q < 2 ^ 64 → StandsOnWay (suc level) m2 nodes2 top v q 0 None 1 = λ q fits.
-        let interval = items_interval v first cut second q in
-        let low_is : inner_low 0 (alive_lows (entries_on m2 top) v) q ≡ cond (nat_le cut q) cut 0 = ap (λ (es : List MvEntry). inner_low 0 (alive_lows es v) q) item_is ∙ interval.0 in
-        let high_is : inner_high None (alive_lows (entries_on m2 top) v) q ≡ cond (nat_le cut q) None (Some cut) = ap (λ (es : List MvEntry). inner_high None (alive_lows es v) q) item_is ∙ interval.1 in
-        let w1 = subst (λ (n : ℕ). StandsOnWay level m2 nodes2 (cond (nat_le cut q) second first) v q n (cond (nat_le cut q) None (Some cut)) 24) (sym low_is) (part q fits).0 in
-        let w2 = subst (λ (h : Option ℕ). StandsOnWay level m2 nodes2 (cond (nat_le cut q) second first) v q (inner_low 0 (alive_lows (entries_on m2 top) v) q) h 24) (sym high_is) w1 in
-        top_from l level level_suc m2 nodes2 top (cond (nat_le cut q) second first) v q top_named spells.0 at_level
-        (subst (λ (es : List MvEntry). LowsCut (alive_lows es v) 0 None 1) (sym item_is) (items_cut v first cut second more)) (leads q) w2 in
+    let interval = items_interval v first cut second q in
+    let low_is : inner_low 0 (alive_lows (entries_on m2 top) v) q ≡ cond (nat_le cut q) cut 0 = ap (λ (es : List MvEntry). inner_low 0 (alive_lows es v) q) item_is ∙ interval.0 in
+    let high_is : inner_high None (alive_lows (entries_on m2 top) v) q ≡ cond (nat_le cut q) None (Some cut) = ap (λ (es : List MvEntry). inner_high None (alive_lows es v) q) item_is ∙ interval.1 in
+    let w1 = subst (λ (n : ℕ). StandsOnWay level m2 nodes2 (cond (nat_le cut q) second first) v q n (cond (nat_le cut q) None (Some cut)) 24) (sym low_is) (part q fits).0 in
+    let w2 = subst (λ (h : Option ℕ). StandsOnWay level m2 nodes2 (cond (nat_le cut q) second first) v q (inner_low 0 (alive_lows (entries_on m2 top) v) q) h 24) (sym high_is) w1 in
+    top_from l level level_suc m2 nodes2 top (cond (nat_le cut q) second first) v q top_named spells.0 at_level
+    (subst (λ (es : List MvEntry). LowsCut (alive_lows es v) 0 None 1) (sym item_is) (items_cut v first cut second more)) (leads q) w2 in
     let top_total : (q : ℕ) → q < 2 ^ 64 → total_below (suc level) m2 top q v % 2 ^ 128 ≡ (total_below level m0 root q v + added_at key value q) % 2 ^ 128 = λ q fits.
-        let own : value_of (entries_on m2 top) q v ≡ 0 = ap (λ (es : List MvEntry). value_of es q v) item_is ∙ items_value v first cut second q in
-        let below = ap (λ (o : Option ℕ). option_map_or (λ c. total_below level m2 c q v) o 0) (leads q) in
-        let child_total : ℕ = total_below level m2 (cond (nat_le cut q) second first) q v in
-        let whole_total : total_below (suc level) m2 top q v ≡ child_total = omega (arith, own, below) in
-        ap (λ (n : ℕ). n % 2 ^ 128) whole_total ∙ (part q fits).1 in
+    let own : value_of (entries_on m2 top) q v ≡ 0 = ap (λ (es : List MvEntry). value_of es q v) item_is ∙ items_value v first cut second q in
+    let below = ap (λ (o : Option ℕ). option_map_or (λ c. total_below level m2 c q v) o 0) (leads q) in
+    let child_total : ℕ = total_below level m2 (cond (nat_le cut q) second first) q v in
+    let whole_total : total_below (suc level) m2 top q v ≡ child_total = omega (arith, own, below) in
+    ap (λ (n : ℕ). n % 2 ^ 128) whole_total ∙ (part q fits).1 in
     let two_lows : length (alive_lows (entries_on m2 top) v) ≡ 2 = ap (λ (es : List MvEntry). length (alive_lows es v)) item_is ∙ ap (λ (ls : List ℕ). length ls) (items_lows v first cut second) in
     let whole : RootAdded test m0 m2 root top v key value places last top = record {
       new_places = added.new_places + 1;

@@ -52,7 +52,10 @@ fn a_node_that_leads_to_itself(rt: HostRuntime) -> Result<(), Fail> {
     let page = stage.allot()?;
     put_node(&mut stage, page, &node(2, 1, 0, page))?;
     let mut tree = tree_of(&mut stage, page)?;
-    assert_eq!(rt; mv_value(&mut stage, &tree, 5, 1), Err(PageFault::Damaged(page)));
+    assert_eq!(rt;
+        mv_value(&mut stage, &tree, 5, 1),
+        Err(PageFault::Damaged(page))
+    );
     assert_eq!(rt;
         mv_add(&mut stage, &mut tree, 5, 2, 1),
         Err(StageFault::Damaged(page))

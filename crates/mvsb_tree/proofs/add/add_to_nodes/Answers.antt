@@ -39,7 +39,7 @@ returns-clause-added g c = λ tells points p s past key_is.
     let test = is_marked (p ∷ points) in
     let places = place_count m0 tree in
     let Adds : PageMap → Type 0 = λ m. IsTrue (test key) → ChainStands places m last → NodesHold v test m (chain_from places m last)
-        → ((q : ℕ) → q < 2 ^ 64 → StandsOnWay (root_level m root) m (chain_from places m last) root v q 0 None 1) → RootAdded test m m1 root top v key c.args.value places last new_last in
+    → ((q : ℕ) → q < 2 ^ 64 → StandsOnWay (root_level m root) m (chain_from places m last) root v q 0 None 1) → RootAdded test m m1 root top v key c.args.value places last new_last in
     let a0 : Adds mx = c.in_ok-top-2.ensures.added (search rules) test places in
     let a1 : Adds m0 = subst (λ (m : PageMap). Adds m) c.root_at.ensures.reads.read.map a0 in
     let root_is : root ≡ root_at m0 tree v = c.in_ok-root.ensures.root tells in
@@ -50,15 +50,15 @@ returns-clause-added g c = λ tells points p s past key_is.
 
 pub returns-in_err-top-2-clause-few : goal.returns-in_err-top-2-clause-few
 returns-in_err-top-2-clause-few g c = λ points tells s few b. (
-  let low = low_moved (g.S.Pages.map c.args.stage.now) (g.S.Pages.map c.root_at.new.pages) c.args.tree.now points c.args.version c.in_ok-root.root s few b c.ranges.version.fits c.root_at.ensures.reads.read.map (c.in_ok-root.ensures.root tells) in
-  let grows = c.in_err-top-2.ensures.few 7 (c.root_at.ensures.reads.read.tells ∙ tells) low in
-  search rules)
+    let low = low_moved (g.S.Pages.map c.args.stage.now) (g.S.Pages.map c.root_at.new.pages) c.args.tree.now points c.args.version c.in_ok-root.root s few b c.ranges.version.fits c.root_at.ensures.reads.read.map (c.in_ok-root.ensures.root tells) in
+    let grows = c.in_err-top-2.ensures.few 7 (c.root_at.ensures.reads.read.tells ∙ tells) low in
+    search rules)
 
 pub returns-clause-few : goal.returns-clause-few
 returns-clause-few g c = λ points tells s few b. (
-  let low = low_moved (g.S.Pages.map c.args.stage.now) (g.S.Pages.map c.root_at.new.pages) c.args.tree.now points c.args.version c.in_ok-root.root s few b c.ranges.version.fits c.root_at.ensures.reads.read.map (c.in_ok-root.ensures.root tells) in
-  let grows = c.in_ok-top-2.ensures.few 7 (c.root_at.ensures.reads.read.tells ∙ tells) low in
-  search rules)
+    let low = low_moved (g.S.Pages.map c.args.stage.now) (g.S.Pages.map c.root_at.new.pages) c.args.tree.now points c.args.version c.in_ok-root.root s few b c.ranges.version.fits c.root_at.ensures.reads.read.map (c.in_ok-root.ensures.root tells) in
+    let grows = c.in_ok-top-2.ensures.few 7 (c.root_at.ensures.reads.read.tells ∙ tells) low in
+    search rules)
 
 pub returns-in_err-root-clause-sound : goal.returns-in_err-root-clause-sound
 returns-in_err-root-clause-sound g c = λ points page tells s few past b ordered e. (
@@ -81,7 +81,7 @@ returns-in_err-top-2-clause-sound g c = λ points page tells s few past b ordere
     let same = exit_error c.from_residual-in_err-top-2.result c.in_err-top-2.field-0.0 (Damaged page) told e in
     let read = c.root_at.ensures.reads.read in
     let RootFails : PageMap → Type 0 = λ m. IsTrue (test key) → ChainStands places m last → NodesHold v test m (chain_from places m last)
-        → ((q : ℕ) → q < 2 ^ 64 → StandsOnWay (root_level m root) m (chain_from places m last) root v q 0 None 1) → root_level m root ≤ 15 → ⊥ in
+    → ((q : ℕ) → q < 2 ^ 64 → StandsOnWay (root_level m root) m (chain_from places m last) root v q 0 None 1) → root_level m root ≤ 15 → ⊥ in
     let f0 : RootFails (g.S.Pages.map c.root_at.new.pages) = λ kt s1 h1 w1 low1. c.in_err-top-2.ensures.sound test places page (read.tells ∙ tells) kt s1 h1 w1 low1 (read.free_in_order ordered) (ap Err same) in
     let f1 : RootFails m0 = subst (λ (m : PageMap). RootFails m) read.map f0 in
     let root_is : root ≡ root_at m0 tree v = c.in_ok-root.ensures.root tells in

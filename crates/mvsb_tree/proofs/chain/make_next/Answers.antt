@@ -56,10 +56,10 @@ within g stage tells = λ page bytes there. (
 
 pub returns-in_err-before-clause-sound : goal.returns-in_err-before-clause-sound
 returns-in_err-before-clause-sound g c = λ places p tells s some ordered e. (
-  let told = err_from_is_err_and c.from_residual.result c.from_residual.ensures.1 in
-  let same = read_damaged c.from_residual.result c.in_err-before.field-0.0 p told e in
-  let why = c.in_err-before.ensures.damaged p (ap Err same) in
-  last_sound (g.S.Pages.map c.args.stage.now) places c.args.last.now p (within g c.args.stage.now tells) some s (why.0, inl (why.1 tells)))
+    let told = err_from_is_err_and c.from_residual.result c.from_residual.ensures.1 in
+    let same = read_damaged c.from_residual.result c.in_err-before.field-0.0 p told e in
+    let why = c.in_err-before.ensures.damaged p (ap Err same) in
+    last_sound (g.S.Pages.map c.args.stage.now) places c.args.last.now p (within g c.args.stage.now tells) some s (why.0, inl (why.1 tells)))
 
 pub returns-then-before-clause-sound : goal.returns-then-before-clause-sound
 returns-then-before-clause-sound g c = λ places p tells s some ordered e.
