@@ -26,13 +26,6 @@ fn node(level: u8, place: u32, before: u64, child: u64) -> MvNode {
     }
 }
 
-fn put_node(stage: &mut MemStage, page: u64, node: &MvNode) -> Result<(), StageFault> {
-    if !node.keeps_rules() {
-        return Err(StageFault::Damaged(0));
-    }
-    put_page(stage, page, node)
-}
-
 // A tree with this page as its root from version 1 on.
 fn tree_of(stage: &mut MemStage, root: u64) -> Result<Tree, StageFault> {
     let mut roots = Tree::default();
@@ -50,7 +43,9 @@ fn tree_of(stage: &mut MemStage, root: u64) -> Result<Tree, StageFault> {
 fn a_node_that_leads_to_itself(rt: HostRuntime) -> Result<(), Fail> {
     let mut stage = MemStage::new(rt.alloc(), 10);
     let page = stage.allot()?;
-    put_node(&mut stage, page, &node(2, 1, 0, page))?;
+    let circle = node(2, 1, 0, page);
+    assert!(rt; circle.keeps_rules());
+    put_page(&mut stage, page, &circle)?;
     let mut tree = tree_of(&mut stage, page)?;
     assert_eq!(rt;
         mv_value(&mut stage, &tree, 5, 1),
@@ -68,7 +63,9 @@ fn a_node_that_leads_to_itself(rt: HostRuntime) -> Result<(), Fail> {
 fn a_place_behind_itself(rt: HostRuntime) -> Result<(), Fail> {
     let mut stage = MemStage::new(rt.alloc(), 10);
     let page = stage.allot()?;
-    put_node(&mut stage, page, &node(1, 2, page, 0))?;
+    let behind = node(1, 2, page, 0);
+    assert!(rt; behind.keeps_rules());
+    put_page(&mut stage, page, &behind)?;
     let mut tree = tree_of(&mut stage, page)?;
     mv_add(&mut stage, &mut tree, 5, 2, 1)?;
     assert_eq!(rt; mv_value(&mut stage, &tree, 5, 2), Ok(4));
@@ -109,9 +106,7 @@ fn an_entry_of_a_later_version(rt: HostRuntime) -> Result<(), Fail> {
         value: 3,
         child: 0,
     });
-    if !later.keeps_rules() {
-        return Err(Fail::from(StageFault::Damaged(0)));
-    }
+    assert!(rt; later.keeps_rules());
     let page = make_page(&mut stage, &later)?;
     let mut tree = tree_of(&mut stage, page)?;
     assert_eq!(rt;
