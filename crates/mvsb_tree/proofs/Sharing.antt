@@ -1,18 +1,19 @@
 -- What is damaged in a directory beside which nodes changed was damaged before, or a page is shared.
-use Rattle.std.proofs.Common.{◌≡◌, ◌⊎◌, ℕ, zero, suc, ◌==◌, ◌||◌, inl, inr, Bool, true, false, List, [], ◌∷◌, length, Option, Some, None, IsSome, refl, sym, ap, ◌∙◌, subst}
+use Rattle.std.proofs.Common.{◌≡◌, ◌⊎◌, ℕ, zero, suc, ◌==◌, ◌||◌, inl, inr, Bool, true, false, List, [], ◌∷◌, ◌++◌, length, Option, Some, None, IsSome, refl, sym, ap, ◌∙◌, subst}
 use Rattle.std.specs.List.{list_any}
-use Rattle.std.proofs.lemmas.Bool.{cases_Bool, or_right}
+use Rattle.std.proofs.lemmas.Bool.{cases_Bool, or_parts, or_right}
 use Rattle.bw_types.specs.declared.tree.Tree.{Tree}
 use Rattle.page_ports.specs.Pages.{PageMap}
-use Rattle.page_ports.specs.Frame.{names_page}
+use Rattle.page_ports.specs.Frame.{names_page, AgreeOn, AreApart, AreInMap}
+use Rattle.page_ports.specs.FrameLaws.{names_page-append}
 use Rattle.page_layout.specs.Damage.{IsDamagedBelow, NothingBeside}
 use Rattle.page_layout.specs.declared.sb_node.SbNode.{SbNode}
 use Rattle.page_layout.specs.declared.sb_node.SbEntry.{SbEntry}
 use Rattle.sb_tree.specs.Damage.{FitsPlace, IsDamagedForAdd, IsFullBelow, LeadsTo, root_place}
-use Rattle.sb_tree.specs.Steps.{child_at, entries_on}
+use Rattle.sb_tree.specs.Steps.{child_at, entries_on, tree_pages}
 use Rattle.sb_tree.specs.Stored.{OthersStay}
 use Rattle.sb_tree.specs.declared.place.Place.{Place}
-use Rattle.sb_tree.proofs.Frames.{same_entries}
+use Rattle.sb_tree.proofs.Frames.{same_entries, same_pages}
 use Rattle.sb_tree.proofs.Nodes.{entries_on-spelled}
 use Rattle.mvsb_tree.specs.AddDamage.{IsShared, path_pages}
 use Rattle.mvsb_tree.proofs.Chains.{names_first}
@@ -92,3 +93,13 @@ module _ (m0 m1 : PageMap) (way : List ℕ) (others : OthersStay way m0 m1) wher
     | inr shared ↦ inr (subst (λ (l : ℕ). IsShared (path_pages l m0 tree.root version) way m0) (sym full.1) shared)
   ]
   damage_before order0 order1 tree version damaged keeps (inr (inr (inr unordered))) = inl (inr (inr (inr (λ ordered. unordered (keeps ordered)))))
+
+-- The directory changes beside the nodes: what neither leads to stays.
+pub both_stay : (m0 m1 m2 : PageMap) (tree : Tree) (way : List ℕ) → AreInMap m0 (tree_pages m0 tree) → AreApart (tree_pages m0 tree) way → OthersStay way m0 m1
+    → OthersStay (tree_pages m1 tree) m1 m2 → OthersStay (tree_pages m0 tree ++ way) m0 m2
+both_stay m0 m1 m2 tree way there apart nodes directory page off some =
+    let parts = or_parts (names_page (tree_pages m0 tree) page) (names_page way page) (sym (names_page-append (tree_pages m0 tree) way page) ∙ off) in
+    let agree : AgreeOn (tree_pages m0 tree) m0 m1 = λ p named. nodes p (apart p named) (there p named) in
+    let same : tree_pages m1 tree ≡ tree_pages m0 tree = same_pages tree.levels m0 m1 tree.root agree in
+    let first = nodes page parts.1 some in
+    directory page (ap (λ (ps : List ℕ). names_page ps page) same ∙ parts.0) (subst IsSome (sym first) some) ∙ first

@@ -62,6 +62,10 @@ path_pages (suc level) pages page version =
 abbrev pub directory_way : PageMap → Tree → ℕ → List ℕ
 directory_way pages tree version = path_pages tree.levels pages tree.root version
 
+-- the pages of the directory
+abbrev pub directory_pages : PageMap → Tree → List ℕ
+directory_pages pages tree = steps_over_versions.tree_pages pages (directory tree)
+
 -- the nodes' pages on the way of the key at the version, from the root down
 abbrev pub node_way : PageMap → Tree → ℕ → ℕ → List ℕ
 node_way pages tree key version = way_pages (root_level pages (root_at pages tree version)) pages (root_at pages tree version) key version

@@ -1,12 +1,12 @@
 //! Additions.
-ghost use Rattle.std.specs.Prelude.{◌≡◌, ◌≢◌, ◌+◌, ◌^◌, ◌<◌, ◌≤◌, ℕ, List, ◌∷◌, length, Err, IsTrue, IfOk, OnOk, OnErr};
+ghost use Rattle.std.specs.Prelude.{◌≡◌, ◌≢◌, ◌+◌, ◌^◌, ◌<◌, ◌≤◌, ℕ, List, ◌∷◌, ◌++◌, length, Err, IsTrue, IfOk, OnOk, OnErr};
 ghost use Rattle.std.specs.List.{All};
 ghost use Rattle.bw_types.specs.declared.point.Point.{Point};
 ghost use Rattle.page_ports.specs.Calls.{Grows};
-ghost use Rattle.page_ports.specs.Frame.{Replaces};
+ghost use Rattle.page_ports.specs.Frame.{AreApart, AreInMap, Replaces};
 ghost use Rattle.page_layout.specs.TreeValue.{IsTreeTyped, tree_fits};
 ghost use Rattle.sb_tree.specs.Stored.{OthersStay};
-ghost use Rattle.mvsb_tree.specs.AddDamage.{IsDamagedForAdd, IsDamagedInNodes, node_way};
+ghost use Rattle.mvsb_tree.specs.AddDamage.{IsDamagedForAdd, IsDamagedInNodes, directory_pages, node_way};
 ghost use Rattle.mvsb_tree.specs.Stands.{IsBalanced, MvStands, is_marked, key_of};
 ghost use Rattle.mvsb_tree.specs.Steps.{place_count, root_at as spec_root_at, root_level, tree_pages};
 ghost use Rattle.mvsb_tree.specs.Tops.{RootAdded};
@@ -47,6 +47,11 @@ pub fn mv_add<S: Stage>(
     ensures change { OnOk result (IsTrue (S.tells stage.old) → (points : List Point)
         → MvStands (S.map stage.old) tree.old points → All (λ q. q.version ≤ version) points
         → Replaces (tree_pages (S.map stage.old) tree.old) (tree_pages (S.map stage.new) tree.new) (S.map stage.old) (S.map stage.new)) }
+    // Whatever the pages hold: where the directory's are in the map, and on no way of the key through the nodes, all but
+    // those of the directory and of that way stay as they are.
+    ensures apart { OnOk result (IsTrue (S.tells stage.old) → AreInMap (S.map stage.old) (directory_pages (S.map stage.old) tree.old)
+        → AreApart (directory_pages (S.map stage.old) tree.old) (node_way (S.map stage.old) tree.old key version)
+        → OthersStay (directory_pages (S.map stage.old) tree.old ++ node_way (S.map stage.old) tree.old key version) (S.map stage.old) (S.map stage.new)) }
     ensures count { OnOk result (tree.new.count ≡ tree.old.count + 1) }
     ensures rules { OnOk result (IsTrue (tree_fits tree.old) → IsTrue (tree_fits tree.new)) }
     ensures typed { IsTreeTyped tree.new }

@@ -4,6 +4,8 @@ ghost use Rattle.bw_types.specs.declared.point.Point.{Point};
 ghost use Rattle.page_ports.specs.Calls.{Grows};
 ghost use Rattle.sb_tree.specs.Damage.{IsDamagedForAdd};
 ghost use Rattle.sb_tree.specs.Stands.{IsBalanced, SbStands};
+ghost use Rattle.sb_tree.specs.Steps.{tree_pages};
+ghost use Rattle.sb_tree.specs.Stored.{OthersStay};
 ghost use Rattle.mvsb_tree.specs.Led.{Led};
 
 use bw_types::Tree;
@@ -27,6 +29,8 @@ pub fn lead_to<S: Stage>(
     ensures count { OnOk result ((roots.old.count ≤ roots.new.count) × (roots.new.count ≤ roots.old.count + 1)) }
     ensures root { OnOk result ((roots.old.levels ≡ 0 → top ≢ root) → (roots.old.levels ≢ 0 → (roots.old.levels ≤ 16) × (3 ≤ roots.old.root))
         → (1 ≤ roots.new.levels) × (roots.new.levels ≤ 16) × (3 ≤ roots.new.root)) }
+    // Whatever the pages hold, those outside the directory stay as they are.
+    ensures apart { OnOk result (IsTrue (S.tells stage.old) → OthersStay (tree_pages (S.map stage.old) roots.old) (S.map stage.old) (S.map stage.new)) }
     ensures beside { (roots.new.changes ≡ roots.old.changes) × (roots.new.last ≡ roots.old.last) }
     ensures damaged { (page : ℕ) → result ≡ Err (StageFault.Damaged page) → IsTrue (S.tells stage.old)
         → IsDamagedForAdd (S.map stage.old) (S.free_in_order stage.old) roots.old version page }

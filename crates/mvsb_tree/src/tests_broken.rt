@@ -8,16 +8,20 @@ use page_ports::{MemStage, PageFault, Stage, StageFault, blank_page};
 use sb_tree::sb_add;
 use std::test::Fail;
 
-// A node of one entry, open from version 1 on.
-fn node(level: u8, place: u32, before: u64, child: u64) -> MvNode {
-    let mut entries = ArrayVec::new();
-    entries.push(MvEntry {
-        low: 0,
-        start: 1,
+fn entry(low: u64, start: u32, child: u64) -> MvEntry {
+    MvEntry {
+        low,
+        start,
         end: u32::MAX,
         value: 3,
         child,
-    });
+    }
+}
+
+// A node of one entry, open from version 1 on.
+fn node(level: u8, place: u32, before: u64, child: u64) -> MvNode {
+    let mut entries = ArrayVec::new();
+    entries.push(entry(0, 1, child));
     MvNode {
         level,
         place,
@@ -98,14 +102,15 @@ fn a_root_that_is_noise(rt: HostRuntime) -> Result<(), Fail> {
 #[test]
 fn an_entry_of_a_later_version(rt: HostRuntime) -> Result<(), Fail> {
     let mut stage = MemStage::new(rt.alloc(), 10);
-    let mut later = node(1, 1, 0, 0);
-    later.entries.push(MvEntry {
-        low: 7,
-        start: 9,
-        end: u32::MAX,
-        value: 3,
-        child: 0,
-    });
+    let mut entries = ArrayVec::new();
+    entries.push(entry(0, 1, 0));
+    entries.push(entry(7, 9, 0));
+    let later = MvNode {
+        level: 1,
+        place: 1,
+        before: 0,
+        entries,
+    };
     assert!(rt; later.keeps_rules());
     let page = make_page(&mut stage, &later)?;
     let mut tree = tree_of(&mut stage, page)?;

@@ -8,8 +8,10 @@ use Rattle.page_ports.specs.declared.page.StageFault.TheVariants.{Damaged}
 use Rattle.sb_tree.specs.Stands.{SbStands}
 use Rattle.sb_tree.specs.Stands as over_versions
 use Rattle.sb_tree.specs.Damage as damage
+use Rattle.sb_tree.specs.Steps as dir_steps
+use Rattle.sb_tree.specs.Stored.{OthersStay}
 use Rattle.mvsb_tree.specs.AddDamage.{node_way}
-use Rattle.mvsb_tree.proofs.Sharing.{damage_before}
+use Rattle.mvsb_tree.proofs.Sharing.{both_stay, damage_before}
 use Rattle.mvsb_tree.specs.Led.{Led}
 use Rattle.mvsb_tree.specs.Stands.{MvStands, is_marked, key_of}
 use Rattle.mvsb_tree.specs.Steps.{directory, node_on, place_count, root_at, root_level}
@@ -167,3 +169,11 @@ returns-in_err-lead_to-clause-damaged g c = λ page e tells. (
       | inl before ↦ inr (inr (inl before))
       | inr shared ↦ inr (inr (inr shared))
     ])
+
+pub returns-clause-apart : goal.returns-clause-apart
+returns-clause-apart g c = λ tells there apart. (
+    let m1 : PageMap = g.S.Pages.map c.add_to_nodes.new.stage in
+    let m2 : PageMap = g.S.Pages.map c.lead_to.new.stage in
+    let d0 : OthersStay (dir_steps.tree_pages m1 c.directory-roots.result) m1 m2 = c.in_ok-lead_to.ensures.apart (c.add_to_nodes.ensures.grows.went_on.tells ∙ tells) in
+    let d1 = subst (λ (t : Tree). OthersStay (dir_steps.tree_pages m1 t) m1 m2) c.directory-roots.ensures d0 in
+    both_stay (g.S.Pages.map c.args.stage.now) m1 m2 (directory c.args.tree.now) (node_way (g.S.Pages.map c.args.stage.now) c.args.tree.now c.args.key c.args.version) there apart (c.in_ok-ends.ensures.apart tells) d1)
