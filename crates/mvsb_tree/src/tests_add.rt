@@ -144,6 +144,7 @@ fn many_additions(rt: HostRuntime) -> Result<(), Fail> {
         let mut stage = MemStage::new(rt.alloc(), 100000);
         let mut tree = Tree::default();
         for addition in additions.as_slice() {
+            assert!(rt; addition.version < u32::MAX);
             mv_add(
                 &mut stage,
                 &mut tree,
