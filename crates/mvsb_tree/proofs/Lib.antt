@@ -13,6 +13,7 @@ pub mod Firsts
 pub mod Frames
 pub mod Freeing
 pub mod Growing
+pub mod Indexing
 pub mod Intervals
 pub mod Joining
 pub mod Landing

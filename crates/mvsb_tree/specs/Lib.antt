@@ -2,6 +2,7 @@ pub mod AddDamage
 pub mod Changed
 pub mod Damage
 pub mod Grown
+pub mod Index
 pub mod Laws
 pub mod Led
 pub mod Stands
