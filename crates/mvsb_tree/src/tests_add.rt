@@ -91,7 +91,7 @@ fn some_additions(alloc: Global, kind: u32, count: u32) -> Result<Vec<Addition>,
         let version = match kind % 3 {
             0 => i / 8,
             1 => i,
-            _ => 7 + i / 3000,
+            _ => 7 + i / 500,
         };
         let value = u128::from(state).wrapping_neg();
         additions.push(Addition {
@@ -119,7 +119,7 @@ fn has_plain_sums(stage: &mut MemStage, tree: &Tree, additions: &[Addition]) -> 
     if count == 0 {
         return true;
     }
-    for i in 0..400usize {
+    for i in 0..100usize {
         let key = additions[(i * 7919) % count].key;
         let version = additions[(i * 104729) % count].version;
         for case in [
@@ -140,7 +140,7 @@ fn has_plain_sums(stage: &mut MemStage, tree: &Tree, additions: &[Addition]) -> 
 #[test]
 fn many_additions(rt: HostRuntime) -> Result<(), Fail> {
     for kind in 0..12u32 {
-        let additions = some_additions(rt.alloc(), kind, 6000)?;
+        let additions = some_additions(rt.alloc(), kind, 1000)?;
         let mut stage = MemStage::new(rt.alloc(), 100000);
         let mut tree = Tree::default();
         for addition in additions.as_slice() {
@@ -153,7 +153,7 @@ fn many_additions(rt: HostRuntime) -> Result<(), Fail> {
                 addition.value,
             )?;
         }
-        assert_eq!(rt; tree.count, 6000);
+        assert_eq!(rt; tree.count, 1000);
         assert!(rt; has_plain_sums(&mut stage, &tree, &additions));
         mv_free(&mut stage, &tree)?;
         assert!(rt; holds_no_pages(&mut stage));
