@@ -1,5 +1,5 @@
 -- What an addition finds damaged below a node.
-use Rattle.std.proofs.Common.{◌≡◌, ◌≢◌, ◌⊎◌, ℕ, ◌-◌, ◌<◌, ◌≤◌, ◌^◌, inl, inr, List, Option, Some, None, IsSome, refl, sym, ap, ◌∙◌, subst, arith}
+use Rattle.std.proofs.Common.{◌≡◌, ◌≢◌, ℕ, ◌-◌, ◌<◌, ◌≤◌, ◌^◌, inr, List, Option, Some, None, IsSome, refl, sym, ap, ◌∙◌, subst, arith}
 use Rattle.page_ports.specs.Pages.{PageMap}
 use Rattle.page_layout.specs.Damage.{HoldsNoNode, IsDamagedBelow, NothingBeside}
 use Rattle.page_layout.specs.DamageLaws as laws

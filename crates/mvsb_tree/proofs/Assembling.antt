@@ -1,8 +1,7 @@
 -- An addition to a node, and to one below it, put together.
 use Rattle.std.proofs.Common.{◌≡◌, ℕ, zero, suc, ◌+◌, ◌-◌, ◌%◌, ◌^◌, ◌≤◌, ◌==◌, inl, inr, ◌⊎◌, true, false, Bool, IsTrue, nat_le, List, ◌∷◌, Option, Some, None, IsSome, refl, sym, ap, ◌∙◌, subst, arith}
 use Rattle.std.specs.List.{All}
-use Rattle.std.specs.Option.{option_map_or}
-use Rattle.std.proofs.lemmas.Bool.{and_parts, cases_Bool, leb-true, ltb-true, or_parts}
+use Rattle.std.proofs.lemmas.Bool.{and_parts, leb-true, ltb-true, or_parts}
 use Rattle.page_ports.specs.Pages.{PageMap, put_page}
 use Rattle.page_ports.specs.Frame.{names_page}
 use Rattle.page_layout.specs.MvNode.{IsMvNode, IsTyped, mv_node_page}
@@ -13,21 +12,19 @@ use Rattle.mv_pages.specs.Lows.{alive_lows, low_above, low_at, with_cut}
 use Rattle.mvsb_tree.specs.declared.replaced.Replaced.{Replaced}
 use Rattle.mvsb_tree.specs.Changed.{CutFits, IsAbove, IsFrom, LowsPut, ReplacedFits, beside_value, cut_of, part_page}
 use Rattle.mvsb_tree.specs.Grown.{EntriesHold, NodesHold, PastStays}
-use Rattle.mvsb_tree.specs.Stands.{ChainStands, NodeStands, StandsOnWay, ends_after, inner_high, inner_low}
+use Rattle.mvsb_tree.specs.Stands.{ChainStands, NodeStands, ends_after, inner_high, inner_low}
 use Rattle.mvsb_tree.specs.Steps.{chain_from, node_on, total_below}
 use Rattle.mvsb_tree.specs.Stored.{AreTwoStored, IsFirstStored, IsNext, IsStorable, IsStored, all_start_at}
 use Rattle.mvsb_tree.specs.Ways.{IsAdded, IsKeyIn, LowsCut, NodeWays, PartsStand, WaysStand, added_at, way_pages}
 use Rattle.mvsb_tree.proofs.Adding.{index_ways, leaf_ways}
 use Rattle.mvsb_tree.proofs.Descending as descending
-use Rattle.mvsb_tree.proofs.Chains.{same_node}
-use Rattle.mvsb_tree.proofs.Cutting.{same_interval}
 use Rattle.mvsb_tree.proofs.Growing.{grown_then, named_second}
-use Rattle.mvsb_tree.proofs.Intervals.{ends_down, inner_in, lows_cut, way_within}
+use Rattle.mvsb_tree.proofs.Intervals.{ends_down, lows_cut}
 use Rattle.mvsb_tree.proofs.Landing.{landed, not_new}
-use Rattle.mvsb_tree.proofs.Nodes.{node_on-spelled, some_same}
+use Rattle.mvsb_tree.proofs.Nodes.{node_on-spelled}
 use Rattle.mvsb_tree.proofs.Sound.{root_spelled}
 use Rattle.mvsb_tree.proofs.Splitting.{lies_in}
-use Rattle.mvsb_tree.proofs.Ways.{low_above_holds, low_at_holds, low_at_some, way_goes_on}
+use Rattle.mvsb_tree.proofs.Ways.{low_above_holds, low_at_holds, way_goes_on}
 
 -- A cut inside a child's interval fits the lows around it, and lies inside the node's interval.
 outer_cut : (lows : List ℕ) (key low : ℕ) (high : Option ℕ) (o : Option Cut) → low_at lows key ≡ Some low → CutFits (Some low) (or_later high (low_above lows key)) o → CutFits (low_at lows key) (low_above lows key) o

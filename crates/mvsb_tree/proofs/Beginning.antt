@@ -1,7 +1,7 @@
 -- How an addition begins: at the first leaf, or at the root that stands.
-use Rattle.std.proofs.Common.{◌≡◌, ◌≢◌, ◌⊎◌, ℕ, zero, suc, ◌+◌, ◌^◌, ◌<◌, ◌≤◌, ◌==◌, ◌||◌, ◌&&◌, inl, inr, true, false, Bool, IsTrue, nat_le, List, [], ◌∷◌, length, Option, Some, None, if◌then◌else◌, slice_index_or, refl, sym, ap, ◌∙◌, subst, arith}
-use Rattle.std.specs.List.{All, list_any}
-use Rattle.std.proofs.lemmas.Bool.{and_parts, cases_Bool, cond-true, eq-eqb, eqb-true, le-leb, leb-true, or_left, or_right, true≢false}
+use Rattle.std.proofs.Common.{◌≡◌, ◌≢◌, ℕ, zero, suc, ◌^◌, ◌<◌, ◌≤◌, ◌==◌, inl, inr, true, false, IsTrue, nat_le, List, [], ◌∷◌, length, Option, Some, None, if◌then◌else◌, slice_index_or, refl, sym, ap, ◌∙◌, subst, arith}
+use Rattle.std.specs.List.{All}
+use Rattle.std.proofs.lemmas.Bool.{le-leb, or_left, true≢false}
 use Rattle.std.proofs.lemmas.List.Elements.{All-head}
 use Rattle.bw_types.specs.declared.point.Point.{Point}
 use Rattle.bw_types.specs.declared.tree.Tree.{Tree}
@@ -10,7 +10,7 @@ use Rattle.page_ports.specs.Frame.{names_page}
 use Rattle.page_layout.specs.MvNode.{IsMvNode, mv_node_page}
 use Rattle.page_layout.specs.declared.mv_node.MvEntry.{MvEntry}
 use Rattle.mvsb_tree.specs.Stands.{ChainStands, MvStands, RootStands, StandsOnWay, has_begun, is_marked, is_past, key_of}
-use Rattle.mvsb_tree.specs.Steps.{chain_from, directory, entries_on, node_on, node_pages, place_count, root_at, root_level}
+use Rattle.mvsb_tree.specs.Steps.{chain_from, entries_on, node_on, node_pages, place_count, root_at, root_level}
 use Rattle.mvsb_tree.specs.Tops.{RootAdded, first_node}
 use Rattle.mvsb_tree.proofs.Chains.{names_first}
 use Rattle.mvsb_tree.proofs.Firsts.{first_added}

@@ -1,5 +1,5 @@
 -- How many keys the leaves of a tree have at a version, and how many they may have.
-use Rattle.std.proofs.Common.{◌≡◌, ◌≢◌, ◌⊎◌, ℕ, zero, suc, ◌+◌, ◌*◌, ◌^◌, ◌<◌, ◌≤◌, ◌==◌, ◌||◌, ◌&&◌, inl, inr, true, false, Bool, IsTrue, nat_le, nat_lt, get_or, List, [], ◌∷◌, ◌++◌, length, map, Option, Some, None, cond, refl, sym, ap, ◌∙◌, subst, arith, append_assoc, length-append, lit≤, lit<}
+use Rattle.std.proofs.Common.{◌≡◌, ℕ, zero, suc, ◌+◌, ◌*◌, ◌^◌, ◌<◌, ◌≤◌, ◌==◌, ◌||◌, inl, inr, true, false, Bool, IsTrue, nat_le, nat_lt, get_or, List, [], ◌∷◌, ◌++◌, length, map, Option, Some, None, cond, refl, sym, ap, ◌∙◌, subst, arith, append_assoc, length-append, lit≤, lit<}
 use Rattle.std.specs.List.{All, list_any}
 use Rattle.std.specs.Option.{option_map_or}
 use Rattle.std.proofs.lemmas.Bool.{and_parts, le-leb, le-ltb, lt-ltb, ltb-true}
@@ -7,11 +7,9 @@ use Rattle.std.proofs.lemmas.List.{length-map}
 use Rattle.std.proofs.lemmas.List.Elements.{All-append, All-cons, All-head, All-nil, All-tail}
 use Rattle.std.proofs.Math.Nat.{suc-mul, pow-suc, mul-le-mul_right, mul_comm, one-le-pow, zero-mul}
 use Rattle.bw_types.specs.Heights.{digit_count}
-use Rattle.bw_types.specs.HeightLaws.{digits_grow, powers_have_digits}
+use Rattle.bw_types.specs.HeightLaws.{powers_have_digits}
 use Rattle.bw_types.specs.declared.point.Point.{Point}
 use Rattle.page_ports.specs.Pages.{PageMap}
-use Rattle.page_ports.specs.Frame.{names_page}
-use Rattle.page_layout.specs.declared.mv_node.MvNode.{MvNode}
 use Rattle.page_layout.specs.declared.mv_node.MvEntry.{MvEntry}
 use Rattle.page_layout.specs.MvNode.{IsMvEntryTyped}
 use Rattle.mv_pages.specs.Alive.{child_of, is_alive, or_later, path_child}
@@ -20,8 +18,7 @@ use Rattle.sb_tree.specs.Stands as over_versions
 use Rattle.sb_tree.proofs.Balance.{Rising, few_lows}
 use Rattle.mvsb_tree.specs.Grown.{NodesHold}
 use Rattle.mvsb_tree.specs.Stands.{NodeStands, StandsOnWay, ends_after, first_of, inner_high, inner_low, is_marked, key_of}
-use Rattle.mvsb_tree.specs.Steps.{chain_from, entries_on, node_on, root_level}
-use Rattle.mvsb_tree.specs.Tops.{IsHigher}
+use Rattle.mvsb_tree.specs.Steps.{entries_on, node_on}
 use Rattle.mvsb_tree.specs.Ways.{IsKeyIn}
 use Rattle.mvsb_tree.proofs.Cutting.{none_at, same_interval}
 use Rattle.mvsb_tree.proofs.Intervals.{ends_down}

@@ -1,5 +1,5 @@
 -- The end of the chain from call to call, whatever the pages hold.
-use Rattle.std.proofs.Common.{◌≡◌, ◌≢◌, ◌⊎◌, ℕ, zero, suc, ◌+◌, ◌<◌, ◌≤◌, ◌^◌, ◌==◌, inl, inr, Bool, true, false, IsTrue, List, Option, Some, None, IsSome, refl, sym, ap, ◌∙◌, subst, arith}
+use Rattle.std.proofs.Common.{◌≡◌, ◌⊎◌, ℕ, ◌+◌, ◌<◌, ◌≤◌, ◌^◌, ◌==◌, inl, inr, Bool, true, false, List, Option, Some, None, IsSome, refl, sym, ap, ◌∙◌, subst, arith}
 use Rattle.std.specs.List.{All}
 use Rattle.std.proofs.lemmas.Bool.{cases_Bool, eqb-true}
 use Rattle.page_ports.specs.Pages.{PageMap, put_page}
@@ -9,8 +9,8 @@ use Rattle.page_layout.specs.declared.mv_node.MvNode.{MvNode}
 use Rattle.mvsb_tree.specs.declared.replaced.Replaced.{Replaced}
 use Rattle.mvsb_tree.specs.AddDamage.{IsEndDamaged, IsEndOf, IsPlacedAs, KeepsPlaces}
 use Rattle.mvsb_tree.specs.Damage.{mv_pages}
-use Rattle.mvsb_tree.specs.Steps.{no_node, node_on}
-use Rattle.mvsb_tree.specs.Stored.{AreTwoStored, IsClosedBy, IsFirstStored, IsLastDamaged, IsNext, IsStored, all_start_at, next_node}
+use Rattle.mvsb_tree.specs.Steps.{node_on}
+use Rattle.mvsb_tree.specs.Stored.{IsClosedBy, IsFirstStored, IsLastDamaged, IsNext, IsStored, all_start_at}
 use Rattle.mvsb_tree.proofs.Chains.{same_node}
 use Rattle.mvsb_tree.proofs.Landing.{next_spells, not_new}
 use Rattle.mvsb_tree.proofs.Nodes.{node_on-spelled}

@@ -1,19 +1,19 @@
 -- The nodes grow, and then the directory changes beside them.
-use Rattle.std.proofs.Common.{◌≡◌, ◌≢◌, ℕ, ◌+◌, ◌%◌, ◌^◌, ◌<◌, ◌≤◌, ◌==◌, ◌||◌, inl, inr, true, false, Bool, IsTrue, List, [], ◌∷◌, ◌++◌, length, Some, None, IsSome, cond, if◌then◌else◌, slice_index_or, refl, sym, ap, ◌∙◌, subst, arith, lit≤}
+use Rattle.std.proofs.Common.{◌≡◌, ◌≢◌, ℕ, ◌+◌, ◌%◌, ◌^◌, ◌<◌, ◌≤◌, ◌==◌, ◌||◌, inl, inr, true, false, Bool, IsTrue, List, [], ◌∷◌, ◌++◌, length, None, IsSome, if◌then◌else◌, slice_index_or, refl, sym, ap, ◌∙◌, subst, arith, lit≤}
 use Rattle.std.specs.List.{All}
-use Rattle.std.proofs.lemmas.Bool.{cases_Bool, cases_lt, cond-false, eqb-true, ne_eqb, or_cases, true≢false}
+use Rattle.std.proofs.lemmas.Bool.{cases_Bool, cases_lt, cond-false, ne_eqb, true≢false}
 use Rattle.bw_types.specs.declared.point.Point.{Point}
 use Rattle.bw_types.specs.declared.tree.Tree.{Tree}
 use Rattle.page_ports.specs.Pages.{PageMap}
 use Rattle.page_ports.specs.Frame.{names_page, AgreeOn, AreApart, AreInMap, Replaces}
 use Rattle.page_ports.specs.FrameLaws.{names_page-append, Replaces-agree, Replaces-apart, Replaces-beside, Replaces-by_names}
 use Rattle.page_layout.specs.Footprint.{NamesNoneTwice}
-use Rattle.page_layout.specs.FootprintLaws.{apart_append, apart_sym, once_apart, once_join, once_left, once_right}
+use Rattle.page_layout.specs.FootprintLaws.{apart_append, apart_sym, once_apart, once_join, once_right}
 use Rattle.page_layout.specs.declared.mv_node.MvNode.{MvNode}
 use Rattle.sb_tree.specs.Laws as over_versions_laws
 use Rattle.sb_tree.specs.Stands.{SbStands}
 use Rattle.sb_tree.specs.Steps as over_versions
-use Rattle.mvsb_tree.specs.Grown.{EntriesHold, Grown, PastStays}
+use Rattle.mvsb_tree.specs.Grown.{EntriesHold, PastStays}
 use Rattle.mvsb_tree.specs.Led.{Led}
 use Rattle.mvsb_tree.specs.Stands.{ChainStands, IsBalanced, MvStands, StandsOnWay, has_come, is_marked}
 use Rattle.mvsb_tree.specs.Steps.{chain_from, directory, node_on, node_pages, place_count, root_at, root_level, total_below, tree_pages}
@@ -21,7 +21,7 @@ use Rattle.mvsb_tree.specs.Tops.{RootAdded}
 use Rattle.mvsb_tree.specs.Ways.{added_at}
 use Rattle.mvsb_tree.proofs.Chains.{chain_stands, chain_there, same_chain, same_node}
 use Rattle.mvsb_tree.proofs.Frames.{way_stands, way_total}
-use Rattle.mvsb_tree.proofs.Growing.{named_first, named_second, once_together}
+use Rattle.mvsb_tree.proofs.Growing.{named_second, once_together}
 use Rattle.mvsb_tree.proofs.Landing.{place_is}
 use Rattle.mvsb_tree.proofs.Sound.{root_spelled}
 use Rattle.mvsb_tree.proofs.Whole.{DirectoryAdded, NodesAdded, come_early, come_with, level_stays, sum_stays}

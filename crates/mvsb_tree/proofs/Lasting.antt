@@ -1,17 +1,15 @@
 -- The chain of a stage: it is never so long that it has the last place, and it stands from call to call.
-use Rattle.std.proofs.Common.{◌≡◌, ◌≢◌, ◌⊎◌, ℕ, zero, suc, ◌+◌, ◌^◌, ◌<◌, ◌≤◌, ◌==◌, nat_eq, inl, inr, Bool, true, false, IsTrue, List, [], ◌∷◌, ◌++◌, length, Option, Some, None, IsSome, refl, sym, ap, ◌∙◌, subst, arith}
+use Rattle.std.proofs.Common.{◌≡◌, ◌≢◌, ℕ, zero, suc, ◌+◌, ◌^◌, ◌<◌, ◌≤◌, ◌==◌, nat_eq, inl, inr, Bool, true, false, List, [], ◌∷◌, length, Option, Some, None, IsSome, refl, sym, ap, ◌∙◌, subst, arith}
 use Rattle.std.specs.List.{All, list_any, IsDistinct, AllByRecursion}
-use Rattle.std.proofs.lemmas.Bool.{cases_Bool, or_left, or_right, or_cases, eq-eqb, eqb-true, ne_eqb, true≢false}
+use Rattle.std.proofs.lemmas.Bool.{or_left, or_right, or_cases, eq-eqb, eqb-true, ne_eqb, true≢false}
 use Rattle.std.proofs.lemmas.Map.Steps.{length-le_from_distinct_below}
-use Rattle.page_ports.specs.Pages.{PageMap, put_page}
+use Rattle.page_ports.specs.Pages.{PageMap}
 use Rattle.page_ports.specs.Frame.{names_page, AgreeOn}
-use Rattle.page_layout.specs.MvNode.{IsMvEntryTyped, IsMvNode, IsTyped, mv_node_page}
-use Rattle.page_layout.specs.Spelled.{SpellsNone}
+use Rattle.page_layout.specs.MvNode.{IsMvEntryTyped, IsTyped}
 use Rattle.page_layout.specs.declared.mv_node.MvNode.{MvNode}
-use Rattle.mvsb_tree.specs.Damage.{mv_pages}
 use Rattle.mvsb_tree.specs.Stands.{ChainStands}
 use Rattle.mvsb_tree.specs.Steps.{chain_from, node_on}
-use Rattle.mvsb_tree.specs.Stored.{IsFirstStored, IsLastDamaged, IsNext, next_node}
+use Rattle.mvsb_tree.specs.Stored.{IsFirstStored, IsLastDamaged, IsNext}
 use Rattle.mvsb_tree.proofs.Chains.{chain_stands, chain_there, names_first}
 use Rattle.mvsb_tree.proofs.Freeing.{chain_spelled}
 use Rattle.mvsb_tree.proofs.Growing.{stands_after}

@@ -1,5 +1,5 @@
 -- What is damaged in a directory beside which nodes changed was damaged before, or a page is shared.
-use Rattle.std.proofs.Common.{◌≡◌, ◌⊎◌, ℕ, zero, suc, ◌==◌, ◌||◌, inl, inr, Bool, true, false, List, [], ◌∷◌, ◌++◌, length, Option, Some, None, IsSome, refl, sym, ap, ◌∙◌, subst}
+use Rattle.std.proofs.Common.{◌≡◌, ◌⊎◌, ℕ, zero, suc, ◌==◌, inl, inr, List, ◌∷◌, ◌++◌, length, Option, Some, None, IsSome, refl, sym, ap, ◌∙◌, subst}
 use Rattle.std.specs.List.{list_any}
 use Rattle.std.proofs.lemmas.Bool.{cases_Bool, or_parts, or_right}
 use Rattle.bw_types.specs.declared.tree.Tree.{Tree}
@@ -7,7 +7,6 @@ use Rattle.page_ports.specs.Pages.{PageMap}
 use Rattle.page_ports.specs.Frame.{names_page, AgreeOn, AreApart, AreInMap}
 use Rattle.page_ports.specs.FrameLaws.{names_page-append}
 use Rattle.page_layout.specs.Damage.{IsDamagedBelow, NothingBeside}
-use Rattle.page_layout.specs.declared.sb_node.SbNode.{SbNode}
 use Rattle.page_layout.specs.declared.sb_node.SbEntry.{SbEntry}
 use Rattle.sb_tree.specs.Damage.{FitsPlace, IsDamagedForAdd, IsFullBelow, LeadsTo, root_place}
 use Rattle.sb_tree.specs.Steps.{child_at, entries_on, tree_pages}

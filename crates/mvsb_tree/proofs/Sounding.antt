@@ -1,23 +1,19 @@
 -- An addition on ways that stand finds no page damaged.
-use Rattle.std.proofs.Common.{◌≡◌, ◌≢◌, ◌⊎◌, ℕ, zero, suc, ◌+◌, ◌-◌, ◌^◌, ◌<◌, ◌≤◌, ◌==◌, inl, inr, true, Bool, IsTrue, List, Option, Some, None, IsSome, refl, sym, ap, ◌∙◌, subst, arith}
+use Rattle.std.proofs.Common.{◌≡◌, ◌⊎◌, ℕ, zero, suc, ◌<◌, inl, inr, Bool, IsTrue, List, Option, Some, None, IsSome, refl, sym, subst, arith}
 use Rattle.std.specs.List.{All}
 use Rattle.page_ports.specs.Pages.{PageMap}
-use Rattle.page_ports.specs.Frame.{names_page}
 use Rattle.page_layout.specs.Damage.{HoldsNoNode, NothingBeside}
 use Rattle.page_layout.specs.DamageLaws as laws
 use Rattle.page_layout.specs.MvNode.{IsMvNode, IsTyped, mv_node_page}
-use Rattle.page_layout.specs.Spelled.{SpellsNone}
 use Rattle.page_layout.specs.declared.mv_node.MvNode.{MvNode}
-use Rattle.page_layout.specs.declared.mv_node.MvEntry.{MvEntry}
 use Rattle.mv_pages.specs.Alive.{IsChangeable, IsPastOf, child_of}
-use Rattle.mv_pages.specs.Lows.{alive_lows, ascend}
 use Rattle.mv_pages.proofs.LowOrder.{once_of}
 use Rattle.mvsb_tree.specs.declared.place.Place.{Place}
-use Rattle.mvsb_tree.specs.Damage.{FitsPlace, IsInPlace, LeadsTo, mv_pages, root_place}
+use Rattle.mvsb_tree.specs.Damage.{FitsPlace, IsInPlace, LeadsTo, root_place}
 use Rattle.mvsb_tree.specs.Grown.{NodesHold}
-use Rattle.mvsb_tree.specs.Stands.{ChainStands, NodeStands, StandsOnWay, ends_after}
+use Rattle.mvsb_tree.specs.Stands.{ChainStands, NodeStands, StandsOnWay}
 use Rattle.mvsb_tree.specs.Steps.{chain_from, entries_on, node_on}
-use Rattle.mvsb_tree.specs.Ways.{IsKeyIn, WaysStand}
+use Rattle.mvsb_tree.specs.Ways.{WaysStand}
 use Rattle.mvsb_tree.proofs.Nodes.{node_on-spelled}
 use Rattle.mvsb_tree.proofs.Sound.{fits_where_stands, inner_stands, root_spelled, undamaged}
 

@@ -1,5 +1,4 @@
-use Rattle.std.proofs.Common.{◌≡◌, ◌≢◌, ◌+◌, ◌^◌, ◌<◌, ◌≤◌, ◌==◌, inl, inr, false, ℕ, List, [], ◌∷◌, Some, None, Option, Err, IsTrue, length, refl, sym, ap, ◌∙◌, subst, arith, rules}
-use Rattle.std.specs.List.{All}
+use Rattle.std.proofs.Common.{◌≡◌, ◌^◌, ◌<◌, ◌≤◌, inl, inr, ℕ, List, [], ◌∷◌, Some, None, Err, IsTrue, refl, sym, ap, ◌∙◌, subst, arith, rules}
 use Rattle.std.proofs.lemmas.Result.{err_from_is_err_and}
 use Rattle.bw_types.specs.declared.point.Point.{Point}
 use Rattle.page_ports.specs.Pages.{PageMap}
@@ -7,7 +6,7 @@ use Rattle.page_ports.specs.declared.page.StageFault.TheVariants.{Damaged}
 use Rattle.mvsb_tree.specs.AddDamage.{IsDamagedFromRootForAdd, IsEndDamaged}
 use Rattle.mvsb_tree.specs.Damage.{root_place}
 use Rattle.mvsb_tree.specs.Grown.{NodesHold}
-use Rattle.mvsb_tree.specs.Stands.{ChainStands, IsBalanced, MvStands, StandsOnWay, is_marked, key_of}
+use Rattle.mvsb_tree.specs.Stands.{ChainStands, StandsOnWay, is_marked}
 use Rattle.mvsb_tree.specs.Steps.{chain_from, place_count, root_at, root_level}
 use Rattle.mvsb_tree.specs.Tops.{RootAdded}
 use Rattle.mvsb_tree.proofs.Beginning.{first_of_tree, root_ways}

@@ -1,4 +1,4 @@
-use Rattle.std.proofs.Common.{◌≡◌, ◌≢◌, ◌+◌, ◌^◌, ◌<◌, ◌≤◌, ℕ, List, ◌∷◌, Some, None, [], Err, inl, inr, IsTrue, length, refl, sym, ap, ◌∙◌, subst, arith, rules}
+use Rattle.std.proofs.Common.{◌≡◌, ◌+◌, ◌^◌, ◌<◌, ◌≤◌, List, ◌∷◌, None, [], Err, inl, inr, IsTrue, refl, sym, ap, ◌∙◌, subst, arith, rules}
 use Rattle.std.specs.List.{All}
 use Rattle.bw_types.specs.declared.point.Point.{Point}
 use Rattle.bw_types.specs.declared.tree.Tree.{Tree}
@@ -14,7 +14,7 @@ use Rattle.mvsb_tree.specs.AddDamage.{node_way}
 use Rattle.mvsb_tree.proofs.Sharing.{both_stay, damage_before}
 use Rattle.mvsb_tree.specs.Led.{Led}
 use Rattle.mvsb_tree.specs.Stands.{MvStands, is_marked, key_of}
-use Rattle.mvsb_tree.specs.Steps.{directory, node_on, place_count, root_at, root_level}
+use Rattle.mvsb_tree.specs.Steps.{directory, place_count, root_level}
 use Rattle.mvsb_tree.specs.Tops.{RootAdded}
 use Rattle.mvsb_tree.proofs.Costs.{low_directory}
 use Rattle.mvsb_tree.proofs.Exits.{exit_error}

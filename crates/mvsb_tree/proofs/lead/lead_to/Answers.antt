@@ -1,6 +1,5 @@
-use Rattle.std.proofs.Common.{◌≡◌, ◌^◌, ◌<◌, ◌∷◌, List, length, refl, subst, arith}
+use Rattle.std.proofs.Common.{◌^◌, ◌<◌, length, refl, arith}
 use Rattle.std.proofs.lemmas.Result.{on_ok_weaker}
-use Rattle.sb_tree.specs.Stands.{SbStands}
 use Rattle.mvsb_tree.proofs.Exits.{both_ok}
 use Rattle.mvsb_tree.proofs.Leading.{change_at, led_more}
 use Rattle.mvsb_tree.proofs.lead.lead_to.Goals as goal

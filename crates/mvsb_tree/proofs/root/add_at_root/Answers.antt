@@ -1,4 +1,4 @@
-use Rattle.std.proofs.Common.{◌≡◌, ◌≢◌, ◌+◌, ◌-◌, ◌^◌, ◌<◌, inl, inr, IsSome, ℕ, suc, Some, None, Err, IsTrue, List, refl, sym, ap, ◌∙◌, subst, arith, rules}
+use Rattle.std.proofs.Common.{◌≡◌, ◌≢◌, ◌+◌, ◌-◌, ◌^◌, ◌<◌, inl, inr, IsSome, ℕ, Some, None, Err, List, refl, sym, ap, ◌∙◌, subst, arith, rules}
 use Rattle.std.proofs.lemmas.Result.{IfOk-weaker, err_from_is_err_and}
 use Rattle.std.proofs.lemmas.Bool.{iff_false}
 use Rattle.page_ports.specs.Pages.{PageMap}
@@ -14,9 +14,7 @@ use Rattle.mvsb_tree.specs.Damage.{IsInPlace, root_place}
 use Rattle.mvsb_tree.specs.Ways.{way_pages}
 use Rattle.mvsb_tree.proofs.AddPast.{root_add_past, root_add_unfit, top_stays}
 use Rattle.mvsb_tree.proofs.Ending.{end_before, end_more, end_of_last}
-use Rattle.mvsb_tree.specs.Tops.{IsReplacedTyped, IsTop}
 use Rattle.mvsb_tree.specs.Changed.{ReplacedFits}
-use Rattle.mvsb_tree.specs.declared.replaced.Replaced.{Replaced}
 use Rattle.mvsb_tree.proofs.Assembling.{AddsBelow}
 use Rattle.mvsb_tree.proofs.Exits.{both_if, err_same_staged, exit_error, read_damaged}
 use Rattle.mvsb_tree.proofs.Growing.{named_second}
