@@ -32,6 +32,8 @@ mod tests;
 mod tests_add;
 #[cfg(test)]
 mod tests_broken;
+#[cfg(test)]
+mod tests_index;
 mod top;
 mod value;
 
