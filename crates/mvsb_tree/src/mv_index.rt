@@ -17,6 +17,7 @@ use page_ports::{PageFault, Pages, Stage, StageFault};
 /// A multiversion tree as an index, over one dimension.
 ///
 /// A sum gets at most one page a level of the directory and of the root; an addition gives out at most 24.
+#[derive(Drop)]
 pub struct MvIndex;
 
 impl DomIndex for MvIndex {

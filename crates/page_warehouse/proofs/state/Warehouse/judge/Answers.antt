@@ -1,4 +1,4 @@
-use Rattle.std.proofs.Common.{◌≡◌, ℕ, ◌+◌, ◌<◌, ◌^◌, IsTrue, List, true, Option, None, IfOk, sym, ◌∙◌, ap, subst}
+use Rattle.std.proofs.Common.{◌≡◌, ℕ, ◌+◌, ◌<◌, ◌^◌, IsTrue, true, Option, None, IfOk, sym, ◌∙◌, ap, subst}
 use Rattle.std.specs.List.{list_all}
 use Rattle.bw_types.specs.Fits.{row_fits}
 use Rattle.bw_types.specs.History.{History, flat}
@@ -12,7 +12,7 @@ use Rattle.page_space.specs.Shown.{IsInOrder, disk_of, map_of, meta_of, params_o
 use Rattle.session_book.specs.Told.{IsToldOf}
 use Rattle.page_warehouse.specs.Holds.{table_form}
 use Rattle.page_warehouse.specs.Shown.{HoldsHistory}
-use Rattle.page_warehouse.proofs.Here.{Here, here, table_here, told_here}
+use Rattle.page_warehouse.proofs.Here.{here, table_here, told_here}
 use Rattle.page_warehouse.proofs.Queried.{if_ok}
 use Rattle.page_warehouse.proofs.state.Warehouse.judge.Goals as goal
 

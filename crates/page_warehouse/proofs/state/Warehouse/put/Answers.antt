@@ -1,14 +1,12 @@
-use Rattle.std.proofs.Common.{◌≡◌, ◌⊎◌, ℕ, ◌+◌, ◌*◌, ◌<◌, ◌≤◌, ◌==◌, ◌^◌, Bool, true, IsTrue, List, length, Ok, Err, if◌then◌else◌, inl, inr, refl, sym, ◌∙◌, ap, subst, arith}
+use Rattle.std.proofs.Common.{◌≡◌, ◌⊎◌, ◌+◌, ◌<◌, ◌==◌, IsTrue, length, Err, inl, inr, sym, ◌∙◌, ap, subst, arith}
 use Rattle.std.specs.List.{list_all}
 use Rattle.bw_types.specs.Fits.{row_fits}
-use Rattle.bw_types.specs.History.{History, changes, flat, last_version}
+use Rattle.bw_types.specs.History.{History, changes, flat}
 use Rattle.bw_types.specs.Lawful.{IsLawful, IsLawfulBatch}
 use Rattle.bw_types.specs.Refusals.{total_mass}
-use Rattle.bw_types.specs.declared.change.Change.{Change}
 use Rattle.bw_types.specs.declared.params.Params.{Params}
-use Rattle.counts.specs.Count.{Rose}
 use Rattle.page_disk.specs.Image.{Image}
-use Rattle.page_disk.specs.Since.{LeavesNow, LeavesOnly}
+use Rattle.page_disk.specs.Since.{LeavesOnly}
 use Rattle.page_layout.specs.declared.meta.Meta.{Meta}
 use Rattle.page_ports.specs.Pages.{PageMap}
 use Rattle.page_space.specs.Begun.{Begun, OrderedUnder, map_under}
@@ -17,15 +15,13 @@ use Rattle.page_space.specs.Space.{HoldsSpace}
 use Rattle.page_space.specs.declared.space.Space.{Space}
 use Rattle.page_ports.specs.declared.page.StageFault.{StageFault}
 use Rattle.page_ports.specs.declared.page.StageFault.TheVariants as fault
-use Rattle.warehouse.specs.Committed.{IfDone, with_batch}
 use Rattle.change_laws.specs.Begun.{with_changes}
-use Rattle.page_warehouse.specs.Entering.{FormKeeps, PagesKeep}
+use Rattle.page_warehouse.specs.Entering.{FormKeeps}
 use Rattle.page_warehouse.specs.Holds.{Holds}
 use Rattle.page_warehouse.specs.Needs.{batch_need, changes_need, charge_of, meta_charge}
 use Rattle.page_warehouse.specs.NextMeta.{IsNextMeta}
-use Rattle.page_warehouse.specs.Shown.{HoldsHistory, disk_in, meta_in, params_in, space_in}
+use Rattle.page_warehouse.specs.Shown.{space_in}
 use Rattle.page_warehouse.specs.declared.roots.Roots.{Roots}
-use Rattle.page_warehouse.specs.declared.state.Warehouse.{Warehouse}
 use Rattle.page_warehouse.proofs.Drafted.{charge_after, charge_before, form_here, held_of, here_then, ordered, unchanged, weakened}
 use Rattle.page_warehouse.proofs.Here.{Here, here, space_here}
 use Rattle.page_warehouse.proofs.Outcomes.{if_disk, if_done, if_kept, if_page_limit}
