@@ -76,22 +76,24 @@ struct Addition {
     value: u128,
 }
 
-// Additions in order of version: at any keys, at keys that ascend, at few keys, many in one version.
+// Additions in order of version: at any keys, at keys that ascend, at few keys, at one; many in one version, or all.
 fn some_additions(alloc: Global, kind: u32, count: u32) -> Result<Vec<Addition>, AllocError> {
     let mut additions = Vec::new(alloc);
     let mut state: u32 = kind;
     for i in 0..count {
         state = state.wrapping_mul(1664525).wrapping_add(1013904223);
-        let key = match kind % 4 {
+        let key = match kind % 5 {
             0 => u64::from(state) << 32,
             1 => u64::from(i),
             2 => u64::from(state >> 24),
-            _ => u64::from(state >> 8),
+            3 => u64::from(state >> 8),
+            _ => 77,
         };
-        let version = match kind % 3 {
+        let version = match kind % 4 {
             0 => i / 8,
             1 => i,
-            _ => 7 + i / 500,
+            2 => 7 + i / 500,
+            _ => 7,
         };
         let value = u128::from(state).wrapping_neg();
         additions.push(Addition {
@@ -139,8 +141,8 @@ fn has_plain_sums(stage: &mut MemStage, tree: &Tree, additions: &[Addition]) -> 
 
 #[test]
 fn many_additions(rt: HostRuntime) -> Result<(), Fail> {
-    for kind in 0..12u32 {
-        let additions = some_additions(rt.alloc(), kind, 1000)?;
+    for kind in 0..20u32 {
+        let additions = some_additions(rt.alloc(), kind, 30000)?;
         let mut stage = MemStage::new(rt.alloc(), 100000);
         let mut tree = Tree::default();
         for addition in additions.as_slice() {
@@ -153,7 +155,7 @@ fn many_additions(rt: HostRuntime) -> Result<(), Fail> {
                 addition.value,
             )?;
         }
-        assert_eq!(rt; tree.count, 1000);
+        assert_eq!(rt; tree.count, 30000);
         assert!(rt; has_plain_sums(&mut stage, &tree, &additions));
         mv_free(&mut stage, &tree)?;
         assert!(rt; holds_no_pages(&mut stage));
