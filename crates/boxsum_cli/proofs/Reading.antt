@@ -1,9 +1,9 @@
 -- An input whose rows commit nothing.
-use Rattle.std.proofs.Common.{◌≡◌, ℕ, ◌≤◌, Bool, true, false, List, [], ◌∷◌, ◌++◌, length, Option, Some, None, refl, sym, subst, nat_lt, nat_le, unwrap_or}
+use Rattle.std.proofs.Common.{◌≡◌, ℕ, Bool, true, false, List, [], ◌∷◌, ◌++◌, length, Option, Some, None, refl, subst, nat_lt, nat_le, unwrap_or}
 use Rattle.bw_types.specs.History.{last_version}
 use Rattle.bw_types.specs.declared.params.Params.{Params}
 use Rattle.csv_rows.specs.Input.{input}
-use Rattle.csv_rows.specs.Machine.{State, line_step, most_staged, rows_of, step}
+use Rattle.csv_rows.specs.Machine.{State, line_step, most_staged, rows_of}
 use Rattle.csv_rows.specs.declared.input.Input.{Input}
 use Rattle.csv_rows.specs.declared.input.Input.TheVariants.{Stage, Commit, Forget, Ask}
 use Rattle.row_machine.specs.Housed.{IsVersion, MayTake}

@@ -5,6 +5,8 @@
 //! the text of the status and ends.
 #![tactic(auto)]
 
+#[cfg(test)]
+mod disk_tests;
 mod index;
 mod run;
 mod status;

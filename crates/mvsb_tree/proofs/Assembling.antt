@@ -1,8 +1,7 @@
 -- An addition to a node, and to one below it, put together.
 use Rattle.std.proofs.Common.{◌≡◌, ℕ, zero, suc, ◌+◌, ◌-◌, ◌%◌, ◌^◌, ◌≤◌, ◌==◌, inl, inr, ◌⊎◌, true, false, Bool, IsTrue, nat_le, List, ◌∷◌, Option, Some, None, IsSome, refl, sym, ap, ◌∙◌, subst, arith}
 use Rattle.std.specs.List.{All}
-use Rattle.std.specs.Option.{option_map_or}
-use Rattle.std.proofs.lemmas.Bool.{and_parts, cases_Bool, leb-true, ltb-true, or_parts}
+use Rattle.std.proofs.lemmas.Bool.{and_parts, leb-true, ltb-true, or_parts}
 use Rattle.page_ports.specs.Pages.{PageMap, put_page}
 use Rattle.page_ports.specs.Frame.{names_page}
 use Rattle.page_layout.specs.MvNode.{IsMvNode, IsTyped, mv_node_page}
@@ -13,20 +12,19 @@ use Rattle.mv_pages.specs.Lows.{alive_lows, low_above, low_at, with_cut}
 use Rattle.mvsb_tree.specs.declared.replaced.Replaced.{Replaced}
 use Rattle.mvsb_tree.specs.Changed.{CutFits, IsAbove, IsFrom, LowsPut, ReplacedFits, beside_value, cut_of, part_page}
 use Rattle.mvsb_tree.specs.Grown.{EntriesHold, NodesHold, PastStays}
-use Rattle.mvsb_tree.specs.Stands.{ChainStands, NodeStands, StandsOnWay, ends_after, inner_high, inner_low}
+use Rattle.mvsb_tree.specs.Stands.{ChainStands, NodeStands, ends_after, inner_high, inner_low}
 use Rattle.mvsb_tree.specs.Steps.{chain_from, node_on, total_below}
 use Rattle.mvsb_tree.specs.Stored.{AreTwoStored, IsFirstStored, IsNext, IsStorable, IsStored, all_start_at}
 use Rattle.mvsb_tree.specs.Ways.{IsAdded, IsKeyIn, LowsCut, NodeWays, PartsStand, WaysStand, added_at, way_pages}
 use Rattle.mvsb_tree.proofs.Adding.{index_ways, leaf_ways}
-use Rattle.mvsb_tree.proofs.Chains.{same_node}
-use Rattle.mvsb_tree.proofs.Cutting.{same_interval}
+use Rattle.mvsb_tree.proofs.Descending as descending
 use Rattle.mvsb_tree.proofs.Growing.{grown_then, named_second}
-use Rattle.mvsb_tree.proofs.Intervals.{ends_down, inner_in, lows_cut, way_within}
+use Rattle.mvsb_tree.proofs.Intervals.{ends_down, lows_cut}
 use Rattle.mvsb_tree.proofs.Landing.{landed, not_new}
-use Rattle.mvsb_tree.proofs.Nodes.{node_on-spelled, some_same}
+use Rattle.mvsb_tree.proofs.Nodes.{node_on-spelled}
 use Rattle.mvsb_tree.proofs.Sound.{root_spelled}
 use Rattle.mvsb_tree.proofs.Splitting.{lies_in}
-use Rattle.mvsb_tree.proofs.Ways.{low_above_holds, low_at_holds, low_at_some, way_goes_on}
+use Rattle.mvsb_tree.proofs.Ways.{low_above_holds, low_at_holds, way_goes_on}
 
 -- A cut inside a child's interval fits the lows around it, and lies inside the node's interval.
 outer_cut : (lows : List ℕ) (key low : ℕ) (high : Option ℕ) (o : Option Cut) → low_at lows key ≡ Some low → CutFits (Some low) (or_later high (low_above lows key)) o → CutFits (low_at lows key) (low_above lows key) o
@@ -155,47 +153,19 @@ module _ (m0 m1 m2 : PageMap) (page child : ℕ) (old new : MvNode) (v key value
   lows = alive_lows old.entries.items v
 
   is : node_on m0 page ≡ old
-  is = node_on-spelled m0 page old typed rules there
+  is = descending.is m0 page child old v key low high level at_level rules typed there leads same_child key_in nodes least ways
 
   ways2 : WaysStand (suc (suc level)) m0 nodes page v low high least
-  ways2 = subst (λ (l : ℕ). WaysStand l m0 nodes page v low high least) at_level ways
+  ways2 = descending.ways2 m0 page child old v key low high level at_level rules typed there leads same_child key_in nodes least ways
 
   top : NodeStands m0 nodes (suc (suc level)) page v low high least
-  top = (ways2 key key_in).0
+  top = descending.top m0 page child old v key low high level at_level rules typed there leads same_child key_in nodes least ways
 
   old_cut : LowsCut lows low high least
-  old_cut = subst (λ (n : MvNode). LowsCut (alive_lows n.entries.items v) low high least) is (lows_cut m0 nodes (suc (suc level)) page v low high least top)
-
-  key_low : (a : ℕ) × (low_at lows key ≡ Some a)
-  key_low = low_at_some lows key low old_cut.begins key_in.from
-
-  a_is : inner_low low lows key ≡ key_low.0
-  a_is = ap (λ (o : Option ℕ). option_map_or (λ l. l) o low) key_low.1
-
-  key_inner : IsKeyIn (inner_low low lows key) (inner_high high lows key) key × (low ≤ inner_low low lows key) × ((x : ℕ) → IsTrue (ends_after (inner_high high lows key) x) → IsTrue (ends_after high x))
-  key_inner = inner_in lows low high least key old_cut key_in
-
-  next_after : (o : Option ℕ) (q : ℕ) → IsTrue (ends_after (or_later high o) q) → IsTrue (ends_after o q)
-  next_after None q b = refl
-  next_after (Some n) q b = b
-
-  -- The ways of the child's keys stand.
-  child_ways : WaysStand (suc level) m0 nodes child v (inner_low low lows key) (inner_high high lows key) 24
-  child_ways = λ q q_in.
-      let from : key_low.0 ≤ q = omega (arith, a_is, q_in.from) in
-      let before = next_after (low_above lows key) q q_in.before in
-      let in_node : IsKeyIn low high q = record { from = omega (arith, key_inner.1, q_in.from); before = key_inner.2 q q_in.before; fits = q_in.fits } in
-      let same = same_interval None lows key q key_low.0 old_cut.differ key_low.1 from before in
-      let w = ways2 q in_node in
-      let leads_q : child_of old q v ≡ Some child = same_child q (same.0 ∙ sym key_low.1) ∙ leads in
-      let child_is : w.1 ≡ child = some_same w.1 child (sym w.2 ∙ ap (λ (n : MvNode). child_of n q v) is ∙ leads_q) in
-      let w1 = subst (λ (n : MvNode). StandsOnWay (suc level) m0 nodes w.1 v q (inner_low low (alive_lows n.entries.items v) q) (inner_high high (alive_lows n.entries.items v) q) 24) is w.3 in
-      let w2 = subst (λ (c : ℕ). StandsOnWay (suc level) m0 nodes c v q (inner_low low lows q) (inner_high high lows q) 24) child_is w1 in
-      let w3 = subst (λ (l : ℕ). StandsOnWay (suc level) m0 nodes child v q l (inner_high high lows q) 24) (ap (λ (o : Option ℕ). option_map_or (λ l. l) o low) (same.0 ∙ sym key_low.1)) w2 in
-      subst (λ (e : Option ℕ). StandsOnWay (suc level) m0 nodes child v q (inner_low low lows key) e 24) (ap (λ (o : Option ℕ). or_later high o) same.1) w3
+  old_cut = descending.old_cut m0 page child old v key low high level at_level rules typed there leads same_child key_in nodes least ways
 
   done : IsAdded (suc level) test m0 m1 child v key value (inner_low low lows key) (inner_high high lows key) 24 places last last1 replaced
-  done = rec test places 24 key_test s h child_ways
+  done = rec test places 24 key_test s h (descending.child_ways m0 page child old v key low high level at_level rules typed there leads same_child key_in nodes least ways)
 
   abbrev nodes1 : List ℕ
   nodes1 = chain_from done.new_places m1 last1
@@ -203,17 +173,8 @@ module _ (m0 m1 m2 : PageMap) (page child : ℕ) (old new : MvNode) (v key value
   subset : (p : ℕ) → names_page nodes p ≡ true → names_page nodes1 p ≡ true
   subset p named = named_second done.grown.new nodes nodes1 p done.grown.chain named
 
-  -- The node's own page is on no way below it.
-  off : names_page (way_pages (suc level) m0 child key v) page ≡ false
-  off = elim (cases_Bool (names_page (way_pages (suc level) m0 child key v) page)) [
-    | inr away ↦ away
-    | inl named ↦
-        let d = way_within (suc level) m0 nodes child v key (inner_low low lows key) (inner_high high lows key) 24 (child_ways key key_inner.0) key_inner.0 page named in
-        absurd (omega (arith, d.4, top.at_level))
-  ]
-
   is1 : node_on m1 page ≡ old
-  is1 = same_node m0 m1 page (apart page off (subst IsSome (sym there) refl)) ∙ is
+  is1 = descending.still m0 page child old v key low high level at_level rules typed there leads same_child key_in nodes least ways m1 apart
 
   node_ways : NodeWays m1 nodes1 new v low high least (λ q. total_below old.level m0 page q v + added_at key value q)
   node_ways = index_ways m0 m1 nodes nodes1 page child v key value low high least level old new replaced at_level past.level is key_in ways2 leads done.parts apart subset fits values led others new_lows around

@@ -1,6 +1,6 @@
 -- The error at the exit of a `?`.
 use Rattle.std.proofs.Common.{◌≡◌, ℕ, Result, Ok, Err}
-use Rattle.std.specs.Result.{OnOk}
+use Rattle.std.specs.Result.{IfOk, OnOk}
 use Rattle.page_ports.specs.Faults.{HandsOn}
 use Rattle.page_ports.specs.declared.page.PageFault.{PageFault}
 use Rattle.page_ports.specs.declared.page.PageFault.TheVariants as page_fault
@@ -28,3 +28,7 @@ err_same_staged a b e = cc
 pub both_ok : {T E : Type 0} (P Q : Type 0) (r : Result T E) → OnOk r P → OnOk r Q → OnOk r (P × Q)
 both_ok P Q (Ok x) p q = (p, q)
 both_ok P Q (Err e) p q = tt
+
+pub both_if : {T E : Type 0} (P Q : T → Type 0) (r : Result T E) → IfOk r P → IfOk r Q → IfOk r (λ x. P x × Q x)
+both_if P Q (Ok x) p q = (p, q)
+both_if P Q (Err e) p q = tt

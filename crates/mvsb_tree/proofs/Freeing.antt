@@ -61,7 +61,7 @@ pub chain_still_stands : (d : List ℕ) (places last : ℕ) (m0 m1 : PageMap) �
 chain_still_stands d places last m0 m1 r once s =
     chain_stands places m0 m1 last (λ p named. r.others p (parts_apart d (chain_from places m0 last) once p named) refl) s
 
-chain_spelled : (n : ℕ) (pages : PageMap) (page : ℕ) → 1 ≤ n → ChainStands n pages page → SpellsNone mv_pages pages page → ⊥
+pub chain_spelled : (n : ℕ) (pages : PageMap) (page : ℕ) → 1 ≤ n → ChainStands n pages page → SpellsNone mv_pages pages page → ⊥
 chain_spelled zero pages page some s none = absurd (omega (arith, some))
 chain_spelled (suc n) pages page some s none = none (node_on pages page) (mv_node_page (node_on pages page)) s.0 (record { spelled = refl; rules = s.1; typed = s.2 })
 

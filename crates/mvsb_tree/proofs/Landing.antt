@@ -86,7 +86,7 @@ alive_tests test (e ∷ es) all =
     let ls : List ℕ = map (λ (x : MvEntry). x.low) es in
     All-cons (λ (x : MvEntry). IsTrue (test x.low)) e es (All-head P e.low ls all) (alive_tests test es (All-tail P e.low ls all))
 
-lows_test : (test : ℕ → Bool) (v : ℕ) (es : List MvEntry) → All (λ e. IsTrue (test e.low)) es → All (λ l. IsTrue (test l)) (alive_lows es v)
+pub lows_test : (test : ℕ → Bool) (v : ℕ) (es : List MvEntry) → All (λ e. IsTrue (test e.low)) es → All (λ l. IsTrue (test l)) (alive_lows es v)
 lows_test test v [] all = All-nil (λ (l : ℕ). IsTrue (test l))
 lows_test test v (e ∷ es) all =
     let rest = lows_test test v es (All-tail (λ (x : MvEntry). IsTrue (test x.low)) e es all) in
@@ -112,7 +112,7 @@ all_rest P [] ys all = all
 all_rest P (x ∷ xs) ys all = all_rest P xs ys (All-tail P x (xs ++ ys) all)
 
 -- What a new page holds.
-next_spells : (a b : PageMap) (last : ℕ) (node : MvNode) (page : ℕ) → IsNext a b last node page → All IsMvEntryTyped node.entries.items
+pub next_spells : (a b : PageMap) (last : ℕ) (node : MvNode) (page : ℕ) → IsNext a b last node page → All IsMvEntryTyped node.entries.items
     → SpellsNode b page × (node_on b page ≡ next_node a last node)
 next_spells a b last node page next typed =
     let on : node_on b page ≡ next_node a last node = node_on-spelled b page (next_node a last node) (next.typed typed) next.rules next.made in (

@@ -36,7 +36,7 @@ node_from m nodes level page v low high least named on at cut = record {
   filled = cut.filled;
 }
 
-way_from : (level : ℕ) (m : PageMap) (nodes : List ℕ) (page v key low : ℕ) (high : Option ℕ) (least : ℕ) → names_page nodes page ≡ true → SpellsNode m page → (node_on m page).level ≡ level
+pub way_from : (level : ℕ) (m : PageMap) (nodes : List ℕ) (page v key low : ℕ) (high : Option ℕ) (least : ℕ) → names_page nodes page ≡ true → SpellsNode m page → (node_on m page).level ≡ level
     → LowsCut (alive_lows (entries_on m page) v) low high least → BelowStands level m nodes (node_on m page) v key low high → StandsOnWay level m nodes page v key low high least
 way_from zero m nodes page v key low high least named on at cut below = absurd below
 way_from (suc zero) m nodes page v key low high least named on at cut below = node_from m nodes 1 page v low high least named on at cut

@@ -78,7 +78,7 @@ some_child : (o : Option ℕ) (child : ℕ) → o ≡ Some child → IsSome o
 some_child o child e = subst IsSome (sym e) refl
 
 -- What a node that stands leads to stands.
-inner_stands : (pages : PageMap) (nodes : List ℕ) (level page child : ℕ) (place inner : Place) (node : MvNode)
+pub inner_stands : (pages : PageMap) (nodes : List ℕ) (level page child : ℕ) (place inner : Place) (node : MvNode)
     → (stands : (c : ℕ) × (child_of (node_on pages page) place.key place.version ≡ Some c)
     × StandsOnWay level pages nodes c place.version place.key (inner_low place.low (alive_lows (entries_on pages page) place.version) place.key)
     (inner_high place.high (alive_lows (entries_on pages page) place.version) place.key) 24)

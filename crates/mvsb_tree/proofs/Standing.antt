@@ -17,9 +17,9 @@ use Rattle.sb_tree.specs.Laws as over_versions_laws
 use Rattle.sb_tree.specs.Steps as over_versions
 use Rattle.sb_tree.specs.Stands.{SbStands}
 use Rattle.mvsb_tree.specs.Steps.{chain_from, directory, node_on, node_pages, place_count, root_at, root_level, total_below, tree_pages}
-use Rattle.mvsb_tree.specs.Stands.{ChainStands, EntriesKeep, IsEmptyTree, MvStands, RootStands, has_begun, has_come, is_marked, is_past}
+use Rattle.mvsb_tree.specs.Stands.{ChainStands, EntriesKeep, IsBalanced, IsEmptyTree, MvStands, RootStands, has_begun, has_come, is_marked, is_past}
 use Rattle.mvsb_tree.proofs.Chains.{same_node, same_chain, chain_stands, chain_there, names_first}
-use Rattle.mvsb_tree.proofs.Frames.{agree_left, agree_right, root_stands, root_total}
+use Rattle.mvsb_tree.proofs.Frames.{agree_left, agree_right, root_stands, root_total, same_root_level}
 
 first_listed : (n : ℕ) (m : PageMap) (page : ℕ) → 1 ≤ n → names_page (chain_from n m page) page ≡ true
 first_listed zero m page some = absurd (omega (arith, some))
@@ -155,4 +155,28 @@ empty_stands law pages tree e =
       nodes = λ key v k_fits fits. inl (root v);
       entries = λ page named. absurd (true≢false (sym (ap (λ (ps : List ℕ). names_page ps page) (sym nodes) ∙ named)));
       values = λ key v k_fits fits. ap (λ (r : ℕ). total_below (root_level pages r) pages r key v % 2 ^ 128) (root v);
+    }
+
+pub balance_stays : over_versions_laws.StandsByItsPages → (pages others : PageMap) (tree : Tree) (points : List Point) → MvStands pages tree points
+    → AgreeOn (tree_pages pages tree) pages others → IsBalanced pages tree → IsBalanced others tree
+balance_stays law pages others tree points s h b =
+    let d : List ℕ = over_versions.tree_pages pages (directory tree) in
+    let c : List ℕ = node_pages pages tree in
+    let dir = law pages others (directory tree) s.changes s.roots (agree_left d c pages others h) in
+    record {
+      changes = b.changes;
+      directory = b.directory;
+      roots = λ v fits.
+          let root = ap (λ (r : ℕ). root_level others r) (same_root pages others tree s.changes v s.roots dir.0 fits) in
+          let level = same_root_level pages others c (root_at pages tree v) v 0 (agree_right d c pages others h) (s.nodes 0 v (omega arith) fits) in
+          omega (arith, root, level, b.roots v fits);
+    }
+
+pub empty_balance : (pages : PageMap) (tree : Tree) → IsEmptyTree tree → IsBalanced pages tree
+empty_balance pages tree e =
+    let root : (v : ℕ) → root_at pages tree v ≡ 0 = λ v. ap (λ (l : ℕ). over_versions.total_below l pages tree.root v % 2 ^ 128) e.1 in
+    record {
+      changes = omega (arith, e.3);
+      directory = omega (arith, e.1);
+      roots = λ v fits. (let level : root_level pages (root_at pages tree v) ≡ 0 = ap (λ (r : ℕ). root_level pages r) (root v) in omega (arith, level));
     }

@@ -1,7 +1,10 @@
+pub mod AddDamage
 pub mod Changed
 pub mod Damage
 pub mod Grown
+pub mod Index
 pub mod Laws
+pub mod Led
 pub mod Stands
 pub mod Steps
 pub mod Stored

@@ -1,7 +1,8 @@
 //! The chain of places.
-ghost use Rattle.std.specs.Prelude.{◌≡◌, ◌⊎◌, ◌≤◌, ℕ, length, Err, IsTrue, IfOk};
+ghost use Rattle.std.specs.Prelude.{◌≡◌, ◌≢◌, ◌⊎◌, ◌≤◌, ℕ, length, Err, IsTrue, IfOk};
 ghost use Rattle.page_ports.specs.Calls.{Grows};
 ghost use Rattle.mv_pages.specs.Alive.{AreEntriesOf};
+ghost use Rattle.mvsb_tree.specs.Stands.{ChainStands};
 ghost use Rattle.mvsb_tree.specs.Stored.{IsLastDamaged, IsNext};
 
 use page_access::{make_page, read_page};
@@ -20,6 +21,9 @@ pub fn make_next<S: Stage>(stage: &mut S, node: MvNode, last: &mut u64) -> Resul
     ensures made { IfOk result (λ page. IsTrue (S.tells stage.old) → IsNext (S.map stage.old) (S.map stage.new) last.old node page) }
     ensures damaged { (p : ℕ) → result ≡ Err (StageFault.Damaged p) → IsTrue (S.tells stage.old)
         → IsLastDamaged (S.map stage.old) last.old p ⊎ (¬ S.free_in_order stage.old) }
+    // A chain that stands never comes to the last place, since its pages differ.
+    ensures sound { (places p : ℕ) → IsTrue (S.tells stage.old) → ChainStands places (S.map stage.old) last.old → 1 ≤ places
+        → S.free_in_order stage.old → result ≢ Err (StageFault.Damaged p) }
     ensures grows { Grows S.Pages 1 stage.old stage.new result }
 {
     let before: MvNode = read_page(stage, *last)?;

@@ -1,5 +1,5 @@
 //! The laws of multiversion trees.
-ghost use Rattle.mvsb_tree.specs.Laws.{EmptyTreeStands, PagesAreThere, StandsByItsPages, StandsInAnyOrder};
+ghost use Rattle.mvsb_tree.specs.Laws.{BalanceByItsPages, BalancedTreeIsLow, EmptyTreeIsBalanced, EmptyTreeStands, PagesAreThere, StandsByItsPages, StandsInAnyOrder};
 
 use sb_tree::tree_laws;
 
@@ -9,6 +9,9 @@ pub fn mv_laws()
     ensures in_map { PagesAreThere }
     ensures any_order { StandsInAnyOrder }
     ensures empty { EmptyTreeStands }
+    ensures balance { BalanceByItsPages }
+    ensures empty_balance { EmptyTreeIsBalanced }
+    ensures low { BalancedTreeIsLow }
 {
     tree_laws();
 }

@@ -7,24 +7,38 @@
 //! Maintenance of Temporal Aggregates", 2001; Zhang, Markowetz, Tsotras, Gunopulos and Seeger,
 //! "Efficient Computation of Temporal Aggregates with Range Predicates", 2001.)
 //!
-//! The calls work over any `Pages` and `Stage`, on any content: what they find broken they name.
+//! The calls work over any `Pages` and `Stage`, on any content: what they find broken they name. As an
+//! index over one dimension a tree is `MvIndex`.
 #![tactic(auto)]
 
+mod add;
 mod below;
 mod chain;
 mod change;
 mod directory;
+mod first;
 mod free;
 mod laws;
+mod lead;
+mod mv_index;
 mod place;
 mod replaced;
+mod root;
 mod step;
 mod store;
 #[cfg(test)]
 mod tests;
+#[cfg(test)]
+mod tests_add;
+#[cfg(test)]
+mod tests_broken;
+#[cfg(test)]
+mod tests_index;
 mod top;
 mod value;
 
+pub use add::mv_add;
 pub use free::mv_free;
 pub use laws::mv_laws;
+pub use mv_index::MvIndex;
 pub use value::mv_value;

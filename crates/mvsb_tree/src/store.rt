@@ -1,9 +1,13 @@
 //! Storing a node in its page, or in those that take its part.
-ghost use Rattle.std.specs.Prelude.{◌≡◌, ◌⊎◌, ◌<◌, ◌≤◌, ℕ, length, Err, IsTrue, IsSome, IfOk};
+ghost use Rattle.std.specs.Prelude.{◌≡◌, ◌≢◌, ◌⊎◌, ◌<◌, ◌≤◌, true, ℕ, length, Err, IsTrue, IsSome, IfOk};
 ghost use Rattle.page_ports.specs.Calls.{Grows};
 ghost use Rattle.page_layout.specs.MvNode.{before_fits};
 ghost use Rattle.mv_pages.specs.Alive.{AreEntriesOf};
-ghost use Rattle.mvsb_tree.specs.Stored.{IsClosed, IsFirstStored, IsSplitOf, IsStorable, IsStored, SplitCut, all_start_at as spec_all_start_at};
+ghost use Rattle.page_ports.specs.Frame.{names_page};
+ghost use Rattle.mvsb_tree.specs.AddDamage.{IsEndDamaged, IsPlacedAs};
+ghost use Rattle.mvsb_tree.specs.Stands.{ChainStands};
+ghost use Rattle.mvsb_tree.specs.Steps.{chain_from, node_on};
+ghost use Rattle.mvsb_tree.specs.Stored.{IsClosed, IsFirstStored, IsLastDamaged, IsSplitOf, IsStorable, IsStored, SplitCut, all_start_at as spec_all_start_at};
 
 use crate::chain::make_next;
 use crate::replaced::Replaced;
@@ -28,6 +32,10 @@ pub fn store<S: Stage>(
     ensures split { IfOk result (λ replaced. IsSplitOf node.now version replaced) }
     ensures stored { IfOk result (λ replaced. IsTrue (S.tells stage.old)
         → IsStored (S.map stage.old) (S.map stage.new) page node.now version last.old last.new replaced) }
+    ensures damaged { (p : ℕ) → result ≡ Err (StageFault.Damaged p) → IsTrue (S.tells stage.old) → IsPlacedAs (S.map stage.old) page node.now
+        → IsEndDamaged 1 (S.map stage.old) last.old p ⊎ (¬ S.free_in_order stage.old) }
+    ensures sound { (places p : ℕ) → IsTrue (S.tells stage.old) → ChainStands places (S.map stage.old) last.old → names_page (chain_from places (S.map stage.old) last.old) page ≡ true
+        → node.now.place ≡ (node_on (S.map stage.old) page).place → node.now.before ≡ (node_on (S.map stage.old) page).before → S.free_in_order stage.old → result ≢ Err (StageFault.Damaged p) }
     ensures grows { Grows S.Pages 2 stage.old stage.new result }
 {
     if node.entries.len() <= 96 {
@@ -54,6 +62,10 @@ fn close<S: Stage>(
     ensures split { IfOk result (λ replaced. SplitCut node.now version replaced.second) }
     ensures closed { IfOk result (λ replaced. IsTrue (S.tells stage.old)
         → IsClosed (S.map stage.old) (S.map stage.new) page node.now version last.old last.new replaced) }
+    ensures damaged { (p : ℕ) → result ≡ Err (StageFault.Damaged p) → IsTrue (S.tells stage.old) → IsPlacedAs (S.map stage.old) page node.now
+        → IsEndDamaged 1 (S.map stage.old) last.old p ⊎ (¬ S.free_in_order stage.old) }
+    ensures sound { (places p : ℕ) → IsTrue (S.tells stage.old) → ChainStands places (S.map stage.old) last.old → names_page (chain_from places (S.map stage.old) last.old) page ≡ true
+        → node.now.place ≡ (node_on (S.map stage.old) page).place → node.now.before ≡ (node_on (S.map stage.old) page).before → S.free_in_order stage.old → result ≢ Err (StageFault.Damaged p) }
     ensures grows { Grows S.Pages 2 stage.old stage.new result }
 {
     match close_and_copy(node, version) {
@@ -93,6 +105,9 @@ fn store_first<S: Stage>(
     ensures number { IfOk result (λ number. 3 ≤ number) }
     ensures stored { IfOk result (λ number. IsTrue (S.tells stage.old)
         → IsFirstStored starts (S.map stage.old) (S.map stage.new) page last.old last.new first number) }
+    ensures damaged { (p : ℕ) → result ≡ Err (StageFault.Damaged p) → IsTrue (S.tells stage.old)
+        → IsLastDamaged (S.map stage.old) last.old p ⊎ (¬ S.free_in_order stage.old) }
+    ensures sound { (places p : ℕ) → IsTrue (S.tells stage.old) → ChainStands places (S.map stage.old) last.old → 1 ≤ places → S.free_in_order stage.old → result ≢ Err (StageFault.Damaged p) }
     ensures grows { Grows S.Pages 1 stage.old stage.new result }
 {
     if starts {

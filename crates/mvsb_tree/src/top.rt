@@ -1,10 +1,12 @@
 //! The root above what an addition leaves of the one before.
-ghost use Rattle.std.specs.Prelude.{◌≡◌, ◌+◌, ◌<◌, ◌≤◌, ℕ, length, IsTrue, IfOk, Some, None};
+ghost use Rattle.std.specs.Prelude.{◌≡◌, ◌≢◌, ◌⊎◌, ◌+◌, ◌<◌, ◌≤◌, ◌^◌, ℕ, length, Err, IsTrue, IfOk, Some, None};
 ghost use Rattle.page_ports.specs.Calls.{Grows};
 ghost use Rattle.mv_pages.specs.Alive.{AreEntriesOf};
 ghost use Rattle.mv_pages.specs.Edits.{new_entry};
 ghost use Rattle.mvsb_tree.specs.Changed.{ReplacedFits};
-ghost use Rattle.mvsb_tree.specs.Tops.{IsTop, root_node};
+ghost use Rattle.mvsb_tree.specs.Stands.{ChainStands};
+ghost use Rattle.mvsb_tree.specs.Stored.{IsLastDamaged};
+ghost use Rattle.mvsb_tree.specs.Tops.{IsReplacedTyped, IsTop, root_node};
 
 use crate::chain::make_next;
 use crate::replaced::Replaced;
@@ -32,6 +34,11 @@ pub fn top_of<S: Stage>(
     requires fits { ReplacedFits (Some 0) None replaced }
     ensures number { IfOk result (λ top. 3 ≤ top) }
     ensures top { IfOk result (λ top. IsTrue (S.tells stage.old) → IsTop (S.map stage.old) (S.map stage.new) root level version replaced last.old last.new top) }
+    ensures typed { IfOk result (λ top. IsReplacedTyped replaced) }
+    ensures damaged { (p : ℕ) → result ≡ Err (StageFault.Damaged p) → IsTrue (S.tells stage.old)
+        → ((p ≡ directory) × (16 ≤ level)) ⊎ IsLastDamaged (S.map stage.old) last.old p ⊎ (¬ S.free_in_order stage.old) }
+    ensures sound { (places p : ℕ) → IsTrue (S.tells stage.old) → ChainStands places (S.map stage.old) last.old → 1 ≤ places → level ≤ 15 → S.free_in_order stage.old
+        → result ≢ Err (StageFault.Damaged p) }
     ensures grows { Grows S.Pages 1 stage.old stage.new result }
 {
     let Some(replaced) = replaced else {
@@ -53,6 +60,7 @@ fn new_root(level: u8, version: u32, first: u64, cut: u64, second: u64) -> MvNod
     requires version { version < 4294967295 }
     requires pages { (3 ≤ first) × (3 ≤ second) }
     requires cut { 0 < cut }
+    ensures typed { (first < 2 ^ 64) × (cut < 2 ^ 64) × (second < 2 ^ 64) }
     ensures node { result ≡ root_node level version first cut second }
     ensures entries { AreEntriesOf level result.entries.items }
 {

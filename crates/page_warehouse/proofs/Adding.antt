@@ -1,5 +1,5 @@
 -- An add that comes next.
-use Rattle.std.proofs.Common.{◌≡◌, ℕ, ◌+◌, ◌<◌, ◌≤◌, ◌^◌, List, [], ◌∷◌, ◌++◌, length, false, IsPermutation, Option, refl, sym, ◌∙◌, ap, subst, arith}
+use Rattle.std.proofs.Common.{◌≡◌, ℕ, ◌+◌, ◌<◌, ◌^◌, List, [], ◌∷◌, ◌++◌, length, false, IsPermutation, Option, sym, ◌∙◌, ap}
 use Rattle.std.specs.Option.{option_map_or}
 use Rattle.std.proofs.lemmas.List.{append-nil}
 use Rattle.bw_types.specs.Fits.{IsInRange}
@@ -23,7 +23,7 @@ use Rattle.dom_index.specs.declared.index.DomIndex.{Ghosts}
 use Rattle.corner_forest.specs.Enters.{ForestEnters, entry_of}
 use Rattle.corner_forest.specs.Entries.{IsNextEntry}
 use Rattle.corner_forest.specs.Stands.{forest_pages}
-use Rattle.history_entries.specs.Entries.{begun_entry, history_entries}
+use Rattle.history_entries.specs.Entries.{history_entries}
 use Rattle.history_entries.specs.Growing.{EntriesAreChanges}
 use Rattle.change_laws.specs.Begun.{begun_life, next_event, next_version, with_changes}
 use Rattle.change_laws.specs.Ids.{LivesEndWithTheGreatest}

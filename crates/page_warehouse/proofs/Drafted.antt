@@ -1,11 +1,11 @@
 -- What a disk holds when the changes of a batch are committed.
-use Rattle.std.proofs.Common.{◌≡◌, ◌⊎◌, ℕ, ◌+◌, ◌*◌, ◌<◌, ◌≤◌, ◌==◌, Bool, true, false, IsTrue, List, [], ◌∷◌, ◌++◌, length, IsPermutation, if◌then◌else◌, inl, inr, refl, sym, ◌∙◌, ap, subst, arith, length-append}
+use Rattle.std.proofs.Common.{◌≡◌, ℕ, ◌+◌, ◌*◌, ◌≤◌, ◌==◌, Bool, true, false, List, [], ◌∷◌, ◌++◌, length, IsPermutation, if◌then◌else◌, inl, inr, refl, sym, ◌∙◌, ap, subst, arith, length-append}
 use Rattle.std.specs.List.{All}
 use Rattle.std.proofs.lemmas.Grind.{flat_map-append}
 use Rattle.std.proofs.lemmas.List.{append-nil}
 use Rattle.std.proofs.lemmas.List.Elements.{All-append}
 use Rattle.std.proofs.lemmas.List.Sums.{sum_by-append}
-use Rattle.bw_types.specs.History.{History, changes, event_count, last_version}
+use Rattle.bw_types.specs.History.{History, changes, last_version}
 use Rattle.bw_types.specs.Lawful.{IsLawful}
 use Rattle.bw_types.specs.Lives.{lives}
 use Rattle.bw_types.specs.Refusals.{added_mass, total_mass}
@@ -33,7 +33,7 @@ use Rattle.history_entries.specs.Entries.{history_entries}
 use Rattle.history_laws.specs.Bounds.{HasSmallWeight}
 use Rattle.change_laws.specs.Begun.{with_changes}
 use Rattle.page_warehouse.specs.Entering.{FormKeeps, PagesKeep}
-use Rattle.page_warehouse.specs.Holds.{Holds, TableKeeps, TellsOf, TreesStand, table_form}
+use Rattle.page_warehouse.specs.Holds.{Holds, TellsOf, table_form}
 use Rattle.page_warehouse.specs.Needs.{charge_of, meta_charge, old_objects}
 use Rattle.page_warehouse.specs.NextMeta.{IsNextMeta}
 use Rattle.page_warehouse.specs.declared.drafting.Counts.{Counts}

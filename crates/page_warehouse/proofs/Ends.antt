@@ -7,7 +7,6 @@ use Rattle.std.proofs.lemmas.List.{get_or-drop, length-drop}
 use Rattle.std.proofs.lemmas.List.Folds.{list_all_at}
 use Rattle.bw_types.specs.Fits.{coefficient_count, ends_fit, greatest_number, object_fits}
 use Rattle.bw_types.specs.Tally.{each_below}
-use Rattle.bw_types.specs.declared.dated.Dated.{Dated}
 use Rattle.bw_types.specs.declared.object.Object.{Object}
 use Rattle.bw_types.specs.declared.params.Params.{Params}
 use Rattle.page_layout.specs.Dated.{by_life_fits, end_fits}

@@ -1,10 +1,8 @@
 -- What a disk holds, by the numbers and the pages of the space that is open on it.
-use Rattle.std.proofs.Common.{◌≡◌, ℕ, ◌+◌, ◌<◌, ◌^◌, IsTrue, List, ◌++◌, length, sym, ◌∙◌, ap, subst}
+use Rattle.std.proofs.Common.{◌≡◌, ℕ, List, ◌++◌, sym, ◌∙◌, ap, subst}
 use Rattle.std.specs.List.{All}
-use Rattle.bw_types.specs.History.{History, changes, event_count}
+use Rattle.bw_types.specs.History.{History, changes}
 use Rattle.bw_types.specs.Lawful.{IsLawful}
-use Rattle.bw_types.specs.Lives.{lives}
-use Rattle.bw_types.specs.Refusals.{total_mass}
 use Rattle.bw_types.specs.declared.dated.Dated.{Dated}
 use Rattle.bw_types.specs.declared.params.Params.{Params}
 use Rattle.bw_types.specs.declared.tree.Tree.{Tree}
@@ -22,7 +20,6 @@ use Rattle.corner_forest.specs.Stands.{forest_pages}
 use Rattle.history_laws.specs.Bounds.{HasSmallWeight}
 use Rattle.change_laws.specs.Ids.{TableTellsIds, life_told}
 use Rattle.session_book.specs.Told.{IsToldOf}
-use Rattle.session_book.specs.declared.seen.Life.{Life}
 use Rattle.page_warehouse.specs.Holds.{Holds, TableKeeps, TellsOf, TreesStand, table_form}
 use Rattle.page_warehouse.proofs.Opened.{unordered}
 

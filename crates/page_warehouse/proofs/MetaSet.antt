@@ -1,7 +1,5 @@
 -- The setting of a meta page, as a call on a stage.
-use Rattle.std.proofs.Common.{◌≡◌, ℕ, ◌≤◌, List, sym, ◌∙◌, ap, arith}
-use Rattle.page_disk.specs.declared.disk.Disk.{Ghosts as DiskGhosts}
-use Rattle.page_layout.specs.declared.meta.Meta.{Meta}
+use Rattle.std.proofs.Common.{◌≡◌, ℕ, List, sym, ◌∙◌, ap, arith}
 use Rattle.page_ports.specs.Calls.{WentOn}
 use Rattle.page_ports.specs.Frame.{names_page}
 use Rattle.page_ports.specs.Pages.{PageMap}

@@ -1,5 +1,5 @@
 -- The next change of a batch, over a table and trees that keep the history so far.
-use Rattle.std.proofs.Common.{◌≡◌, ℕ, ◌+◌, ◌<◌, ◌≤◌, ◌^◌, List, [], ◌∷◌, ◌++◌, length, IsPermutation, Option, Some, None, refl, sym, ◌∙◌, ap, subst, arith, length-append}
+use Rattle.std.proofs.Common.{◌≡◌, ℕ, ◌+◌, ◌<◌, ◌^◌, List, [], ◌∷◌, ◌++◌, length, IsPermutation, Option, sym, ◌∙◌, ap, subst, arith, length-append}
 use Rattle.std.specs.Option.{option_map_or}
 use Rattle.std.proofs.lemmas.Grind.{flat_map-append}
 use Rattle.std.proofs.lemmas.List.{append-nil}
@@ -22,7 +22,6 @@ use Rattle.corner_forest.specs.Entries.{IsNextEntry}
 use Rattle.poly_moments.specs.PlaneSums.{Entered}
 use Rattle.change_laws.specs.Begun.{begun_life, next_event, next_version, with_changes}
 use Rattle.change_laws.specs.Ids.{LivesEndWithTheGreatest}
-use Rattle.change_laws.specs.Next.{AddGoesOn}
 
 -- how many changes there are with the batch so far
 pub changes_so_far : (h : History) (done : List Change) → length (changes (with_changes h done)) ≡ length (changes h) + length done

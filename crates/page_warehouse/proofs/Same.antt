@@ -1,10 +1,10 @@
 -- A warehouse whose disk is as it was, and what a crash may leave after a batch.
-use Rattle.std.proofs.Common.{◌≡◌, ◌⊎◌, ℕ, ◌+◌, ◌<◌, ◌≤◌, Bool, IsTrue, List, [], ◌∷◌, length, Option, Some, None, inl, inr, sym, ◌∙◌, ap, subst, arith}
+use Rattle.std.proofs.Common.{◌≡◌, ◌⊎◌, ℕ, Bool, List, [], ◌∷◌, inl, inr, sym, ap, subst, arith}
 use Rattle.bw_types.specs.History.{History}
 use Rattle.bw_types.specs.declared.params.Params.{Params}
 use Rattle.page_disk.specs.Image.{Image}
 use Rattle.page_disk.specs.Moment.{Moment, MayBeLeftNow, MayBeLeftSince, clock_of}
-use Rattle.page_disk.specs.Since.{LeavesNow, LeavesOnly, SinceNowIsNow}
+use Rattle.page_disk.specs.Since.{LeavesOnly, SinceNowIsNow}
 use Rattle.page_disk.specs.declared.disk.Disk.{Ghosts as DiskGhosts}
 use Rattle.page_space.specs.Begun.{Begun}
 use Rattle.page_space.specs.Shown.{begun_of, disk_of, params_of}
@@ -36,7 +36,7 @@ only_leaves P Q old new f h = record {
 }
 
 left_since : (moments : List Moment) (t : ℕ) (x : Image) → MayBeLeftNow moments x → MayBeLeftSince moments t x
-left_since [] t x no = no
+left_since [] t x never = absurd never
 left_since (m ∷ earlier) t x now = inl now
 
 -- what may be left now was possible before, or has P

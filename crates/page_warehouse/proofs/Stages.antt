@@ -1,7 +1,7 @@
 -- Calls on a stage, one after another.
 use Rattle.std.proofs.Common.{◌≡◌, ℕ, ◌+◌, ◌≤◌, IsTrue, Result, Ok, Err, OnErr, OnOk, sym, ◌∙◌, ap, subst, arith}
 use Rattle.counts.specs.Count.{Rose}
-use Rattle.page_ports.specs.Calls.{Changes, Grows, IsForgotten, WasRead, WentOn}
+use Rattle.page_ports.specs.Calls.{Changes, Grows, WasRead, WentOn}
 use Rattle.page_ports.specs.Frame.{names_page}
 use Rattle.page_ports.specs.declared.page.StageFault.{StageFault}
 use Rattle.page_ports.specs.declared.page.StageFault.TheVariants.{Damaged, Disk, NoMemory, PageLimit}

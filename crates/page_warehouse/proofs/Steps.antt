@@ -1,27 +1,34 @@
 -- Calls that keep a history, one after another.
-use Rattle.std.proofs.Common.{◌≡◌, ℕ, ◌+◌, ◌*◌, ◌≤◌, IsTrue, Result, Ok, Err, OnOk, List, [], ◌∷◌, ◌++◌, length, sym, ◌∙◌, ap, subst, arith, append_assoc, length-append}
-use Rattle.bw_types.specs.History.{History, changes, flat, flat_row}
+use Rattle.std.proofs.Common.{◌≡◌, ℕ, ◌+◌, ◌≤◌, IsTrue, Result, Ok, Err, OnOk, List, [], ◌∷◌, ◌++◌, sym, ap, subst, arith, append_assoc, length-append}
+use Rattle.bw_types.specs.History.{History}
 use Rattle.bw_types.specs.Lawful.{IsLawfulBatch}
 use Rattle.bw_types.specs.declared.change.Change.{Change}
 use Rattle.bw_types.specs.declared.params.Params.{Params}
 use Rattle.page_ports.specs.Calls.{Changes, WentOn}
 use Rattle.page_ports.specs.Pages.{PageMap}
 use Rattle.page_ports.specs.declared.page.StageFault.{StageFault}
-use Rattle.page_ports.specs.declared.page.StageFault.TheVariants.{Damaged, Disk, PageLimit}
+use Rattle.page_ports.specs.declared.page.StageFault.TheVariants.{Damaged}
 use Rattle.page_ports.specs.declared.pages.Pages.{Ghosts as PageGhosts}
 use Rattle.dom_index.specs.declared.index.DomIndex.{Ghosts}
 use Rattle.change_laws.specs.Begun.{next_event, with_changes}
 use Rattle.page_warehouse.specs.Entering.{KeepsOn, PagesKeep}
 use Rattle.page_warehouse.specs.declared.roots.Roots.{Roots}
 use Rattle.page_warehouse.proofs.Exits.{exit_error}
-use Rattle.page_warehouse.proofs.Stages.{changes_then, refused, went_then}
+use Rattle.page_warehouse.proofs.Stages.{changes_then, refused}
 
 module _ {P : Type 0} (s : PageGhosts P) where
   pub widened : {T : Type 0} (a c : ℕ) (old new : P) (r : Result T StageFault) → a ≤ c → Changes s a old new r → Changes s c old new r
   widened a c old new r le h = record {
     went_on = let w = h.went_on in record {
-      tells = w.tells; base = w.base; limit = w.limit; free_in_order = w.free_in_order; none_forgotten = w.none_forgotten; allotted = w.allotted;
-      at_most = let m = w.at_most in omega (arith, m, le); gets = w.gets; faults = w.faults;
+      tells = w.tells;
+      base = w.base;
+      limit = w.limit;
+      free_in_order = w.free_in_order;
+      none_forgotten = w.none_forgotten;
+      allotted = w.allotted;
+      at_most = let m = w.at_most in omega (arith, m, le);
+      gets = w.gets;
+      faults = w.faults;
     };
     disk = h.disk;
     page_limit = λ n e. let l = h.page_limit n e in let third = l.2 in (l.0, l.1, omega (arith, third, le));

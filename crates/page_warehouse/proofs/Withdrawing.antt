@@ -1,8 +1,8 @@
 -- A withdrawal that comes next.
-use Rattle.std.proofs.Common.{◌≡◌, ℕ, ◌+◌, ◌<◌, ◌≤◌, ◌^◌, IsTrue, List, [], ◌∷◌, ◌++◌, length, true, IsPermutation, Option, Some, refl, sym, ◌∙◌, ap, subst, arith}
+use Rattle.std.proofs.Common.{◌≡◌, ℕ, List, [], ◌∷◌, ◌++◌, true, IsPermutation, Some, sym, ◌∙◌, subst, arith}
 use Rattle.std.proofs.lemmas.List.Sorted.{IsPermutation-sym}
-use Rattle.bw_types.specs.Fits.{IsInRange, object_fits}
-use Rattle.bw_types.specs.History.{History, changes}
+use Rattle.bw_types.specs.Fits.{IsInRange}
+use Rattle.bw_types.specs.History.{History}
 use Rattle.bw_types.specs.Lawful.{IsLawful, IsLawfulBatch}
 use Rattle.bw_types.specs.Lives.{lives}
 use Rattle.bw_types.specs.declared.change.Change.{Change}

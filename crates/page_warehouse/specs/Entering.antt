@@ -5,8 +5,6 @@ use Rattle.bw_types.specs.Fits.{IsInRange}
 use Rattle.bw_types.specs.History.{History}
 use Rattle.bw_types.specs.Lives.{lives}
 use Rattle.bw_types.specs.declared.dated.Dated.{Dated}
-use Rattle.bw_types.specs.declared.params.Params.{Params}
-use Rattle.bw_types.specs.declared.tree.Tree.{Tree}
 use Rattle.page_ports.specs.Calls.{Changes}
 use Rattle.page_ports.specs.Pages.{PageMap}
 use Rattle.page_ports.specs.declared.page.StageFault.{StageFault}

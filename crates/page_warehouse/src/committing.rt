@@ -129,7 +129,11 @@ impl<D: Disk, X: DomIndex> Warehouse<D, X> {
     }
 
     // What becomes of the warehouse where the stage is abandoned for this fault.
-    fn given_back(alloc: Global, space: Space<D>, fault: StageFault) -> Committed<Warehouse<D, X>, D>
+    fn given_back(
+        alloc: Global,
+        space: Space<D>,
+        fault: StageFault,
+    ) -> Committed<Warehouse<D, X>, D>
         requires dims { (params_of space).dims ≤ X.DIMS }
         requires roots { length (meta_of space).roots.items ≡ root_count (params_of space) }
         requires rows { (meta_of space).version + (meta_of space).rows ≡ (meta_of space).events }
@@ -207,7 +211,11 @@ impl<D: Disk, X: DomIndex> Warehouse<D, X> {
             forest,
             index: _,
         } = self;
-        let (by_ids, before, table) = (is_by_ids(space.meta()), counts(space.meta()), space.meta().table);
+        let (by_ids, before, table) = (
+            is_by_ids(space.meta()),
+            counts(space.meta()),
+            space.meta().table,
+        );
         let mut roots = Roots { table, forest };
         let mut stage = space.begin();
         if let Err(fault) = draft::<D, X>(&mut stage, &mut roots, by_ids, before, rows) {

@@ -71,12 +71,16 @@ impl<D: Disk + Drop, X: DomIndex + Drop> House for Warehouse<D, X> {
         self.is_charged();
         let Judged { house, found } = self.judge(rows);
         match found {
-            Ok(None) => house.put(rows),
-            Ok(Some(refusal)) => Committed::Refused { house, refusal },
-            Err(BookFault::NoMemory) => Committed::NoMemory { house },
-            Err(BookFault::Damaged(page)) => Committed::Damaged { house, page },
-            Err(BookFault::Disk) => Committed::Disk {
-                device: house.into_disk(),
+            Ok(refusal) => match refusal {
+                None => house.put(rows),
+                Some(refusal) => Committed::Refused { house, refusal },
+            },
+            Err(fault) => match fault {
+                BookFault::NoMemory => Committed::NoMemory { house },
+                BookFault::Damaged(page) => Committed::Damaged { house, page },
+                BookFault::Disk => Committed::Disk {
+                    device: house.into_disk(),
+                },
             },
         }
     }

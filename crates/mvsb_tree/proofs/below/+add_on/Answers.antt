@@ -1,12 +1,28 @@
-use Rattle.std.proofs.Common.{◌≡◌, ◌-◌, ℕ, suc, IsTrue, Option, nat_le, refl, ◌∙◌, subst, arith, rules}
-use Rattle.std.proofs.lemmas.Bool.{and_from, le-leb}
-use Rattle.std.proofs.lemmas.Result.{IfOk-weaker}
+use Rattle.std.proofs.Common.{◌≡◌, ◌+◌, ◌-◌, ◌≤◌, inl, inr, ℕ, suc, IsSome, IsTrue, Option, List, Err, nat_le, refl, sym, ap, ◌∙◌, subst, arith, rules}
+use Rattle.std.proofs.lemmas.Bool.{and_from, iff_false, le-leb}
+use Rattle.std.proofs.lemmas.Result.{IfOk-weaker, err_from_is_err_and}
 use Rattle.page_ports.specs.Pages.{PageMap}
+use Rattle.page_ports.specs.declared.page.StageFault.TheVariants.{Damaged}
+use Rattle.page_layout.specs.Damage.{HoldsNoNode}
+use Rattle.page_layout.specs.declared.mv_node.MvNode.{MvNode}
 use Rattle.mv_pages.specs.Lows.{alive_lows}
 use Rattle.mvsb_tree.specs.Changed.{cut_of}
 use Rattle.sb_tree.specs.Stored.{OthersStay}
-use Rattle.mvsb_tree.specs.Stands.{ends_after, inner_low}
-use Rattle.mvsb_tree.specs.Ways.{way_pages}
+use Rattle.mvsb_tree.specs.Stands.{NodeStands, ends_after, inner_low}
+use Rattle.page_layout.specs.MvNode.{mv_node_page}
+use Rattle.mv_pages.specs.Alive.{IsChangeable}
+use Rattle.mvsb_tree.specs.AddDamage.{IsDamagedPastForAdd, IsEndDamaged, KeepsPlaces}
+use Rattle.mvsb_tree.specs.Damage.{FitsPlace}
+use Rattle.mvsb_tree.specs.Steps.{chain_from, node_on}
+use Rattle.mvsb_tree.specs.Ways.{IsKeyIn, way_pages}
+use Rattle.mvsb_tree.proofs.Descending as descending
+use Rattle.mvsb_tree.proofs.AddPast.{add_past_further, add_past_here, placed_as, placed_later}
+use Rattle.mvsb_tree.proofs.Ending.{end_before, end_more, keeps_more, keeps_then, stored_keeps}
+use Rattle.mvsb_tree.proofs.Exits.{err_same_staged, exit_error, read_damaged}
+use Rattle.mvsb_tree.proofs.Growing.{named_second}
+use Rattle.mvsb_tree.proofs.Nodes.{node_on-spelled, same_spelled}
+use Rattle.mvsb_tree.proofs.Sound.{root_spelled}
+use Rattle.mvsb_tree.proofs.Sounding.{Fails, changeable_where_stands, child_fits, child_undamaged}
 use Rattle.mvsb_tree.proofs.Assembling.{AddsBelow, both_apart, cut_inside_too, first_apart, index_added, leaf_added, leaf_here, of_cut, outer_fits, stored_apart}
 use Rattle.mvsb_tree.proofs.Splitting.{lies_in, lows_within, split_fits}
 use Rattle.mvsb_tree.proofs.below.+add_on.Goals as goal
@@ -123,3 +139,235 @@ returns-clause-grows g t c =
       disk = search rules;
       page_limit = λ n e. let d = put.page_limit n e in (d.0 ∙ rec.went_on.limit ∙ read.limit, d.1, omega (arith, d.2, rec.went_on.at_most, read.allotted, level, two));
     }
+
+pub returns-in_default-clause-sound : goal.returns-in_default-clause-sound
+returns-in_default-clause-sound g t c = λ test places least p tells key_test s h ways ordered. (
+    let m0 : PageMap = g.S.Pages.map c.args.stage.now in
+    let place = c.args.place in
+    let node = c.args.node in
+    let nodes : List ℕ = chain_from places m0 c.args.last.now in
+    let key_in : IsKeyIn place.low place.high place.key = record { from = c.requires.key.0; before = c.requires.key.1; fits = c.requires.key_fits } in
+    let top = root_spelled node.level m0 nodes c.args.page place.version place.key place.low place.high least (ways place.key key_in) in
+    let is : node_on m0 c.args.page ≡ node = node_on-spelled m0 c.args.page node c.requires.typed c.requires.rules (c.requires.there tells) in
+    c.store.ensures.sound places p tells s top.listed (c.add_to_leaf.ensures.past.place ∙ sym (ap (λ (n : MvNode). n.place) is)) (c.add_to_leaf.ensures.past.before ∙ sym (ap (λ (n : MvNode). n.before) is)) ordered)
+
+pub returns-in_err-child-clause-sound : goal.returns-in_err-child-clause-sound
+returns-in_err-child-clause-sound g t c = λ test places least p tells key_test s h ways ordered e. (
+    let m0 : PageMap = g.S.Pages.map c.args.stage.now in
+    let place = c.args.place in
+    let step = c.in-Some.step in
+    let node = c.args.node in
+    let v = place.version in
+    let key = place.key in
+    let nodes : List ℕ = chain_from places m0 c.args.last.now in
+    let level : ℕ = node.level - 2 in
+    let at_level : node.level ≡ suc (suc level) = omega (arith, c.in-Some.ensures.level) in
+    let there = c.requires.there tells in
+    let key_in : IsKeyIn place.low place.high key = record { from = c.requires.key.0; before = c.requires.key.1; fits = c.requires.key_fits } in
+    let way = child_fits level m0 nodes c.args.page step.child place step.place node least at_level there c.requires.typed c.requires.rules c.in-Some.ensures.leads (ways key key_in) in
+    let told = err_from_is_err_and c.from_residual.result c.from_residual.ensures.1 in
+    let same = read_damaged c.from_residual.result c.in_err-child.field-0.0 p told e in
+    let why = c.in_err-child.ensures.damaged p (ap Err same) in
+    let less : node.level - 1 ≡ suc level = omega (arith, at_level) in
+    child_undamaged level m0 nodes step.child step.place way (subst (λ (l : ℕ). HoldsNoNode FitsPlace m0 l step.place step.child) less (why.1 tells)))
+
+pub returns-then-not-is_changeable-clause-sound : goal.returns-then-not-is_changeable-clause-sound
+returns-then-not-is_changeable-clause-sound g t c = λ test places least p tells key_test s h ways ordered e. (
+    let m0 : PageMap = g.S.Pages.map c.args.stage.now in
+    let place = c.args.place in
+    let step = c.in-Some.step in
+    let node = c.args.node in
+    let v = place.version in
+    let key = place.key in
+    let nodes : List ℕ = chain_from places m0 c.args.last.now in
+    let level : ℕ = node.level - 2 in
+    let at_level : node.level ≡ suc (suc level) = omega (arith, c.in-Some.ensures.level) in
+    let there = c.requires.there tells in
+    let key_in : IsKeyIn place.low place.high key = record { from = c.requires.key.0; before = c.requires.key.1; fits = c.requires.key_fits } in
+    let way = child_fits level m0 nodes c.args.page step.child place step.place node least at_level there c.requires.typed c.requires.rules c.in-Some.ensures.leads (ways key key_in) in
+    let child = c.in_ok-child.child in
+    let spelled = c.in_ok-child.ensures.node.fits in
+    let ns = root_spelled (suc level) m0 nodes step.child step.place.version step.place.key step.place.low step.place.high 24 way in
+    let at_version = subst (λ (w : ℕ). NodeStands m0 nodes (suc level) step.child w step.place.low step.place.high 24) c.in-Some.ensures.leads.version ns in
+    let can = changeable_where_stands m0 nodes (suc level) step.child v step.place.low step.place.high 24 child c.requires.changeable.last (h step.child ns.listed).past at_version (c.in_ok-child.ensures.found tells) spelled.typed spelled.rules in
+    iff_false c.is_changeable.ensures c.if-not-is_changeable.true can)
+
+pub returns-in_err-replaced-clause-sound : goal.returns-in_err-replaced-clause-sound
+returns-in_err-replaced-clause-sound g t c = λ test places least p tells key_test s h ways ordered e. (
+    let m0 : PageMap = g.S.Pages.map c.args.stage.now in
+    let place = c.args.place in
+    let step = c.in-Some.step in
+    let node = c.args.node in
+    let v = place.version in
+    let key = place.key in
+    let nodes : List ℕ = chain_from places m0 c.args.last.now in
+    let level : ℕ = node.level - 2 in
+    let at_level : node.level ≡ suc (suc level) = omega (arith, c.in-Some.ensures.level) in
+    let there = c.requires.there tells in
+    let key_in : IsKeyIn place.low place.high key = record { from = c.requires.key.0; before = c.requires.key.1; fits = c.requires.key_fits } in
+    let child = c.in_ok-child.child in
+    let last = c.args.last.now in
+    let lows = alive_lows node.entries.items v in
+    let told = err_from_is_err_and c.from_residual-in_err-replaced.result c.from_residual-in_err-replaced.ensures.1 in
+    let same = exit_error c.from_residual-in_err-replaced.result c.in_err-replaced.field-0.0 (Damaged p) told e in
+    let child_level : child.level ≡ suc level = c.in_ok-child.ensures.node.fits.at_level ∙ (let e : node.level - 1 ≡ suc level = omega (arith, c.in-Some.ensures.level) in e) in
+    let read = c.read_in_place.ensures.reads.read in
+    let r0 : Fails child.level (g.S.Pages.map c.read_in_place.new.pages) step.child step.place.version step.place.key step.place.low step.place.high last =
+    λ test1 places1 least1 kt s1 h1 w1. c.in_err-replaced.ensures.sound test1 places1 least1 p (read.tells ∙ tells) kt s1 h1 w1 (read.free_in_order ordered) (ap Err same) in
+    let r1 = subst (λ (m : PageMap). Fails child.level m step.child step.place.version step.place.key step.place.low step.place.high last) read.map r0 in
+    let r2 = subst (λ (l : ℕ). Fails l m0 step.child step.place.version step.place.key step.place.low step.place.high last) child_level r1 in
+    let r3 = subst (λ (w : ℕ). Fails (suc level) m0 step.child w step.place.key step.place.low step.place.high last) c.in-Some.ensures.leads.version r2 in
+    let r4 = subst (λ (k : ℕ). Fails (suc level) m0 step.child v k step.place.low step.place.high last) c.in-Some.ensures.leads.key r3 in
+    let r5 = subst (λ (l : ℕ). Fails (suc level) m0 step.child v key l step.place.high last) c.in-Some.ensures.leads.low r4 in
+    let r6 = subst (λ (o : Option ℕ). Fails (suc level) m0 step.child v key (inner_low place.low lows key) o last) c.in-Some.ensures.leads.high r5 in
+    r6 test places 24 key_test s h (descending.child_ways m0 c.args.page step.child node v key place.low place.high level at_level c.requires.rules c.requires.typed there c.in-Some.ensures.leads.child_is c.step_from.ensures.same key_in nodes least ways))
+
+pub returns-clause-sound : goal.returns-clause-sound
+returns-clause-sound g t c = λ test places least p tells key_test s h ways ordered. (
+    let m0 : PageMap = g.S.Pages.map c.args.stage.now in
+    let place = c.args.place in
+    let step = c.in-Some.step in
+    let node = c.args.node in
+    let v = place.version in
+    let key = place.key in
+    let nodes : List ℕ = chain_from places m0 c.args.last.now in
+    let level : ℕ = node.level - 2 in
+    let at_level : node.level ≡ suc (suc level) = omega (arith, c.in-Some.ensures.level) in
+    let there = c.requires.there tells in
+    let key_in : IsKeyIn place.low place.high key = record { from = c.requires.key.0; before = c.requires.key.1; fits = c.requires.key_fits } in
+    let m1 : PageMap = g.S.Pages.map c.add_on.new.stage in
+    let child = c.in_ok-child.child in
+    let value = c.args.value in
+    let last = c.args.last.now in
+    let last1 = c.add_on.new.last in
+    let replaced = c.in_ok-replaced.replaced in
+    let lows = alive_lows node.entries.items v in
+    let child_level : child.level ≡ suc level = c.in_ok-child.ensures.node.fits.at_level ∙ (let e : node.level - 1 ≡ suc level = omega (arith, c.in-Some.ensures.level) in e) in
+    let read = c.read_in_place.ensures.reads.read in
+    let r0 : AddsBelow child.level (g.S.Pages.map c.read_in_place.new.pages) m1 step.child step.place.version step.place.key value step.place.low step.place.high last last1 replaced = c.in_ok-replaced.ensures.added (search rules) in
+    let r1 = subst (λ (m : PageMap). AddsBelow child.level m m1 step.child step.place.version step.place.key value step.place.low step.place.high last last1 replaced) read.map r0 in
+    let r2 = subst (λ (l : ℕ). AddsBelow l m0 m1 step.child step.place.version step.place.key value step.place.low step.place.high last last1 replaced) child_level r1 in
+    let r3 = subst (λ (w : ℕ). AddsBelow (suc level) m0 m1 step.child w step.place.key value step.place.low step.place.high last last1 replaced) c.in-Some.ensures.leads.version r2 in
+    let r4 = subst (λ (k : ℕ). AddsBelow (suc level) m0 m1 step.child v k value step.place.low step.place.high last last1 replaced) c.in-Some.ensures.leads.key r3 in
+    let r5 = subst (λ (l : ℕ). AddsBelow (suc level) m0 m1 step.child v key value l step.place.high last last1 replaced) c.in-Some.ensures.leads.low r4 in
+    let r6 = subst (λ (o : Option ℕ). AddsBelow (suc level) m0 m1 step.child v key value (inner_low place.low lows key) o last last1 replaced) c.in-Some.ensures.leads.high r5 in
+    let a0 : OthersStay (way_pages child.level (g.S.Pages.map c.read_in_place.new.pages) step.child step.place.key step.place.version) (g.S.Pages.map c.read_in_place.new.pages) m1 = c.in_ok-replaced.ensures.apart (search rules) in
+    let a1 = subst (λ (m : PageMap). OthersStay (way_pages child.level m step.child step.place.key step.place.version) m m1) read.map a0 in
+    let a2 = subst (λ (k : ℕ). OthersStay (way_pages child.level m0 step.child k step.place.version) m0 m1) c.in-Some.ensures.leads.key a1 in
+    let a3 = subst (λ (w : ℕ). OthersStay (way_pages child.level m0 step.child key w) m0 m1) c.in-Some.ensures.leads.version a2 in
+    let a4 = subst (λ (l : ℕ). OthersStay (way_pages l m0 step.child key v) m0 m1) child_level a3 in
+    let child_ways = descending.child_ways m0 c.args.page step.child node v key place.low place.high level at_level c.requires.rules c.requires.typed there c.in-Some.ensures.leads.child_is c.step_from.ensures.same key_in nodes least ways in
+    let still = descending.still m0 c.args.page step.child node v key place.low place.high level at_level c.requires.rules c.requires.typed there c.in-Some.ensures.leads.child_is c.step_from.ensures.same key_in nodes least ways m1 a4 in
+    let done = r6 test places 24 key_test s h child_ways in
+    let top = root_spelled node.level m0 nodes c.args.page v key place.low place.high least (ways key key_in) in
+    let listed = named_second done.grown.new nodes (chain_from done.new_places m1 last1) c.args.page done.grown.chain top.listed in
+    let grows = c.add_on.ensures.grows.went_on in
+    c.store-2.ensures.sound done.new_places p (grows.tells ∙ read.tells ∙ tells) done.grown.stands listed (c.change.ensures.past.place ∙ sym (ap (λ (n : MvNode). n.place) still))
+    (c.change.ensures.past.before ∙ sym (ap (λ (n : MvNode). n.before) still)) (grows.free_in_order (read.tells ∙ tells) (read.free_in_order ordered)))
+
+pub returns-in_default-clause-kept : goal.returns-in_default-clause-kept
+returns-in_default-clause-kept g t c = IfOk-weaker c.store.result _ _ (λ r stored tells.
+    let m0 : PageMap = g.S.Pages.map c.args.stage.now in
+    let place = c.args.place in
+    let node = c.args.node in
+    let is : node_on m0 c.args.page ≡ node = node_on-spelled m0 c.args.page node c.requires.typed c.requires.rules (c.requires.there tells) in
+    let new = c.add_to_leaf.new.node in
+    let kept = stored_keeps m0 (g.S.Pages.map c.store.new.stage) c.args.page new place.version c.args.last.now c.store.new.last r (placed_as m0 c.args.page node new is c.requires.typed c.add_to_leaf.ensures.past) c.add_to_leaf.ensures.storable.typed (stored tells) in
+    keeps_more 2 (node.level + node.level) m0 (g.S.Pages.map c.store.new.stage) c.args.last.now c.store.new.last (omega (arith, c.requires.rules.low_level)) kept) c.store.ensures.stored
+
+pub returns-in_default-clause-damaged : goal.returns-in_default-clause-damaged
+returns-in_default-clause-damaged g t c = λ p e tells. (
+    let m0 : PageMap = g.S.Pages.map c.args.stage.now in
+    let place = c.args.place in
+    let node = c.args.node in
+    let is : node_on m0 c.args.page ≡ node = node_on-spelled m0 c.args.page node c.requires.typed c.requires.rules (c.requires.there tells) in
+    elim (c.store.ensures.damaged p e tells (placed_as m0 c.args.page node c.add_to_leaf.new.node is c.requires.typed c.add_to_leaf.ensures.past)) [
+      | inl last ↦ inr (inl (end_more 1 (node.level + node.level) m0 c.args.last.now p (omega (arith, c.requires.rules.low_level)) last))
+      | inr unordered ↦ inr (inr unordered)
+    ])
+
+pub returns-in_err-child-clause-damaged : goal.returns-in_err-child-clause-damaged
+returns-in_err-child-clause-damaged g t c = λ p e tells. (
+    let m0 : PageMap = g.S.Pages.map c.args.stage.now in
+    let step = c.in-Some.step in
+    let node = c.args.node in
+    let told = err_from_is_err_and c.from_residual.result c.from_residual.ensures.1 in
+    let same = read_damaged c.from_residual.result c.in_err-child.field-0.0 p told e in
+    let why = c.in_err-child.ensures.damaged p (ap Err same) in
+    let some : 1 ≤ node.level - 1 = omega (arith, c.in-Some.ensures.level) in
+    inl (add_past_here m0 c.args.place step.place node step.child p some c.in-Some.ensures.leads why.0 (λ other bytes here fits. why.1 tells other bytes here fits.0)))
+
+pub returns-then-not-is_changeable-clause-damaged : goal.returns-then-not-is_changeable-clause-damaged
+returns-then-not-is_changeable-clause-damaged g t c = λ p e tells. (
+    let m0 : PageMap = g.S.Pages.map c.args.stage.now in
+    let step = c.in-Some.step in
+    let node = c.args.node in
+    let child = c.in_ok-child.child in
+    let spelled = c.in_ok-child.ensures.node.fits in
+    let some : 1 ≤ node.level - 1 = omega (arith, c.in-Some.ensures.level) in
+    let never = iff_false c.is_changeable.ensures c.if-not-is_changeable.true in
+    inl (add_past_here m0 c.args.place step.place node step.child p some c.in-Some.ensures.leads (sym (err_same_staged step.child p e)) (λ other bytes here fits.
+    let is : child ≡ other = same_spelled m0 step.child child other bytes spelled.typed spelled.rules (c.in_ok-child.ensures.found tells) fits.0.fits.typed fits.0.fits.rules fits.0.fits.spelled here in
+    let can = subst (λ (w : ℕ). IsChangeable w other.entries.items) c.in-Some.ensures.leads.version fits.1 in
+    never (subst (λ (n : MvNode). IsChangeable c.args.place.version n.entries.items) (sym is) can))))
+
+pub returns-in_err-replaced-clause-damaged : goal.returns-in_err-replaced-clause-damaged
+returns-in_err-replaced-clause-damaged g t c = λ p e tells. (
+    let m0 : PageMap = g.S.Pages.map c.args.stage.now in
+    let step = c.in-Some.step in
+    let node = c.args.node in
+    let child = c.in_ok-child.child in
+    let read = c.read_in_place.ensures.reads.read in
+    let told = err_from_is_err_and c.from_residual-in_err-replaced.result c.from_residual-in_err-replaced.ensures.1 in
+    let same = exit_error c.from_residual-in_err-replaced.result c.in_err-replaced.field-0.0 (Damaged p) told e in
+    let child_level : child.level ≡ node.level - 1 = c.in_ok-child.ensures.node.fits.at_level in
+    let some : 1 ≤ node.level - 1 = omega (arith, c.in-Some.ensures.level) in
+    let can : IsChangeable step.place.version child.entries.items = subst (λ (w : ℕ). IsChangeable w child.entries.items) (sym c.in-Some.ensures.leads.version) (c.is_changeable.ensures.0 c.if-not-is_changeable.false) in
+    elim (c.in_err-replaced.ensures.damaged p (ap Err same) (read.tells ∙ tells)) [
+      | inl past ↦ inl (add_past_further m0 c.args.place step.place node child step.child p (mv_node_page child) some c.in-Some.ensures.leads (c.in_ok-child.ensures.found tells) (c.in_ok-child.ensures.node, can)
+          (subst (λ (m : PageMap). IsDamagedPastForAdd m step.place child p) read.map past))
+      | inr (inl last) ↦ inr (inl (end_more (child.level + child.level) (node.level + node.level) m0 c.args.last.now p (omega (arith, child_level)) (subst (λ (m : PageMap). IsEndDamaged (child.level + child.level) m c.args.last.now p) read.map last)))
+      | inr (inr unordered) ↦ inr (inr (λ ordered. unordered (read.free_in_order ordered)))
+    ])
+
+pub returns-clause-kept : goal.returns-clause-kept
+returns-clause-kept g t c = IfOk-weaker c.store-2.result _ _ (λ r stored tells.
+    let m0 : PageMap = g.S.Pages.map c.args.stage.now in
+    let place = c.args.place in
+    let node = c.args.node in
+    let is : node_on m0 c.args.page ≡ node = node_on-spelled m0 c.args.page node c.requires.typed c.requires.rules (c.requires.there tells) in
+    let m1 : PageMap = g.S.Pages.map c.add_on.new.stage in
+    let m2 : PageMap = g.S.Pages.map c.store-2.new.stage in
+    let child = c.in_ok-child.child in
+    let new = c.change.new.node in
+    let last = c.args.last.now in
+    let last1 = c.add_on.new.last in
+    let read = c.read_in_place.ensures.reads.read in
+    let child_level : child.level ≡ node.level - 1 = c.in_ok-child.ensures.node.fits.at_level in
+    let k0 : KeepsPlaces (child.level + child.level) (g.S.Pages.map c.read_in_place.new.pages) m1 last last1 = c.in_ok-replaced.ensures.kept (read.tells ∙ tells) in
+    let k1 : KeepsPlaces (child.level + child.level) m0 m1 last last1 = subst (λ (m : PageMap). KeepsPlaces (child.level + child.level) m m1 last last1) read.map k0 in
+    let placed = placed_later m0 m1 c.args.page node new (child.level + child.level) last last1 is c.requires.typed (subst IsSome (sym (c.requires.there tells)) refl) k1 c.change.ensures.past in
+    let second = stored_keeps m1 m2 c.args.page new place.version last1 c.store-2.new.last r placed c.change.ensures.storable.typed (stored (search rules)) in
+    keeps_more (child.level + child.level + 2) (node.level + node.level) m0 m2 last c.store-2.new.last (omega (arith, child_level, c.in-Some.ensures.level)) (keeps_then (child.level + child.level) 2 m0 m1 m2 last last1 c.store-2.new.last k1 second)) c.store-2.ensures.stored
+
+pub returns-clause-damaged : goal.returns-clause-damaged
+returns-clause-damaged g t c = λ p e tells. (
+    let m0 : PageMap = g.S.Pages.map c.args.stage.now in
+    let place = c.args.place in
+    let node = c.args.node in
+    let is : node_on m0 c.args.page ≡ node = node_on-spelled m0 c.args.page node c.requires.typed c.requires.rules (c.requires.there tells) in
+    let m1 : PageMap = g.S.Pages.map c.add_on.new.stage in
+    let child = c.in_ok-child.child in
+    let new = c.change.new.node in
+    let last = c.args.last.now in
+    let last1 = c.add_on.new.last in
+    let read = c.read_in_place.ensures.reads.read in
+    let grows = c.add_on.ensures.grows.went_on in
+    let child_level : child.level ≡ node.level - 1 = c.in_ok-child.ensures.node.fits.at_level in
+    let k0 : KeepsPlaces (child.level + child.level) (g.S.Pages.map c.read_in_place.new.pages) m1 last last1 = c.in_ok-replaced.ensures.kept (read.tells ∙ tells) in
+    let k1 : KeepsPlaces (child.level + child.level) m0 m1 last last1 = subst (λ (m : PageMap). KeepsPlaces (child.level + child.level) m m1 last last1) read.map k0 in
+    let placed = placed_later m0 m1 c.args.page node new (child.level + child.level) last last1 is c.requires.typed (subst IsSome (sym (c.requires.there tells)) refl) k1 c.change.ensures.past in
+    elim (c.store-2.ensures.damaged p e (grows.tells ∙ read.tells ∙ tells) placed) [
+      | inl end ↦ inr (inl (end_more (child.level + child.level + 1) (node.level + node.level) m0 last p (omega (arith, child_level, c.in-Some.ensures.level)) (end_before (child.level + child.level) 1 m0 m1 last last1 p k1 end)))
+      | inr unordered ↦ inr (inr (λ ordered. unordered (grows.free_in_order (read.tells ∙ tells) (read.free_in_order ordered))))
+    ])

@@ -1,13 +1,16 @@
-use Rattle.std.proofs.Common.{◌≡◌, ◌+◌, ◌≤◌, ◌<◌, inl, inr, ℕ, Some, None, IsSome, refl, sym, ap, ◌∙◌, subst, arith, rules}
+use Rattle.std.proofs.Common.{◌≡◌, ◌+◌, ◌≤◌, ◌<◌, inl, inr, ℕ, Some, None, IsSome, IsTrue, Err, refl, sym, ap, ◌∙◌, subst, arith, rules}
+use Rattle.std.proofs.lemmas.Result.{err_from_is_err_and}
 use Rattle.page_ports.specs.Pages.{PageMap}
 use Rattle.page_layout.specs.MvNode.{mv_node_page}
 use Rattle.page_layout.specs.declared.mv_node.MvNode.{MvNode}
 use Rattle.mvsb_tree.specs.Stored.{next_node}
 use Rattle.mvsb_tree.specs.Steps.{node_on}
-use Rattle.mvsb_tree.proofs.Exits.{err_same_staged}
+use Rattle.mvsb_tree.proofs.Exits.{err_same_staged, read_damaged}
 use Rattle.mvsb_tree.proofs.Nodes.{node_on-spelled}
 use Rattle.mvsb_tree.proofs.Storing.{next_rules, next_typed, same_next}
 use Rattle.mvsb_tree.proofs.chain.make_next.Goals.{then-before-via-then-before, then-before-via-else-before+then-last-eq0}
+use Rattle.mvsb_tree.proofs.Lasting.{InBounds, last_sound}
+use Rattle.mvsb_tree.proofs.chain.make_next.Given
 use Rattle.mvsb_tree.proofs.chain.make_next.Goals as goal
 
 pub returns-then-before-clause-damaged : goal.returns-then-before-clause-damaged
@@ -43,3 +46,24 @@ returns-clause-made g c = λ tells.
       typed = λ all. next_typed m last c.args.node (let fits : (node_on m last).place + 1 < 4294967296 = omega (arith, place, c.if-before.false, spells.typed.place) in fits) (search rules) all;
       last_there = subst IsSome (sym there) refl;
     }
+
+-- Each page of a stage is within its bounds.
+within : (g : Given.Over) (stage : g.row.S.Denot) → IsTrue (g.S.Pages.tells stage) → InBounds (g.S.Pages.map stage) 4294967295
+within g stage tells = λ page bytes there. (
+  g.met.S.Stage.from_three stage page bytes tells there,
+  omega (arith, g.met.S.Stage.below_allotted stage page bytes tells there, g.met.S.Stage.within_limit stage, g.met.S.Stage.limit_fits stage),
+)
+
+pub returns-in_err-before-clause-sound : goal.returns-in_err-before-clause-sound
+returns-in_err-before-clause-sound g c = λ places p tells s some ordered e. (
+    let told = err_from_is_err_and c.from_residual.result c.from_residual.ensures.1 in
+    let same = read_damaged c.from_residual.result c.in_err-before.field-0.0 p told e in
+    let why = c.in_err-before.ensures.damaged p (ap Err same) in
+    last_sound (g.S.Pages.map c.args.stage.now) places c.args.last.now p (within g c.args.stage.now tells) some s (why.0, inl (why.1 tells)))
+
+pub returns-then-before-clause-sound : goal.returns-then-before-clause-sound
+returns-then-before-clause-sound g c = λ places p tells s some ordered e.
+    elim (returns-then-before-clause-damaged g c p e tells) [
+      | inl damaged ↦ last_sound (g.S.Pages.map c.args.stage.now) places c.args.last.now p (within g c.args.stage.now tells) some s damaged
+      | inr unordered ↦ unordered ordered
+    ]

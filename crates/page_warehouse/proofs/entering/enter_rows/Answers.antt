@@ -1,18 +1,17 @@
-use Rattle.std.proofs.Common.{rules, ◌≡◌, ℕ, ◌+◌, ◌*◌, ◌<◌, ◌≤◌, List, [], ◌++◌, length, IsTrue, Err, take, drop, get_or, refl, sym, ◌∙◌, ap, subst, arith, pos}
+use Rattle.std.proofs.Common.{rules, ◌≡◌, ℕ, ◌+◌, ◌*◌, ◌<◌, ◌≤◌, List, ◌++◌, length, IsTrue, take, drop, get_or, sym, ◌∙◌, ap, subst, arith}
 use Rattle.std.proofs.lemmas.Result.{err_from_is_err_and}
-use Rattle.bw_types.specs.History.{History, changes, flat, flat_row}
+use Rattle.bw_types.specs.History.{changes, flat, flat_row}
 use Rattle.bw_types.specs.Lawful.{IsLawful, IsLawfulBatch}
 use Rattle.bw_types.specs.declared.change.Change.{Change}
 use Rattle.bw_types.specs.declared.params.Params.{Params}
 use Rattle.bw_types.specs.declared.row.Row.{Row}
-use Rattle.bw_types.specs.declared.row.Row.TheVariants as row
 use Rattle.change_laws.specs.Growth.{most_growth}
-use Rattle.change_laws.specs.Begun.{next_event, with_changes}
-use Rattle.page_warehouse.specs.Entering.{KeepsOn, PagesKeep}
+use Rattle.change_laws.specs.Begun.{with_changes}
+use Rattle.page_warehouse.specs.Entering.{PagesKeep}
 use Rattle.page_warehouse.specs.Needs.{changes_need}
-use Rattle.page_warehouse.proofs.Rows.{KeptSoFar, batch-at, blank_row, each-part, flat-more, length-at, length-more}
+use Rattle.page_warehouse.proofs.Rows.{batch-at, blank_row, each-part, flat-more, length-at, length-more}
 use Rattle.page_warehouse.proofs.Stages.{went_then}
-use Rattle.page_warehouse.proofs.Steps.{keeps_refused, keeps_then, widened}
+use Rattle.page_warehouse.proofs.Steps.{keeps_refused, keeps_then}
 use Rattle.page_warehouse.proofs.entering.enter_rows.Goals as goal
 
 pub enter_row-requires-clause-event : goal.enter_row-requires-clause-event

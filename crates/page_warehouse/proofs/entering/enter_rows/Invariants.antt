@@ -1,4 +1,4 @@
-use Rattle.std.proofs.Common.{◌≡◌, ℕ, ◌+◌, ◌*◌, List, length, IsTrue, take}
+use Rattle.std.proofs.Common.{◌≡◌, ◌+◌, length, IsTrue, take}
 use Rattle.bw_types.specs.History.{History, changes, flat}
 use Rattle.bw_types.specs.Lawful.{IsLawful, IsLawfulBatch}
 use Rattle.page_ports.specs.Calls.{WentOn}

@@ -1,17 +1,9 @@
-use Rattle.std.proofs.Common.{rules, ◌≡◌, ℕ, ◌+◌, ◌*◌, ◌^◌, ◌<◌, ◌≤◌, List, [], ◌∷◌, ◌++◌, length, true, IsTrue, IsPermutation, Err, refl, sym, ◌∙◌, ap, subst, arith}
-use Rattle.std.specs.Option.{option_map_or}
+use Rattle.std.proofs.Common.{rules, ◌≡◌, ◌+◌, List, [], ◌∷◌, ◌++◌, length, true, IsTrue, Err, refl, sym, ◌∙◌, ap, subst, arith}
 use Rattle.std.proofs.lemmas.Result.{err_from_is_err_and}
-use Rattle.std.proofs.lemmas.List.{append-nil}
-use Rattle.bw_types.specs.History.{History, changes}
-use Rattle.bw_types.specs.Lives.{lives}
-use Rattle.bw_types.specs.declared.change.Change.{Change}
+use Rattle.bw_types.specs.History.{History}
 use Rattle.bw_types.specs.declared.change.Change.TheVariants as change
-use Rattle.bw_types.specs.declared.dated.Dated.{Dated}
 use Rattle.page_ports.specs.Pages.{PageMap}
 use Rattle.page_ports.specs.declared.page.StageFault.TheVariants.{Damaged}
-use Rattle.object_table.specs.Lives.{last_life, table_pages}
-use Rattle.object_table.specs.Edits.{with_object}
-use Rattle.object_table.specs.declared.form.Form.TheVariants.{ByLives}
 use Rattle.page_layout.specs.Footprint.{NamesNoneTwice}
 use Rattle.poly_moments.specs.PlaneSums.{Entered}
 use Rattle.corner_forest.specs.Enters.{ForestEnters, entry_growth, entry_of}
@@ -19,14 +11,13 @@ use Rattle.corner_forest.specs.Entries.{IsNextEntry}
 use Rattle.corner_forest.specs.Stands.{ForestStands, forest_pages}
 use Rattle.history_entries.specs.Entries.{history_entries}
 use Rattle.change_laws.specs.Growth.{most_growth}
-use Rattle.change_laws.specs.Begun.{begun_life, next_event, next_version, with_changes}
+use Rattle.change_laws.specs.Begun.{with_changes}
 use Rattle.page_warehouse.specs.Entering.{PagesKeep}
 use Rattle.page_warehouse.proofs.Exits.{exit_error, read_damaged}
-use Rattle.page_warehouse.proofs.Adding.{NextLaws, entries_so_far, kept_few}
+use Rattle.page_warehouse.proofs.Adding.{NextLaws, entries_so_far}
 use Rattle.page_warehouse.proofs.Withdrawing.{can_end, goes, kept_then, last_is, next_is, there}
-use Rattle.page_warehouse.proofs.Pages.{ForestThere, PageLaws}
+use Rattle.page_warehouse.proofs.Pages.{PageLaws}
 use Rattle.page_warehouse.proofs.Stages.{changes_then, grown, on_ok, read_went, refused, went_then}
-use Rattle.page_warehouse.proofs.entering.withdraw_id.Given
 use Rattle.page_warehouse.proofs.entering.withdraw_id.Goals as goal
 
 pub returns-in_err-find-clause-keeps_on : goal.returns-in_err-find-clause-keeps_on

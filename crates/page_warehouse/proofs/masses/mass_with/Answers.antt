@@ -1,10 +1,5 @@
-use Rattle.std.proofs.Common.{◌≡◌, ◌+◌, ◌<◌, List, length, rules, sym, subst, get_or, arith, ◌++◌}
-use Rattle.std.specs.List.{All}
-use Rattle.std.proofs.lemmas.List.Elements.{All-append}
-use Rattle.bw_types.specs.History.{flat, flat_row}
-use Rattle.bw_types.specs.declared.change.Change.{Change}
-use Rattle.history_laws.specs.Bounds.{HasSmallWeight}
-use Rattle.page_warehouse.proofs.Rows.{blank_row, flat-more, mass-at, mass-more}
+use Rattle.std.proofs.Common.{arith}
+use Rattle.page_warehouse.proofs.Rows.{blank_row, mass-at}
 use Rattle.page_warehouse.proofs.masses.mass_with.Goals as goal
 
 pub row_mass-total-requires-clause-limit : goal.row_mass-total-requires-clause-limit

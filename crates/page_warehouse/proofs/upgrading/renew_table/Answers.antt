@@ -1,4 +1,4 @@
-use Rattle.std.proofs.Common.{◌≡◌, ℕ, ◌*◌, ◌<◌, ◌^◌, List, length, IsTrue, Err, rules, refl, sym, ap, subst, arith}
+use Rattle.std.proofs.Common.{◌*◌, ◌<◌, ◌^◌, length, Err, rules, refl, ap}
 use Rattle.std.proofs.lemmas.Result.{err_from_is_err_and}
 use Rattle.bw_types.specs.Lives.{lives}
 use Rattle.page_ports.specs.declared.page.StageFault.TheVariants.{Damaged}

@@ -1,14 +1,12 @@
-use Rattle.std.proofs.Common.{◌≡◌, ◌⊎◌, ℕ, ◌+◌, ◌*◌, ◌<◌, ◌≤◌, ◌==◌, ◌^◌, Bool, true, IsTrue, List, length, Ok, Err, if◌then◌else◌, inl, inr, refl, sym, ◌∙◌, ap, subst, arith}
+use Rattle.std.proofs.Common.{◌≡◌, ◌⊎◌, ◌+◌, ◌<◌, ◌==◌, IsTrue, length, Err, inl, inr, sym, ◌∙◌, ap, subst, arith}
 use Rattle.std.specs.List.{list_all}
 use Rattle.bw_types.specs.Fits.{row_fits}
-use Rattle.bw_types.specs.History.{History, changes, flat, last_version}
+use Rattle.bw_types.specs.History.{History, changes, flat}
 use Rattle.bw_types.specs.Lawful.{IsLawful, IsLawfulBatch}
 use Rattle.bw_types.specs.Refusals.{total_mass}
-use Rattle.bw_types.specs.declared.change.Change.{Change}
 use Rattle.bw_types.specs.declared.params.Params.{Params}
-use Rattle.counts.specs.Count.{Rose}
 use Rattle.page_disk.specs.Image.{Image}
-use Rattle.page_disk.specs.Since.{LeavesNow, LeavesOnly}
+use Rattle.page_disk.specs.Since.{LeavesOnly}
 use Rattle.page_layout.specs.declared.meta.Meta.{Meta}
 use Rattle.page_ports.specs.Pages.{PageMap}
 use Rattle.page_space.specs.Begun.{Begun, OrderedUnder, map_under}
@@ -17,15 +15,13 @@ use Rattle.page_space.specs.Space.{HoldsSpace}
 use Rattle.page_space.specs.declared.space.Space.{Space}
 use Rattle.page_ports.specs.declared.page.StageFault.{StageFault}
 use Rattle.page_ports.specs.declared.page.StageFault.TheVariants as fault
-use Rattle.warehouse.specs.Committed.{IfDone, with_batch}
 use Rattle.change_laws.specs.Begun.{with_changes}
-use Rattle.page_warehouse.specs.Entering.{FormKeeps, PagesKeep}
+use Rattle.page_warehouse.specs.Entering.{FormKeeps}
 use Rattle.page_warehouse.specs.Holds.{Holds}
 use Rattle.page_warehouse.specs.Needs.{batch_need, changes_need, charge_of, meta_charge}
 use Rattle.page_warehouse.specs.NextMeta.{IsNextMeta}
-use Rattle.page_warehouse.specs.Shown.{HoldsHistory, disk_in, meta_in, params_in, space_in}
+use Rattle.page_warehouse.specs.Shown.{space_in}
 use Rattle.page_warehouse.specs.declared.roots.Roots.{Roots}
-use Rattle.page_warehouse.specs.declared.state.Warehouse.{Warehouse}
 use Rattle.page_warehouse.proofs.Drafted.{charge_after, charge_before, form_here, held_of, here_then, ordered, unchanged, weakened}
 use Rattle.page_warehouse.proofs.Here.{Here, here, space_here}
 use Rattle.page_warehouse.proofs.Outcomes.{if_disk, if_done, if_kept, if_page_limit}
@@ -80,7 +76,7 @@ pub returns-in-Err-clause-charge_done : goal.returns-in-Err-clause-charge_done
 returns-in-Err-clause-charge_done g c = λ h held batch. if_done c.given_back.result (λ house version. ⊥) _ (λ house version no. absurd no) c.given_back.ensures.not_done
 
 pub returns-in-Err-clause-kept : goal.returns-in-Err-clause-kept
-returns-in-Err-clause-kept g c = 
+returns-in-Err-clause-kept g c =
     let back = c.draft.ensures.base ∙ c.begin-stage.ensures.base in
     if_kept c.given_back.result (λ house. space_in house ≡ c.abandon.result) (λ house. begun_of (space_in house) ≡ begun_of c.args.self.space) (λ house is. ap (λ (s : Space g.row.D.Denot g.D.Disk). begun_of s) is ∙ c.abandon.ensures.base ∙ back) c.given_back.ensures.kept
 
@@ -90,7 +86,7 @@ returns-in-Err-clause-any_moment g c = λ h held batch.
     unchanged _ _ _ (ap g.D.Disk.moments c.given_back.ensures.device ∙ ap (λ (b : Begun). b.moments) (c.abandon.ensures.base ∙ back))
 
 pub returns-in-Err-clause-at_limit : goal.returns-in-Err-clause-at_limit
-returns-in-Err-clause-at_limit g c = 
+returns-in-Err-clause-at_limit g c =
     if_page_limit c.given_back.result (λ house n. c.in-Err.fault ≡ fault.PageLimit n) (λ house n. n ≡ (params_of c.args.self.space).pages)
     (λ house n is. c.in-Err.ensures.limit n (ap (λ (f : StageFault). Err f) is) ∙ ap (λ (b : Begun). b.params.pages) c.begin-stage.ensures.base) c.given_back.ensures.page_limit
 
@@ -121,26 +117,26 @@ returns-in-Err-clause-page_limit g c = λ h held batch.
     let on = c.in-Err.ensures.keeps_on told h (subst (λ (p : Params). IsLawful p h) (sym same) now.lawful) (subst (λ (p : Params). IsLawfulBatch p h batched) (sym same) batch) (ver ∙ now.tells.version) (ro ∙ now.tells.rows) form1 in
     if_page_limit c.given_back.result (λ house n. c.in-Err.fault ≡ fault.PageLimit n) (λ house n. params.pages < charge_of x + batch_need params h c.args.rows.now)
     (λ house n is.
-        let passed = on.changes.page_limit n (ap (λ (f : StageFault). Err f) is) in
-        let last = passed.2 in
-        let limit : n ≡ params.pages = c.in-Err.ensures.limit n (ap (λ (f : StageFault). Err f) is) ∙ ap (λ (b : Begun). b.params.pages) c.begin-stage.ensures.base in
-        let first : (staged_meta c.begin-stage.result).allotted ≡ meta.allotted = ap (λ (m : Meta). m.allotted) c.begin-stage.ensures.meta in
-        let charge = charge_before meta c.is_by_ids-by_ids.result c.meta-3.result.now.table.count by_ids (ap (λ (m : Meta). m.table.count) c.meta-3.ensures.value) in
-        let need : changes_need c.args.self.forest.params (length (changes h)) (length batched) ≡ batch_need params h c.args.rows.now = ap (λ (p : Params). changes_need p (length (changes h)) (length batched)) same in
-        let kept = c.is_charged.ensures held.0 in
-        omega (arith, last, limit, first, charge, need, kept)) c.given_back.ensures.page_limit
+    let passed = on.changes.page_limit n (ap (λ (f : StageFault). Err f) is) in
+    let last = passed.2 in
+    let limit : n ≡ params.pages = c.in-Err.ensures.limit n (ap (λ (f : StageFault). Err f) is) ∙ ap (λ (b : Begun). b.params.pages) c.begin-stage.ensures.base in
+    let first : (staged_meta c.begin-stage.result).allotted ≡ meta.allotted = ap (λ (m : Meta). m.allotted) c.begin-stage.ensures.meta in
+    let charge = charge_before meta c.is_by_ids-by_ids.result c.meta-3.result.now.table.count by_ids (ap (λ (m : Meta). m.table.count) c.meta-3.ensures.value) in
+    let need : changes_need c.args.self.forest.params (length (changes h)) (length batched) ≡ batch_need params h c.args.rows.now = ap (λ (p : Params). changes_need p (length (changes h)) (length batched)) same in
+    let kept = c.is_charged.ensures held.0 in
+    omega (arith, last, limit, first, charge, need, kept)) c.given_back.ensures.page_limit
 
 pub returns-in-Err-clause-disk : goal.returns-in-Err-clause-disk
-returns-in-Err-clause-disk g c = 
+returns-in-Err-clause-disk g c =
     if_disk c.given_back.result (c.in-Err.fault ≡ fault.Disk) _
     (λ is.
-        let rose = c.in-Err.ensures.disk (ap (λ (f : StageFault). Err f) is) in
-        let first = ap g.D.Disk.faults c.begin-stage.ensures.disk in
-        let last = ap g.D.Disk.faults (c.given_back.ensures.device ∙ c.abandon.ensures.disk) in
-        omega (arith, rose, first, last)) c.given_back.ensures.disk
+    let rose = c.in-Err.ensures.disk (ap (λ (f : StageFault). Err f) is) in
+    let first = ap g.D.Disk.faults c.begin-stage.ensures.disk in
+    let last = ap g.D.Disk.faults (c.given_back.ensures.device ∙ c.abandon.ensures.disk) in
+    omega (arith, rose, first, last)) c.given_back.ensures.disk
 
 pub over-house-requires-clause-mass : goal.over-house-requires-clause-mass
-over-house-requires-clause-mass g c = 
+over-house-requires-clause-mass g c =
     let at = ap (λ (p : Params). total_mass p (flat c.args.rows.now)) c.args.self.params in
     let before = c.counts-before.ensures.mass ∙ ap (λ (m : Meta). m.mass) c.meta-2.ensures.value in
     let is = c.in_default.ensures.meta.mass in
@@ -327,4 +323,3 @@ returns-in-Err-commit-clause-any_moment g c = λ h held batch.
       | inl s ↦ inl (held_of g.X.DomIndex y params meta map h now (ordered y params meta map (IsInOrder space) order s))
       | inr s ↦ inr (held_of g.X.DomIndex y params (staged_meta mid) (staged_map mid) h1 next (ordered y params (staged_meta mid) (staged_map mid) (IsStagedInOrder mid) order2 s))
     ]) only
-

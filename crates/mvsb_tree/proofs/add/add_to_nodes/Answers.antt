@@ -1,0 +1,109 @@
+use Rattle.std.proofs.Common.{◌≡◌, ◌^◌, ◌<◌, ◌≤◌, inl, inr, ℕ, List, [], ◌∷◌, Some, None, Err, IsTrue, refl, sym, ap, ◌∙◌, subst, arith, rules}
+use Rattle.std.proofs.lemmas.Result.{err_from_is_err_and}
+use Rattle.bw_types.specs.declared.point.Point.{Point}
+use Rattle.page_ports.specs.Pages.{PageMap}
+use Rattle.page_ports.specs.declared.page.StageFault.TheVariants.{Damaged}
+use Rattle.mvsb_tree.specs.AddDamage.{IsDamagedFromRootForAdd, IsEndDamaged}
+use Rattle.mvsb_tree.specs.Damage.{root_place}
+use Rattle.mvsb_tree.specs.Grown.{NodesHold}
+use Rattle.mvsb_tree.specs.Stands.{ChainStands, StandsOnWay, is_marked}
+use Rattle.mvsb_tree.specs.Steps.{chain_from, place_count, root_at, root_level}
+use Rattle.mvsb_tree.specs.Tops.{RootAdded}
+use Rattle.mvsb_tree.proofs.Beginning.{first_of_tree, root_ways}
+use Rattle.mvsb_tree.proofs.Whole.{marked_own, nodes_hold}
+use Rattle.mvsb_tree.proofs.Costs.{low_moved, root_named}
+use Rattle.mvsb_tree.proofs.Exits.{exit_error, read_damaged}
+use Rattle.mvsb_tree.proofs.add.add_to_nodes.Goals as goal
+
+pub returns-then-tree-eq0-clause-added : goal.returns-then-tree-eq0-clause-added
+returns-then-tree-eq0-clause-added g c = λ tells points p s past key_is.
+    let m0 : PageMap = g.S.Pages.map c.args.stage.now in
+    let made = c.in_ok-top.ensures.made tells in
+    let no_page : (bytes : List ℕ) → m0 0 ≡ Some bytes → ⊥ = λ bytes there. (let three = g.met.S.Stage.from_three c.args.stage.now 0 bytes tells there in omega (arith, three)) in
+    first_of_tree m0 (g.S.Pages.map c.first_leaf.new.stage) c.args.tree.now points p c.in_ok-top.top c.args.key c.args.version c.args.value c.args.last.now s c.if-tree-eq0.true c.requires.last c.requires.version c.ranges.key.fits c.ranges.value.fits key_is
+    no_page c.in_ok-top.ensures.number c.in_ok-top.ensures.rules made.0 made.1 made.2
+
+pub returns-clause-added : goal.returns-clause-added
+returns-clause-added g c = λ tells points p s past key_is.
+    let m0 : PageMap = g.S.Pages.map c.args.stage.now in
+    let mx : PageMap = g.S.Pages.map c.root_at.new.pages in
+    let m1 : PageMap = g.S.Pages.map c.add_at_root.new.stage in
+    let tree = c.args.tree.now in
+    let v = c.args.version in
+    let key = c.args.key in
+    let root = c.in_ok-root.root in
+    let top = c.in_ok-top-2.top in
+    let last = c.args.last.now in
+    let new_last = c.add_at_root.new.last in
+    let test = is_marked (p ∷ points) in
+    let places = place_count m0 tree in
+    let Adds : PageMap → Type 0 = λ m. IsTrue (test key) → ChainStands places m last → NodesHold v test m (chain_from places m last)
+    → ((q : ℕ) → q < 2 ^ 64 → StandsOnWay (root_level m root) m (chain_from places m last) root v q 0 None 1) → RootAdded test m m1 root top v key c.args.value places last new_last in
+    let a0 : Adds mx = c.in_ok-top-2.ensures.added (search rules) test places in
+    let a1 : Adds m0 = subst (λ (m : PageMap). Adds m) c.root_at.ensures.reads.read.map a0 in
+    let root_is : root ≡ root_at m0 tree v = c.in_ok-root.ensures.root tells in
+    let last_is : tree.last ≡ last = sym c.requires.last in
+    let ways = root_ways m0 tree points v root s past c.if-tree-eq0.false c.requires.version root_is in
+    a1 (marked_own points p key key_is) (subst (λ (l : ℕ). ChainStands places m0 l) last_is s.chain) (subst (λ (l : ℕ). NodesHold v test m0 (chain_from places m0 l)) last_is (nodes_hold m0 tree points p v s past))
+    (subst (λ (l : ℕ). (q : ℕ) → q < 2 ^ 64 → StandsOnWay (root_level m0 root) m0 (chain_from places m0 l) root v q 0 None 1) last_is ways)
+
+pub returns-in_err-top-2-clause-few : goal.returns-in_err-top-2-clause-few
+returns-in_err-top-2-clause-few g c = λ points tells s few b. (
+    let low = low_moved (g.S.Pages.map c.args.stage.now) (g.S.Pages.map c.root_at.new.pages) c.args.tree.now points c.args.version c.in_ok-root.root s few b c.ranges.version.fits c.root_at.ensures.reads.read.map (c.in_ok-root.ensures.root tells) in
+    let grows = c.in_err-top-2.ensures.few 7 (c.root_at.ensures.reads.read.tells ∙ tells) low in
+    search rules)
+
+pub returns-clause-few : goal.returns-clause-few
+returns-clause-few g c = λ points tells s few b. (
+    let low = low_moved (g.S.Pages.map c.args.stage.now) (g.S.Pages.map c.root_at.new.pages) c.args.tree.now points c.args.version c.in_ok-root.root s few b c.ranges.version.fits c.root_at.ensures.reads.read.map (c.in_ok-root.ensures.root tells) in
+    let grows = c.in_ok-top-2.ensures.few 7 (c.root_at.ensures.reads.read.tells ∙ tells) low in
+    search rules)
+
+pub returns-in_err-root-clause-sound : goal.returns-in_err-root-clause-sound
+returns-in_err-root-clause-sound g c = λ points page tells s few past b ordered e. (
+    let told = err_from_is_err_and c.from_residual-in_err-root.result c.from_residual-in_err-root.ensures.1 in
+    let same = read_damaged c.from_residual-in_err-root.result c.in_err-root.field-0.0 page told e in
+    c.in_err-root.ensures.sound s.changes page tells s.roots (root_named (g.S.Pages.map c.args.stage.now) c.args.tree.now points c.args.version s c.ranges.version.fits) (ap Err same))
+
+pub returns-in_err-top-2-clause-sound : goal.returns-in_err-top-2-clause-sound
+returns-in_err-top-2-clause-sound g c = λ points page tells s few past b ordered e. (
+    let m0 : PageMap = g.S.Pages.map c.args.stage.now in
+    let tree = c.args.tree.now in
+    let v = c.args.version in
+    let key = c.args.key in
+    let root = c.in_ok-root.root in
+    let last = c.args.last.now in
+    let p : Point = record { keys = key ∷ []; version = v; weight = 0 } in
+    let test = is_marked (p ∷ points) in
+    let places = place_count m0 tree in
+    let told = err_from_is_err_and c.from_residual-in_err-top-2.result c.from_residual-in_err-top-2.ensures.1 in
+    let same = exit_error c.from_residual-in_err-top-2.result c.in_err-top-2.field-0.0 (Damaged page) told e in
+    let read = c.root_at.ensures.reads.read in
+    let RootFails : PageMap → Type 0 = λ m. IsTrue (test key) → ChainStands places m last → NodesHold v test m (chain_from places m last)
+    → ((q : ℕ) → q < 2 ^ 64 → StandsOnWay (root_level m root) m (chain_from places m last) root v q 0 None 1) → root_level m root ≤ 15 → ⊥ in
+    let f0 : RootFails (g.S.Pages.map c.root_at.new.pages) = λ kt s1 h1 w1 low1. c.in_err-top-2.ensures.sound test places page (read.tells ∙ tells) kt s1 h1 w1 low1 (read.free_in_order ordered) (ap Err same) in
+    let f1 : RootFails m0 = subst (λ (m : PageMap). RootFails m) read.map f0 in
+    let root_is : root ≡ root_at m0 tree v = c.in_ok-root.ensures.root tells in
+    let last_is : tree.last ≡ last = sym c.requires.last in
+    let ways = root_ways m0 tree points v root s past c.if-tree-eq0.false c.requires.version root_is in
+    let low = low_moved m0 m0 tree points v root s few b c.ranges.version.fits refl root_is in
+    f1 (marked_own points p key refl) (subst (λ (l : ℕ). ChainStands places m0 l) last_is s.chain) (subst (λ (l : ℕ). NodesHold v test m0 (chain_from places m0 l)) last_is (nodes_hold m0 tree points p v s past))
+    (subst (λ (l : ℕ). (q : ℕ) → q < 2 ^ 64 → StandsOnWay (root_level m0 root) m0 (chain_from places m0 l) root v q 0 None 1) last_is ways) (omega (arith, low)))
+
+pub returns-in_err-top-2-clause-damaged : goal.returns-in_err-top-2-clause-damaged
+returns-in_err-top-2-clause-damaged g c = λ page e tells. (
+    let m0 : PageMap = g.S.Pages.map c.args.stage.now in
+    let tree = c.args.tree.now in
+    let v = c.args.version in
+    let key = c.args.key in
+    let root = c.in_ok-root.root in
+    let told = err_from_is_err_and c.from_residual-in_err-top-2.result c.from_residual-in_err-top-2.ensures.1 in
+    let same = exit_error c.from_residual-in_err-top-2.result c.in_err-top-2.field-0.0 (Damaged page) told e in
+    let read = c.root_at.ensures.reads.read in
+    let root_is : root ≡ root_at m0 tree v = c.in_ok-root.ensures.root tells in
+    elim (c.in_err-top-2.ensures.damaged page (ap Err same) (read.tells ∙ tells)) [
+      | inl way ↦ inr (inr (inl (subst (λ (r : ℕ). IsDamagedFromRootForAdd m0 r (root_place key v) page) root_is (subst (λ (m : PageMap). IsDamagedFromRootForAdd m root (root_place key v) page) read.map way))))
+      | inr (inl end) ↦ inr (inr (inr (inl (subst (λ (l : ℕ). IsEndDamaged 33 m0 l page) c.requires.last (subst (λ (m : PageMap). IsEndDamaged 33 m c.args.last.now page) read.map end)))))
+      | inr (inr (inl high)) ↦ inr (inr (inr (inr (inl (high.0, subst (λ (r : ℕ). root_level m0 r ≡ 16) root_is (subst (λ (m : PageMap). root_level m root ≡ 16) read.map high.1))))))
+      | inr (inr (inr unordered)) ↦ inr (inr (inr (inr (inr (λ ordered. unordered (read.free_in_order ordered))))))
+    ])

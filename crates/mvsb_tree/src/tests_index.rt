@@ -1,0 +1,40 @@
+//! The index of one dimension in memory.
+ghost use Rattle.std.specs.Prelude.{◌<◌, ◌^◌, ◌-◌};
+ghost use Rattle.dom_index.specs.Points.{AreKeysBelow};
+
+use crate::MvIndex;
+use bw_types::{Point, Tree};
+use dom_index::DomIndex;
+use page_ports::{MemStage, PageFault};
+use std::test::Fail;
+
+fn point_at(key: u16, version: u16, weight: u128) -> Point
+    ensures keys { AreKeysBelow 1 result.keys }
+    ensures version { result.version < 2 ^ 32 - 1 }
+{
+    Point {
+        keys: [u64::from(key), 0, 0],
+        version: u32::from(version),
+        weight,
+    }
+}
+
+fn sum_at(stage: &mut MemStage, tree: &Tree, key: u16, version: u32) -> Result<u128, PageFault> {
+    let keys = [u64::from(key), 0, 0];
+    MvIndex::sum(stage, 1, tree, &keys, version)
+}
+
+#[test]
+fn three_points(rt: HostRuntime) -> Result<(), Fail> {
+    let mut stage = MemStage::new(rt.alloc(), 20);
+    let mut tree = Tree::default();
+    MvIndex::add(&mut stage, 1, &mut tree, &point_at(10, 1, 5))?;
+    MvIndex::add(&mut stage, 1, &mut tree, &point_at(20, 1, 7))?;
+    MvIndex::add(&mut stage, 1, &mut tree, &point_at(5, 2, 1))?;
+    assert_eq!(rt; sum_at(&mut stage, &tree, 25, 0), Ok(0));
+    assert_eq!(rt; sum_at(&mut stage, &tree, 9, 1), Ok(0));
+    assert_eq!(rt; sum_at(&mut stage, &tree, 25, 1), Ok(12));
+    assert_eq!(rt; sum_at(&mut stage, &tree, 5, 2), Ok(1));
+    assert_eq!(rt; sum_at(&mut stage, &tree, 25, 2), Ok(13));
+    Ok(())
+}
