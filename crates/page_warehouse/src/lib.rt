@@ -6,6 +6,8 @@
 //! opening a disk, at whatever moment the program was stopped, gives the history that it holds.
 #![tactic(auto)]
 
+#[cfg(test)]
+mod commit_tests;
 mod committing;
 mod creating;
 mod drafting;
