@@ -108,9 +108,10 @@ fn put<H: House>(house: H, rows: &[Row]) -> (Result<H, H::Device>, Outcome) {
 
 // The house that came back, and what became of the batch; a failure of the device is one of the test.
 fn came_back<H, D: Drop>(ended: (Result<H, D>, Outcome)) -> Result<(H, Outcome), Failed> {
-    match ended {
-        (Ok(house), outcome) => Ok((house, outcome)),
-        (Err(_), _) => Err(Failed),
+    let (back, outcome) = ended;
+    match back {
+        Ok(house) => Ok((house, outcome)),
+        Err(_) => Err(Failed),
     }
 }
 
@@ -509,9 +510,10 @@ fn withdrawn(alloc: Global, disk: MemDisk) -> (MemDisk, bool) {
         Ok(house) => house,
         Err(refused) => return (refused.disk, false),
     };
-    match put(house, &[Row::Withdraw(1)]) {
-        (Ok(house), outcome) => (house.into_device(), outcome == Outcome::Done(2)),
-        (Err(device), _) => (device, false),
+    let (back, outcome) = put(house, &[Row::Withdraw(1)]);
+    match back {
+        Ok(house) => (house.into_device(), outcome == Outcome::Done(2)),
+        Err(device) => (device, false),
     }
 }
 
