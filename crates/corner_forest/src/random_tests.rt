@@ -158,7 +158,7 @@ fn agrees(
         return Ok(false);
     }
     let mut state = 11;
-    for round in 0..12u32 {
+    for round in 0..24u32 {
         let (low, high) = drawn_box(&mut state, usize::from(params.dims));
         let kind = match round % 3 {
             0 => Kind::Sum,
@@ -178,27 +178,27 @@ fn agrees(
 
 #[test]
 fn random_intervals(rt: HostRuntime) -> Result<(), Fail> {
-    assert!(rt; agrees(&rt, 1, None, 120)?);
-    assert!(rt; agrees(&rt, 1, Some(0), 120)?);
-    assert!(rt; agrees(&rt, 1, Some(1), 120)?);
-    assert!(rt; agrees(&rt, 1, Some(2), 120)?);
+    assert!(rt; agrees(&rt, 1, None, 1001)?);
+    assert!(rt; agrees(&rt, 1, Some(0), 1001)?);
+    assert!(rt; agrees(&rt, 1, Some(1), 1001)?);
+    assert!(rt; agrees(&rt, 1, Some(2), 1001)?);
     Ok(())
 }
 
 #[test]
 fn random_rectangles(rt: HostRuntime) -> Result<(), Fail> {
-    assert!(rt; agrees(&rt, 2, None, 50)?);
-    assert!(rt; agrees(&rt, 2, Some(0), 50)?);
-    assert!(rt; agrees(&rt, 2, Some(1), 50)?);
-    assert!(rt; agrees(&rt, 2, Some(2), 50)?);
+    assert!(rt; agrees(&rt, 2, None, 1001)?);
+    assert!(rt; agrees(&rt, 2, Some(0), 1001)?);
+    assert!(rt; agrees(&rt, 2, Some(1), 1001)?);
+    assert!(rt; agrees(&rt, 2, Some(2), 1001)?);
     Ok(())
 }
 
 #[test]
 fn random_boxes(rt: HostRuntime) -> Result<(), Fail> {
-    assert!(rt; agrees(&rt, 3, None, 40)?);
-    assert!(rt; agrees(&rt, 3, Some(0), 30)?);
-    assert!(rt; agrees(&rt, 3, Some(1), 20)?);
-    assert!(rt; agrees(&rt, 3, Some(2), 12)?);
+    assert!(rt; agrees(&rt, 3, None, 1001)?);
+    assert!(rt; agrees(&rt, 3, Some(0), 1001)?);
+    assert!(rt; agrees(&rt, 3, Some(1), 1001)?);
+    assert!(rt; agrees(&rt, 3, Some(2), 1001)?);
     Ok(())
 }
