@@ -221,7 +221,14 @@ pub record Closes {D : Type 0} (ended ran : Ran D) : Type 0 where
   pub device : ran.device ≡ ended.device
   pub ending : (ran.ending ≡ ended.ending) ⊎ ((ran.ending ≡ WriteFault) × (ended.ending ≡ DiskFault → ⊥))
 
-closes_same : {D : Type 0} (ended ran : Ran D) → Closes ended ran → (s : Ending) → (WriteFault ≡ s → ⊥) → ran.ending ≡ s → ended.ending ≡ s
+-- an ending may be given by its parts
+pub closes_like : {D : Type 0} (given ended ran : Ran D) → given.ending ≡ ended.ending → given.device ≡ ended.device → Closes given ran → Closes ended ran
+closes_like given ended ran why device c = record {
+  device = c.device ∙ device;
+  ending = elim c.ending [ inl same ↦ inl (same ∙ why) | inr wrote ↦ inr (wrote.0, λ e. wrote.1 (why ∙ e)) ];
+}
+
+pub closes_same : {D : Type 0} (ended ran : Ran D) → Closes ended ran → (s : Ending) → (WriteFault ≡ s → ⊥) → ran.ending ≡ s → ended.ending ≡ s
 closes_same ended ran c s other e = elim c.ending [
   | inl same ↦ sym same ∙ e
   | inr wrote ↦ absurd (other (sym wrote.0 ∙ e))
@@ -322,3 +329,22 @@ input_passes NoMemory f l i = absurd i
 input_passes DiskFault f l i = absurd i
 input_passes (Damaged page) f l i = absurd i
 input_passes (PageLimit allotted) f l i = absurd i
+
+-- a house does not end a run by its input
+pub never_by_input : (ending : Ending) → IsHouseEnding ending → IsInputEnding ending → ⊥
+never_by_input ReadFault w i = w
+never_by_input (InputLimit taken) w i = w
+never_by_input Fine w i = i
+never_by_input WriteFault w i = i
+never_by_input NoMemory w i = i
+never_by_input DiskFault w i = i
+never_by_input (Damaged page) w i = i
+never_by_input (PageLimit allotted) w i = i
+
+-- nor by its end
+pub never_fine_house : (ending : Ending) → IsHouseEnding ending → ending ≡ Fine → ⊥
+never_fine_house ending w e = subst (λ (s : Ending). IsHouseEnding s) e w
+
+-- a run that a house ended ends so, or in the output
+pub house_never : {D : Type 0} (ended ran : Ran D) → Closes ended ran → IsHouseEnding ended.ending → (s : Ending) → (WriteFault ≡ s → ⊥) → (IsHouseEnding s → ⊥) → ran.ending ≡ s → ⊥
+house_never ended ran c w s other none e = none (subst (λ (s : Ending). IsHouseEnding s) (closes_same ended ran c s other e) w)

@@ -1,3 +1,4 @@
+pub mod Commits
 pub mod Endings
 pub mod EndsLaws
 pub mod Going

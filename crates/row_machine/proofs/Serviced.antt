@@ -1,9 +1,11 @@
 -- A line that the machine takes and whose reply is gathered.
-use Rattle.std.proofs.Common.{◌≡◌, ℕ, ◌+◌, ◌≤◌, Bool, true, arith, inl, inr, List, ◌++◌, Result, Ok, Err, OnOk, IfOk, IfErr, refl, sym, ◌∙◌, ap, subst}
+use Rattle.std.proofs.Common.{◌≡◌, ℕ, ◌+◌, ◌≤◌, Bool, true, arith, inl, inr, List, ◌++◌, Option, None, Some, Result, Ok, Err, OnOk, IfOk, IfErr, refl, sym, ◌∙◌, ap, subst}
+use Rattle.std.specs.Prelude.{⊤}
 use Rattle.bw_types.specs.History.{History}
 use Rattle.bw_types.specs.declared.params.Params.{Params}
 use Rattle.bw_types.specs.declared.row.Row.{Row}
 use Rattle.csv_rows.specs.Machine.{Step, replied}
+use Rattle.csv_rows.specs.declared.reply.Reply.{Reply}
 use Rattle.warehouse.specs.declared.house.House.{Ghosts}
 use Rattle.row_machine.specs.declared.desk.Desk.{Desk}
 use Rattle.row_machine.specs.declared.desk.Taken.{Taken}
@@ -11,7 +13,7 @@ use Rattle.row_machine.specs.declared.ending.Ran.{Ran}
 use Rattle.row_machine.specs.declared.ending.Ending.{Ending}
 use Rattle.row_machine.specs.declared.ending.Ending.TheVariants.{Fine, ReadFault, WriteFault, NoMemory, InputLimit, DiskFault, Damaged, PageLimit}
 use Rattle.row_machine.specs.Housed.{GoesOnFrom, IsAt, Went, Stops, StopsFor, Settled, SettledBetween, OnlyBetween, Leaves, version_need}
-use Rattle.row_machine.specs.Serving.{Breaks, ServesText}
+use Rattle.row_machine.specs.Serving.{Breaks, OnServed, ServesText}
 use Rattle.row_machine.proofs.Housing.{goes_on_same, settled_between}
 
 module _ {H D : Type 0} (g : Ghosts H D) (whole : Bool) (params : Params) (h : History) (t : Step) (rows : List Row) (reading : Type 0) (cost : ℕ) (before : D) where
@@ -43,6 +45,20 @@ module _ {H D : Type 0} (g : Ghosts H D) (whole : Bool) (params : Params) (h : H
     settled = λ e s. subst (λ (d : D). SettledBetween g params t.state.history t.state.history d) (sym ended.0)
         (settled_between g params t.state.history t.state.history t.state.history _ (goes_on_same t.state.history) (goes_on_same t.state.history) ((leaves e).settled s));
   }
+
+  -- the same of a desk that stays where it is
+  pub done_served : (desk : Desk H D g) (reply : Option Reply) (gathered gathered' : List ℕ) (result : Result (Option ℕ) Ending)
+      → Went g whole params t (Ok (record { desk = desk; reply = reply })) → (whole ≡ true → Leaves g params h t.state.history before (Ok (record { desk = desk; reply = reply }))) → GoesOnFrom h t.state.history
+      → (reading → g.reads (g.device desk.house) ≤ g.reads before + cost)
+      → (whole ≡ true → g.charge (g.device desk.house) ≤ g.charge before + version_need t.reply (g.need params h rows))
+      → OnOk result (gathered' ≡ gathered ++ replied reply)
+      → IfErr result (λ ending. ending ≡ NoMemory)
+      → OnServed g (ServesText g whole params h t rows reading cost before gathered gathered') (λ session. ⊤) desk result
+  done_served desk reply gathered gathered' (Ok None) went leaves goes reads charge gathers ended =
+      text_served (record { desk = desk; reply = reply }) gathered gathered' (Ok desk) went leaves goes reads charge refl gathers tt
+  done_served desk reply gathered gathered' (Ok (Some session)) went leaves goes reads charge gathers ended = tt
+  done_served desk reply gathered gathered' (Err ending) went leaves goes reads charge gathers ended =
+      text_served (record { desk = desk; reply = reply }) gathered gathered' (Err (record { ending = ending; device = g.device desk.house })) went leaves goes reads charge tt tt (refl, ended)
 
   -- where the run ends in the step itself, the history of before is there, unless the device failed
   still_stands : (ending : Ending) (d : D) → StopsFor g whole params h t rows ending d → (ending ≡ DiskFault → ⊥) → g.stands whole d params h
@@ -79,3 +95,10 @@ module _ {H D : Type 0} (g : Ghosts H D) (whole : Bool) (params : Params) (h : H
     any_moment = λ e. (leaves e).any_moment;
     settled = λ e. (leaves e).lost;
   }
+
+-- what follows of a line that is served, or in which the run ends
+pub on_served : {H D : Type 0} (g : Ghosts H D) (P Q : Result (Desk H D g) (Ran D) → Type 0) (desk : Desk H D g) (result : Result (Option ℕ) Ending)
+    → ((served : Result (Desk H D g) (Ran D)) → P served → Q served) → OnServed g P (λ session. ⊤) desk result → OnServed g Q (λ session. ⊤) desk result
+on_served g P Q desk (Ok None) f served = f (Ok desk) served
+on_served g P Q desk (Ok (Some session)) f served = tt
+on_served g P Q desk (Err ending) f served = f (Err (record { ending = ending; device = g.device desk.house })) served

@@ -4,7 +4,7 @@ use Rattle.bw_types.specs.History.{History, last_version}
 use Rattle.bw_types.specs.declared.params.Params.{Params}
 use Rattle.bw_types.specs.declared.query.Query.{Query}
 use Rattle.bw_types.specs.declared.row.Row.{Row}
-use Rattle.csv_rows.specs.Machine.{State, Step, rows_of}
+use Rattle.csv_rows.specs.Machine.{State, Step, line_step, rows_of}
 use Rattle.csv_rows.specs.declared.input.Input.{Input}
 use Rattle.csv_rows.specs.declared.input.Input.TheVariants.{Stage, Commit, Forget, Ask}
 use Rattle.csv_rows.specs.declared.reply.Reply.{Reply}
@@ -13,6 +13,8 @@ use Rattle.counts.specs.Count.{Rose}
 use Rattle.warehouse.specs.Crashes.{OnlyLeaves}
 use Rattle.warehouse.specs.declared.house.House.{Ghosts}
 use Rattle.row_machine.specs.declared.desk.Desk.{Desk}
+use Rattle.row_machine.specs.declared.desk.LineTaken.{LineTaken}
+use Rattle.row_machine.specs.declared.desk.LineTaken.TheVariants.{Done, Commits}
 use Rattle.row_machine.specs.declared.desk.Taken.{Taken}
 use Rattle.row_machine.specs.declared.ending.Ran.{Ran}
 use Rattle.row_machine.specs.declared.ending.Ending.{Ending}
@@ -183,3 +185,24 @@ module _ {H D : Type 0} (g : Ghosts H D) where
     pub faults : g.faults before ≤ g.faults (device_left result)
     pub own : IfErr result (λ ran. IsHouseEnding ran.ending)
     pub disk : DiskCause before result
+
+  -- What is said of a line that a desk took where it stands: it is done, or the run ends in it, or a session is left to commit.
+  abbrev pub OnTaken : (Result (Taken H D g) (Ran D) → Type 0) → (ℕ → Type 0) → Desk H D g → Result LineTaken Ending → Type 0
+  OnTaken takes commits desk (Ok (Done reply)) = takes (Ok (record { desk = desk; reply = reply }))
+  OnTaken takes commits desk (Ok (Commits session)) = commits session
+  OnTaken takes commits desk (Err ending) = takes (Err (record { ending = ending; device = g.device desk.house }))
+
+  -- The line spells a commit of the session, and the desk is as before.
+  pub record LeavesCommit (spelled : Option Input) (old new : Desk H D g) (session : ℕ) : Type 0 where
+    pub spells : spelled ≡ Some (Commit session)
+    pub some : 1 ≤ session
+    pub sixteen : session ≤ 16
+    pub same : new ≡ old
+
+  -- What a line did that has the number n and spells this.
+  abbrev pub DoesLine : ℕ → Desk H D g → Option Input → Desk H D g → Result LineTaken Ending → Type 0
+  DoesLine n old spelled new result =
+      OnTaken (Takes old.params (g.device old.house) (λ whole. MayTake whole spelled)
+      (λ h. line_step old.params n (record { history = h; staged = old.sessions }) spelled)
+      (λ h. rows_committed (record { history = h; staged = old.sessions }) spelled)
+      (λ h. input_cost g.cost old.params h spelled)) (LeavesCommit spelled old new) new result

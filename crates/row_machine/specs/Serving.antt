@@ -1,10 +1,11 @@
 -- What serving lines does to the input, the machine, its device and the output.
-use Rattle.std.specs.Prelude.{◌≡◌, ◌⊎◌, ℕ, ◌+◌, ◌<◌, ◌≤◌, ⊤, Bool, true, false, IsTrue, List, [], ◌∷◌, ◌++◌, length, Option, Some, IfSome, Result, Ok, Err}
+use Rattle.std.specs.Prelude.{◌≡◌, ◌⊎◌, ℕ, ◌+◌, ◌<◌, ◌≤◌, ⊤, Bool, true, false, IsTrue, List, [], ◌∷◌, ◌++◌, length, Option, Some, None, IfSome, Result, Ok, Err}
 use Rattle.bw_types.specs.History.{History}
 use Rattle.bw_types.specs.declared.params.Params.{Params}
 use Rattle.bw_types.specs.declared.query.Query.{Query}
 use Rattle.bw_types.specs.declared.row.Row.{Row}
 use Rattle.csv_rows.specs.Input.{input}
+use Rattle.csv_rows.specs.declared.input.Input.TheVariants.{Commit}
 use Rattle.line_reader.specs.Lines.{lines, whole_part, TakesLine}
 use Rattle.line_reader.specs.Reader.{ReaderState}
 use Rattle.csv_rows.specs.Machine.{State, Step, step, replied, replies, state_after}
@@ -107,6 +108,12 @@ pub record TakesWhole (input left : List ℕ) (served : List (List ℕ)) : Type 
   pub cut : input ≡ taken ++ left
   pub whole : served ≡ lines (whole_part taken)
 
+-- The next line is taken off the input and spells a commit of the session.
+pub record LeavesLine (params : Params) (before after : List ℕ) (stopped : Option Line) (session : ℕ) : Type 0 where
+  pub line : List ℕ
+  pub takes : TakesLine before line after stopped
+  pub spells : input params line ≡ Some (Commit session)
+
 module _ {H D : Type 0} (g : Ghosts H D) where
   abbrev pub state_at : History → Desk H D g → State
   state_at h desk = record { history = h; staged = desk.sessions }
@@ -115,6 +122,12 @@ module _ {H D : Type 0} (g : Ghosts H D) where
   abbrev pub device_after : Result (Desk H D g) (Ran D) → D
   device_after (Ok desk) = g.device desk.house
   device_after (Err ran) = ran.device
+
+  -- What is said of a line on a desk where it stands: it is served, or the run ends in it, or a session is left to commit.
+  abbrev pub OnServed : (Result (Desk H D g) (Ran D) → Type 0) → (ℕ → Type 0) → Desk H D g → Result (Option ℕ) Ending → Type 0
+  OnServed served commits desk (Ok None) = served (Ok desk)
+  OnServed served commits desk (Ok (Some session)) = commits session
+  OnServed served commits desk (Err ending) = served (Err (record { ending = ending; device = g.device desk.house }))
 
   -- From the history h the machine made this step, which commits these rows, and its reply was gathered. Where the line only
   -- reads, the reads are counted.

@@ -1,10 +1,9 @@
 //! The machine of rows and replies: a history and sixteen sessions, and the step on one line.
 
-ghost use Rattle.std.specs.Prelude.{[], ◌≡◌, ◌≤◌, ⊤, IsTrue, Some, None, unwrap_or};
-ghost use Rattle.bw_types.specs.History.{History, last_version};
+ghost use Rattle.std.specs.Prelude.{[], ◌≡◌, ◌≤◌, IsTrue, Some, None};
 ghost use Rattle.bw_types.specs.Fits.{IsInRange, row_fits, query_fits};
 ghost use Rattle.csv_rows.specs.Input.{InputFits, input};
-ghost use Rattle.csv_rows.specs.Machine.{step, input_step, stage_step, commit_step, ask_step, rows_of, with_rows};
+ghost use Rattle.csv_rows.specs.Machine.{commit_step, rows_of};
 ghost use Rattle.bw_types.specs.Refusals.{first_refusal};
 ghost use Rattle.counts.specs.Count.{Rose};
 ghost use Rattle.row_machine.specs.DeskState.{OnlyFitting};
@@ -26,16 +25,25 @@ pub struct Desk<H: House> {
     ghost fitting: { OnlyFitting params sessions },
 }
 
-/// The desk after a line, and what the line is replied.
+/// The desk after a commit, and what the line is replied.
 #[derive(Drop)]
 pub struct Taken<H: House> {
     pub desk: Desk<H>,
     pub reply: Option<Reply>,
 }
 
+/// What became of a line.
+#[derive(Clone, Copy, PartialEq, Eq, Debug)]
+pub enum LineTaken {
+    /// The line is done, and is replied this.
+    Done { reply: Option<Reply> },
+    /// The line commits what this session has staged. That is left to [`Desk::commit`], and all is as before.
+    Commits { session: u8 },
+}
+
 impl<H: House> Desk<H> {
     ghost use Rattle.csv_rows.specs.Machine.{begun};
-    ghost use Rattle.row_machine.specs.Housed.{MayTake, Takes, input_cost, rows_committed};
+    ghost use Rattle.row_machine.specs.Housed.{DoesLine, Takes, input_cost};
 
     /// The house, and nothing staged.
     pub fn new(alloc: Global, house: H) -> Desk<H>
@@ -62,25 +70,26 @@ impl<H: House> Desk<H> {
         }
     }
 
-    /// Takes the line with this number, and answers what it is replied. Where `rows` stands, and what is in `ahead`, change
-    /// nothing: where the next lines stand there, their rows are read sooner.
+    /// Takes the line with this number, where it stands: a house is large, and stays where it is. A line that commits is
+    /// left to be committed. An error says how the run ends.
+    ///
+    /// Where `rows` stands, and what is in `ahead`, change nothing: where the next lines stand there, their rows are read
+    /// sooner.
     pub fn take_line(
-        self,
+        &mut self,
         alloc: Global,
         rows: &mut RowReader,
         number: u64,
         line: &[u8],
         ahead: &[u8],
-    ) -> Result<Taken<H>, Ran<H::Device>>
-        requires { IsInRange self.params }
-        ensures { Takes ⟦<H as House>⟧ self.params (H.device self.house) (λ whole. MayTake whole (input self.params line.now))
-            (λ h. step self.params number (record { history = h; staged = self.sessions }) line.now)
-            (λ h. rows_committed (record { history = h; staged = self.sessions }) (input self.params line.now)) (λ h. input_cost H.cost self.params h (input self.params line.now)) result }
+    ) -> Result<LineTaken, Ending>
+        requires { IsInRange self.old.params }
+        ensures params { self.new.params ≡ self.old.params }
+        ensures does { DoesLine ⟦<H as House>⟧ number self.old (input self.old.params line.now) self.new result }
     {
         match rows.read_row(alloc, line, ahead, &self.params) {
-            Err(_) => Err(self.ended(Ending::NoMemory)),
-            Ok(None) => Ok(Taken {
-                desk: self,
+            Err(_) => Err(Ending::NoMemory),
+            Ok(None) => Ok(LineTaken::Done {
                 reply: Some(Reply::Bad { line: number }),
             }),
             Ok(Some(input)) => self.take_input(number, &input),
@@ -88,58 +97,51 @@ impl<H: House> Desk<H> {
     }
 
     // The step on what a line spells.
-    fn take_input(self, number: u64, input: &Input) -> Result<Taken<H>, Ran<H::Device>>
-        requires { InputFits self.params input.now }
-        ensures { Takes ⟦<H as House>⟧ self.params (H.device self.house) (λ whole. MayTake whole (Some input.now))
-            (λ h. input_step self.params number (record { history = h; staged = self.sessions }) input.now)
-            (λ h. rows_committed (record { history = h; staged = self.sessions }) (Some input.now)) (λ h. input_cost H.cost self.params h (Some input.now)) result }
+    fn take_input(&mut self, number: u64, input: &Input) -> Result<LineTaken, Ending>
+        requires { InputFits self.old.params input.now }
+        ensures params { self.new.params ≡ self.old.params }
+        ensures does { DoesLine ⟦<H as House>⟧ number self.old (Some input.now) self.new result }
     {
         match *input {
             Input::Stage { session, row } => self.stage(number, session, &row),
-            Input::Commit { session } => self.commit(number, session),
+            Input::Commit { session } => Ok(LineTaken::Commits { session }),
             Input::Forget { session } => self.forget(number, session),
             Input::Ask { version, query } => self.ask(number, version, &query),
         }
     }
 
     // A row is put last in its session, unless the session is full.
-    fn stage(self, number: u64, session: u8, row: &Row) -> Result<Taken<H>, Ran<H::Device>>
+    fn stage(&mut self, number: u64, session: u8, row: &Row) -> Result<LineTaken, Ending>
         requires some { 1 ≤ session }
         requires sixteen { session ≤ 16 }
-        requires fits { IsTrue (row_fits self.params row.now) }
-        ensures { Takes ⟦<H as House>⟧ self.params (H.device self.house) (λ whole. ⊤)
-            (λ h. stage_step number (record { history = h; staged = self.sessions }) session row.now)
-            (λ h. []) (λ h. 0) result }
+        requires fits { IsTrue (row_fits self.old.params row.now) }
+        ensures params { self.new.params ≡ self.old.params }
+        ensures does { DoesLine ⟦<H as House>⟧ number self.old (Some (Input.Stage session row.now)) self.new result }
     {
-        let mut desk = self;
-        match desk.sessions.stage(session, row) {
-            Ok(()) => Ok(Taken { desk, reply: None }),
-            Err(StageRow::Full) => Ok(Taken {
-                desk,
+        match self.sessions.stage(session, row) {
+            Ok(()) => Ok(LineTaken::Done { reply: None }),
+            Err(StageRow::Full) => Ok(LineTaken::Done {
                 reply: Some(Reply::Full { line: number }),
             }),
-            Err(StageRow::NoMemory) => Err(desk.ended(Ending::NoMemory)),
+            Err(StageRow::NoMemory) => Err(Ending::NoMemory),
         }
     }
 
     // What the session has staged is forgotten.
-    fn forget(self, number: u64, session: u8) -> Result<Taken<H>, Ran<H::Device>>
+    fn forget(&mut self, number: u64, session: u8) -> Result<LineTaken, Ending>
         requires some { 1 ≤ session }
         requires sixteen { session ≤ 16 }
-        ensures { Takes ⟦<H as House>⟧ self.params (H.device self.house) (λ whole. ⊤)
-            (λ h. input_step self.params number (record { history = h; staged = self.sessions }) (Input.Forget session))
-            (λ h. []) (λ h. 0) result }
+        ensures params { self.new.params ≡ self.old.params }
+        ensures does { DoesLine ⟦<H as House>⟧ number self.old (Some (Input.Forget session)) self.new result }
     {
-        let mut desk = self;
-        desk.sessions.clear(session);
-        Ok(Taken {
-            desk,
+        self.sessions.clear(session);
+        Ok(LineTaken::Done {
             reply: Some(Reply::Dropped { session }),
         })
     }
 
-    // What the session has staged is committed, and the session is empty.
-    fn commit(self, number: u64, session: u8) -> Result<Taken<H>, Ran<H::Device>>
+    /// What the session has staged is committed, and the session is empty.
+    pub fn commit(self, session: u8) -> Result<Taken<H>, Ran<H::Device>>
         requires some { 1 ≤ session }
         requires sixteen { session ≤ 16 }
         ensures { Takes ⟦<H as House>⟧ self.params (H.device self.house) (λ whole. IsTrue whole)
@@ -196,37 +198,26 @@ impl<H: House> Desk<H> {
     }
 
     // The query is answered at its version, or at the last one.
-    fn ask(
-        self,
-        number: u64,
-        version: Option<u32>,
-        query: &Query,
-    ) -> Result<Taken<H>, Ran<H::Device>>
-        requires { IsTrue (query_fits self.params query.now) }
-        ensures { Takes ⟦<H as House>⟧ self.params (H.device self.house) (λ whole. ⊤)
-            (λ h. ask_step self.params number (record { history = h; staged = self.sessions }) (unwrap_or version (last_version h)) query.now)
-            (λ h. []) (λ h. input_cost H.cost self.params h (Some (Input.Ask version query.now))) result }
+    fn ask(&mut self, number: u64, version: Option<u32>, query: &Query) -> Result<LineTaken, Ending>
+        requires { IsTrue (query_fits self.old.params query.now) }
+        ensures params { self.new.params ≡ self.old.params }
+        ensures does { DoesLine ⟦<H as House>⟧ number self.old (Some (Input.Ask version query.now)) self.new result }
     {
-        let mut desk = self;
-        let version = version.unwrap_or(desk.house.last());
-        match desk.house.query(query, version) {
+        let version = version.unwrap_or(self.house.last());
+        match self.house.query(query, version) {
             Ok(value) => {
                 let reply = Reply::Answer {
                     kind: query.kind,
                     version,
                     value,
                 };
-                Ok(Taken {
-                    desk,
-                    reply: Some(reply),
-                })
+                Ok(LineTaken::Done { reply: Some(reply) })
             }
-            Err(QueryFault::NoVersion(_)) => Ok(Taken {
-                desk,
+            Err(QueryFault::NoVersion(_)) => Ok(LineTaken::Done {
                 reply: Some(Reply::NoVersion { line: number }),
             }),
-            Err(QueryFault::Disk) => Err(desk.ended(Ending::DiskFault)),
-            Err(QueryFault::Damaged(page)) => Err(desk.ended(Ending::Damaged { page })),
+            Err(QueryFault::Disk) => Err(Ending::DiskFault),
+            Err(QueryFault::Damaged(page)) => Err(Ending::Damaged { page }),
         }
     }
 }

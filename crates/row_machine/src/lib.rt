@@ -11,7 +11,7 @@ mod laws;
 mod outbox;
 mod serving;
 
-pub use desk::{Desk, Taken};
+pub use desk::{Desk, LineTaken, Taken};
 pub use ending::{Ending, Ran};
 pub use laws::{ends_laws, machine_laws};
 pub use serving::{INPUT_LIMIT, serve};

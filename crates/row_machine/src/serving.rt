@@ -1,19 +1,20 @@
 //! Serving an input: line after line is read, taken by the machine and replied.
-ghost use Rattle.std.specs.Prelude.{◌≡◌, ◌≢◌, ℕ, ◌+◌, ◌<◌, ◌≤◌, ◌++◌, ◌⊎◌, ◌^◌, List, [], Bool, true, false, IsTrue, IfOk, IfErr, OnOk, OnErr, Some, None, Ok, Err, length};
+ghost use Rattle.std.specs.Prelude.{◌≡◌, ◌≢◌, ℕ, ◌+◌, ◌<◌, ◌≤◌, ◌++◌, ◌⊎◌, ◌^◌, ⊤, List, [], Bool, true, false, IsTrue, IfOk, IfErr, IfSome, OnOk, OnErr, Some, None, Ok, Err, length};
 ghost use Rattle.counts.specs.Count.{Rose};
 ghost use Rattle.bw_types.specs.Fits.{IsInRange};
 ghost use Rattle.bw_types.specs.History.{History};
 ghost use Rattle.line_reader.specs.Lines.{lines, PassesNoLineFeed};
 ghost use Rattle.line_reader.specs.Reader.{to_come};
 ghost use Rattle.csv_rows.specs.Input.{input};
+ghost use Rattle.csv_rows.specs.declared.input.Input.{Input};
 ghost use Rattle.csv_rows.specs.Machine.{step, replied};
 ghost use Rattle.line_reader.specs.declared.lines.Line.TheVariants as answered;
 ghost use Rattle.row_machine.specs.Outbox.{gathered};
 ghost use Rattle.row_machine.specs.Runs.{WritesMore, WritesPart};
-ghost use Rattle.row_machine.specs.Housed.{IsHouseEnding, MayTake, rows_committed};
-ghost use Rattle.row_machine.specs.Serving.{BreaksOff, Ends, GoesOn, IsBetweenLines, IsFlushed, Lasts, LastsBeyond, MayGoOn, MayServe, SeenEnd, ServesLine, ServesText, device_after, line_cost, state_at};
+ghost use Rattle.row_machine.specs.Housed.{IsHouseEnding, LeavesCommit, MayTake, rows_committed};
+ghost use Rattle.row_machine.specs.Serving.{BreaksOff, Ends, GoesOn, IsBetweenLines, IsFlushed, Lasts, LastsBeyond, LeavesLine, MayGoOn, MayServe, OnServed, SeenEnd, ServesLine, ServesText, device_after, line_cost, state_at};
 
-use crate::desk::Desk;
+use crate::desk::{Desk, LineTaken};
 use crate::ending::{Ending, Ran};
 use crate::outbox::Outbox;
 use byte_ports::{Sink, Source};
@@ -25,8 +26,131 @@ use warehouse::House;
 /// An input has fewer bytes than this.
 pub const INPUT_LIMIT: u64 = 1 << 40;
 
-// Gathers the reply of a step that the machine made.
-#[inline(always)]
+// Gathers the reply of a line that is done. No session is left to commit.
+fn done(alloc: Global, reply: Option<Reply>, outbox: &mut Outbox) -> Result<Option<u8>, Ending>
+    ensures served { IfOk result (λ left. left ≡ None) }
+    ensures gathers { OnOk result (gathered outbox.new ≡ gathered outbox.old ++ replied reply) }
+    ensures ended { IfErr result (λ ending. ending ≡ Ending.NoMemory) }
+    ensures unsaid { OnErr result (gathered outbox.new ≡ gathered outbox.old) }
+{
+    match outbox.gather(alloc, reply) {
+        Ok(()) => Ok(None),
+        Err(_) => Err(Ending::NoMemory),
+    }
+}
+
+// The machine takes a line, which has this number, and its reply is gathered. Answers the session that the line commits,
+// which is left to do.
+fn serve_text<H: House>(
+    alloc: Global,
+    desk: &mut Desk<H>,
+    rows: &mut RowReader,
+    number: u64,
+    line: &[u8],
+    ahead: &[u8],
+    outbox: &mut Outbox,
+) -> Result<Option<u8>, Ending>
+    requires { IsInRange desk.old.params }
+    ensures params { desk.new.params ≡ desk.old.params }
+    ensures serves { (whole : Bool) (h : History) → MayTake whole (input desk.old.params line.now) → H.stands whole (H.device desk.old.house) desk.old.params h →
+        OnServed ⟦<H as House>⟧ (ServesText ⟦<H as House>⟧ whole desk.old.params h (step desk.old.params number (state_at ⟦<H as House>⟧ h desk.old) line.now)
+        (rows_committed (state_at ⟦<H as House>⟧ h desk.old) (input desk.old.params line.now)) (MayTake false (input desk.old.params line.now)) (line_cost H.cost desk.old.params h line.now) (H.device desk.old.house) (gathered outbox.old) (gathered outbox.new))
+        (λ session. ⊤) desk.new result }
+    ensures commits { IfOk result (λ left. IfSome left (λ session. LeavesCommit ⟦<H as House>⟧ (input desk.old.params line.now) desk.old desk.new session
+        × (gathered outbox.new ≡ gathered outbox.old))) }
+    ensures lasts { (h : History) → H.stands true (H.device desk.old.house) desk.old.params h →
+        OnServed ⟦<H as House>⟧ (LastsBeyond ⟦<H as House>⟧ desk.old.params h (H.device desk.old.house)) (λ session. ⊤) desk.new result }
+    ensures within { IfErr result (λ ending. IsHouseEnding ending) }
+    ensures unsaid { OnErr result (gathered outbox.new ≡ gathered outbox.old) }
+    ensures faults { H.faults (H.device desk.old.house) ≤ H.faults (H.device desk.new.house) }
+    ensures disk_fault { IfErr result (λ ending. ending ≡ Ending.DiskFault → Rose (H.faults (H.device desk.old.house)) (H.faults (H.device desk.new.house))) }
+{
+    match desk.take_line(alloc, rows, number, line, ahead) {
+        Ok(LineTaken::Done { reply }) => done(alloc, reply, outbox),
+        Ok(LineTaken::Commits { session }) => Ok(Some(session)),
+        Err(ending) => Err(ending),
+    }
+}
+
+// Serves the next line, which has this number, or ends the run. Answers the session that the line commits, which is left
+// to do. A line that is longer than a line may be is bad, whatever its bytes.
+fn serve_line<H: House, S: Source>(
+    alloc: Global,
+    desk: &mut Desk<H>,
+    rows: &mut RowReader,
+    reader: &mut LineReader,
+    number: u64,
+    outbox: &mut Outbox,
+    source: &mut S,
+) -> Result<Option<u8>, Ending>
+    requires range { IsInRange desk.old.params }
+    requires going { MayGoOn reader.old.stopped }
+    ensures params { desk.new.params ≡ desk.old.params }
+    ensures limit { reader.new.limit ≡ reader.old.limit }
+    ensures seen_end { reader.old.stopped ≡ None → SeenEnd reader.new (S.tells source.old) (S.left source.new) }
+    ensures stays { reader.old.stopped ≡ Some answered.End → (reader.new ≡ reader.old) × (source.new ≡ source.old) }
+    ensures counts { IsTrue (S.tells source.old) → IsTrue (S.tells source.new) →
+        reader.new.taken + length (S.left source.new) ≡ reader.old.taken + length (S.left source.old) }
+    ensures faults { H.faults (H.device desk.old.house) ≤ H.faults (H.device desk.new.house) }
+
+    // A line is served, or is to be a commit.
+    ensures goes_on { OnOk result (GoesOn reader.old reader.new) }
+    ensures source { OnOk result ((S.faults source.new ≡ S.faults source.old)
+        × (IsTrue (S.tells source.old) → IsTrue (S.tells source.new))) }
+    ensures served { IfOk result (λ left. left ≡ None → IsTrue (S.tells source.old) →
+        (whole : Bool) (h : History) → MayServe whole desk.old.params (lines (to_come reader.old (S.left source.old))) → H.stands whole (H.device desk.old.house) desk.old.params h →
+        ServesLine ⟦<H as House>⟧ whole desk.old.params number
+        (to_come reader.old (S.left source.old)) (to_come reader.new (S.left source.new)) reader.new.stopped
+        h desk.old desk.new (gathered outbox.old) (gathered outbox.new)) }
+    ensures commits { IfOk result (λ left. IfSome left (λ session. (1 ≤ session) × (session ≤ 16)
+        × (desk.new ≡ desk.old) × (gathered outbox.new ≡ gathered outbox.old)
+        × (IsTrue (S.tells source.old) → LeavesLine desk.old.params (to_come reader.old (S.left source.old)) (to_come reader.new (S.left source.new)) reader.new.stopped session))) }
+
+    ensures lasts { (h : History) → H.stands true (H.device desk.old.house) desk.old.params h →
+        OnServed ⟦<H as House>⟧ (LastsBeyond ⟦<H as House>⟧ desk.old.params h (H.device desk.old.house)) (λ session. ⊤) desk.new result }
+
+    // The run ends between two lines, or in one, of which nothing is replied then.
+    ensures ended { IfErr result (λ ending. IsBetweenLines ending ⊎ IsHouseEnding ending) }
+    ensures unsaid { OnErr result (gathered outbox.new ≡ gathered outbox.old) }
+    ensures between { IfErr result (λ ending. IsBetweenLines ending → desk.new ≡ desk.old) }
+    ensures breaks { IfErr result (λ ending. IsHouseEnding ending → IsTrue (S.tells source.old) →
+        (whole : Bool) (h : History) → MayServe whole desk.old.params (lines (to_come reader.old (S.left source.old))) → H.stands whole (H.device desk.old.house) desk.old.params h →
+        BreaksOff ⟦<H as House>⟧ whole desk.old.params number (to_come reader.old (S.left source.old)) h desk.old (record { ending = ending; device = H.device desk.new.house })) }
+    ensures disk_fault { IfErr result (λ ending. ending ≡ Ending.DiskFault → Rose (H.faults (H.device desk.old.house)) (H.faults (H.device desk.new.house))) }
+
+    // The input is at its end, or it fails or is too long within a line.
+    ensures end { IfErr result (λ ending. ending ≡ Ending.Fine → (reader.new.stopped ≡ Some answered.End)
+        × (IsTrue (S.tells source.old) → IsTrue (S.tells source.new) × (to_come reader.old (S.left source.old) ≡ []))) }
+    ensures read_fault { IfErr result (λ ending. ending ≡ Ending.ReadFault → (reader.old.stopped ≡ None)
+        × Rose (S.faults source.old) (S.faults source.new)
+        × (IsTrue (S.tells source.old) → IsTrue (S.tells source.new) →
+        PassesNoLineFeed (to_come reader.old (S.left source.old)) (S.left source.new))) }
+    ensures input_limit { IfErr result (λ ending. (taken : ℕ) → ending ≡ Ending.InputLimit taken → (reader.old.stopped ≡ None)
+        × (taken ≡ reader.new.limit) × (reader.new.taken ≡ reader.new.limit)
+        × (IsTrue (S.tells source.old) → IsTrue (S.tells source.new)
+        × PassesNoLineFeed (to_come reader.old (S.left source.old)) (S.left source.new))) }
+{
+    match reader.next_line(source) {
+        Line::Text => serve_text(
+            alloc,
+            desk,
+            rows,
+            number,
+            reader.text(),
+            reader.ahead(),
+            outbox,
+        ),
+        Line::Long => done(alloc, Some(Reply::Bad { line: number }), outbox),
+        Line::End => Err(Ending::Fine),
+        Line::Fault => Err(Ending::ReadFault),
+        Line::Limit => {
+            let taken = reader.taken();
+            Err(Ending::InputLimit { taken })
+        }
+    }
+}
+
+// Gathers the reply of a commit.
 fn reply_to<H: House>(
     alloc: Global,
     desk: Desk<H>,
@@ -44,123 +168,28 @@ fn reply_to<H: House>(
     }
 }
 
-// The machine takes a line, which has this number, and its reply is gathered.
-fn serve_text<H: House>(
+// What the session has staged is committed, and the reply is gathered: what is left to do of any line that spells that.
+fn serve_commit<H: House>(
     alloc: Global,
     desk: Desk<H>,
-    rows: &mut RowReader,
-    number: u64,
-    line: &[u8],
-    ahead: &[u8],
+    session: u8,
     outbox: &mut Outbox,
 ) -> Result<Desk<H>, Ran<H::Device>>
-    requires { IsInRange desk.params }
+    requires some { 1 ≤ session }
+    requires sixteen { session ≤ 16 }
     ensures params { IfOk result (λ new. new.params ≡ desk.params) }
-    ensures serves { (whole : Bool) (h : History) → MayTake whole (input desk.params line.now) → H.stands whole (H.device desk.house) desk.params h →
-        ServesText ⟦<H as House>⟧ whole desk.params h (step desk.params number (state_at ⟦<H as House>⟧ h desk) line.now)
-        (rows_committed (state_at ⟦<H as House>⟧ h desk) (input desk.params line.now)) (MayTake false (input desk.params line.now)) (line_cost H.cost desk.params h line.now) (H.device desk.house) (gathered outbox.old) (gathered outbox.new) result }
-    ensures lasts { (h : History) → H.stands true (H.device desk.house) desk.params h → LastsBeyond ⟦<H as House>⟧ desk.params h (H.device desk.house) result }
-    ensures within { IfErr result (λ ran. IsHouseEnding ran.ending) }
-    ensures unsaid { OnErr result (gathered outbox.new ≡ gathered outbox.old) }
-    ensures faults { H.faults (H.device desk.house) ≤ H.faults (device_after ⟦<H as House>⟧ result) }
-    ensures disk_fault { IfErr result (λ ran. ran.ending ≡ Ending.DiskFault → Rose (H.faults (H.device desk.house)) (H.faults ran.device)) }
-{
-    match desk.take_line(alloc, rows, number, line, ahead) {
-        Ok(taken) => reply_to(alloc, taken.desk, taken.reply, outbox),
-        Err(ran) => Err(ran),
-    }
-}
-
-// A line that is longer than a line may be is bad, whatever its bytes.
-fn serve_long<H: House>(
-    alloc: Global,
-    desk: Desk<H>,
-    number: u64,
-    outbox: &mut Outbox,
-) -> Result<Desk<H>, Ran<H::Device>>
-    ensures params { IfOk result (λ new. new.params ≡ desk.params) }
-    ensures serves { (whole : Bool) (h : History) (line : List ℕ) → 4096 < length line → H.stands whole (H.device desk.house) desk.params h →
-        ServesText ⟦<H as House>⟧ whole desk.params h (step desk.params number (state_at ⟦<H as House>⟧ h desk) line)
+    ensures serves { (n : ℕ) (line : List ℕ) (whole : Bool) (h : History) → input desk.params line ≡ Some (Input.Commit session) → IsTrue whole → H.stands whole (H.device desk.house) desk.params h →
+        ServesText ⟦<H as House>⟧ whole desk.params h (step desk.params n (state_at ⟦<H as House>⟧ h desk) line)
         (rows_committed (state_at ⟦<H as House>⟧ h desk) (input desk.params line)) (MayTake false (input desk.params line)) (line_cost H.cost desk.params h line) (H.device desk.house) (gathered outbox.old) (gathered outbox.new) result }
     ensures lasts { (h : History) → H.stands true (H.device desk.house) desk.params h → LastsBeyond ⟦<H as House>⟧ desk.params h (H.device desk.house) result }
     ensures within { IfErr result (λ ran. IsHouseEnding ran.ending) }
     ensures unsaid { OnErr result (gathered outbox.new ≡ gathered outbox.old) }
     ensures faults { H.faults (H.device desk.house) ≤ H.faults (device_after ⟦<H as House>⟧ result) }
-    ensures disk_fault { IfErr result (λ ran. ran.ending ≢ Ending.DiskFault) }
-{
-    reply_to(alloc, desk, Some(Reply::Bad { line: number }), outbox)
-}
-
-// Serves the next line, which has this number, or ends the run.
-fn serve_line<H: House, S: Source>(
-    alloc: Global,
-    desk: Desk<H>,
-    rows: &mut RowReader,
-    reader: &mut LineReader,
-    number: u64,
-    outbox: &mut Outbox,
-    source: &mut S,
-) -> Result<Desk<H>, Ran<H::Device>>
-    requires range { IsInRange desk.params }
-    requires going { MayGoOn reader.old.stopped }
-    ensures params { IfOk result (λ new. new.params ≡ desk.params) }
-    ensures limit { reader.new.limit ≡ reader.old.limit }
-    ensures seen_end { reader.old.stopped ≡ None → SeenEnd reader.new (S.tells source.old) (S.left source.new) }
-    ensures stays { reader.old.stopped ≡ Some answered.End → (reader.new ≡ reader.old) × (source.new ≡ source.old) }
-    ensures counts { IsTrue (S.tells source.old) → IsTrue (S.tells source.new) →
-        reader.new.taken + length (S.left source.new) ≡ reader.old.taken + length (S.left source.old) }
-    ensures faults { H.faults (H.device desk.house) ≤ H.faults (device_after ⟦<H as House>⟧ result) }
-
-    // A line is served.
-    ensures goes_on { OnOk result (GoesOn reader.old reader.new) }
-    ensures source { OnOk result ((S.faults source.new ≡ S.faults source.old)
-        × (IsTrue (S.tells source.old) → IsTrue (S.tells source.new))) }
-    ensures served { IfOk result (λ new. IsTrue (S.tells source.old) →
-        (whole : Bool) (h : History) → MayServe whole desk.params (lines (to_come reader.old (S.left source.old))) → H.stands whole (H.device desk.house) desk.params h →
-        ServesLine ⟦<H as House>⟧ whole desk.params number
-        (to_come reader.old (S.left source.old)) (to_come reader.new (S.left source.new)) reader.new.stopped
-        h desk new (gathered outbox.old) (gathered outbox.new)) }
-
-    ensures lasts { (h : History) → H.stands true (H.device desk.house) desk.params h → LastsBeyond ⟦<H as House>⟧ desk.params h (H.device desk.house) result }
-
-    // The run ends between two lines, or in one, of which nothing is replied then.
-    ensures ended { IfErr result (λ ran. IsBetweenLines ran.ending ⊎ IsHouseEnding ran.ending) }
-    ensures unsaid { OnErr result (gathered outbox.new ≡ gathered outbox.old) }
-    ensures between { IfErr result (λ ran. IsBetweenLines ran.ending → ran.device ≡ H.device desk.house) }
-    ensures breaks { IfErr result (λ ran. IsHouseEnding ran.ending → IsTrue (S.tells source.old) →
-        (whole : Bool) (h : History) → MayServe whole desk.params (lines (to_come reader.old (S.left source.old))) → H.stands whole (H.device desk.house) desk.params h →
-        BreaksOff ⟦<H as House>⟧ whole desk.params number (to_come reader.old (S.left source.old)) h desk ran) }
     ensures disk_fault { IfErr result (λ ran. ran.ending ≡ Ending.DiskFault → Rose (H.faults (H.device desk.house)) (H.faults ran.device)) }
-
-    // The input is at its end, or it fails or is too long within a line.
-    ensures end { IfErr result (λ ran. ran.ending ≡ Ending.Fine → (reader.new.stopped ≡ Some answered.End)
-        × (IsTrue (S.tells source.old) → IsTrue (S.tells source.new) × (to_come reader.old (S.left source.old) ≡ []))) }
-    ensures read_fault { IfErr result (λ ran. ran.ending ≡ Ending.ReadFault → (reader.old.stopped ≡ None)
-        × Rose (S.faults source.old) (S.faults source.new)
-        × (IsTrue (S.tells source.old) → IsTrue (S.tells source.new) →
-        PassesNoLineFeed (to_come reader.old (S.left source.old)) (S.left source.new))) }
-    ensures input_limit { IfErr result (λ ran. (taken : ℕ) → ran.ending ≡ Ending.InputLimit taken → (reader.old.stopped ≡ None)
-        × (taken ≡ reader.new.limit) × (reader.new.taken ≡ reader.new.limit)
-        × (IsTrue (S.tells source.old) → IsTrue (S.tells source.new)
-        × PassesNoLineFeed (to_come reader.old (S.left source.old)) (S.left source.new))) }
 {
-    match reader.next_line(source) {
-        Line::Text => serve_text(
-            alloc,
-            desk,
-            rows,
-            number,
-            reader.text(),
-            reader.ahead(),
-            outbox,
-        ),
-        Line::Long => serve_long(alloc, desk, number, outbox),
-        Line::End => Err(desk.ended(Ending::Fine)),
-        Line::Fault => Err(desk.ended(Ending::ReadFault)),
-        Line::Limit => {
-            let taken = reader.taken();
-            Err(desk.ended(Ending::InputLimit { taken }))
-        }
+    match desk.commit(session) {
+        Ok(taken) => reply_to(alloc, taken.desk, taken.reply, outbox),
+        Err(ran) => Err(ran),
     }
 }
 
@@ -238,8 +267,8 @@ pub fn serve<H: House, S: Source, K: Sink>(
     whole_joins();
     whole_part_of_passed();
 
+    // The readers have large buffers and a house is large: all stay where they are. A commit alone moves the house.
     let mut desk = desk;
-    // A house is moved from line to line; the readers have large buffers, and stay where they are.
     let mut rows = RowReader::new(alloc);
     let mut reader = LineReader::new(INPUT_LIMIT);
     let mut outbox = Outbox::new(alloc);
@@ -250,15 +279,22 @@ pub fn serve<H: House, S: Source, K: Sink>(
         }
         match serve_line(
             alloc,
-            desk,
+            &mut desk,
             &mut rows,
             &mut reader,
             number,
             &mut outbox,
             source,
         ) {
-            Ok(next) => desk = next,
-            Err(ran) => return close(ran, &mut outbox, sink),
+            Ok(None) => {
+                number += 1;
+                continue 'lines;
+            }
+            Ok(Some(session)) => match serve_commit(alloc, desk, session, &mut outbox) {
+                Ok(next) => desk = next,
+                Err(ran) => return close(ran, &mut outbox, sink),
+            },
+            Err(ending) => return close(desk.ended(ending), &mut outbox, sink),
         }
         number += 1;
     }
