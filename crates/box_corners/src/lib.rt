@@ -13,4 +13,4 @@ pub mod meeting;
 mod subset;
 
 pub use corners::{integral_corner, meet_corner, object_corner};
-pub use subset::sign;
+pub use subset::{is_in_subset, sign};

@@ -19,7 +19,7 @@ pub fn sign(subset: u8, value: u128) -> u128
 }
 
 /// Whether the dimension (0 to 2) belongs to the subset.
-pub(crate) fn is_in_subset(dimension: u8, subset: u8) -> bool
+pub fn is_in_subset(dimension: u8, subset: u8) -> bool
     requires { dimension < 3 }
     ensures { result ≡ belongs dimension subset }
 {

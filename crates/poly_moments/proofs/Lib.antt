@@ -10,3 +10,4 @@ mod SubsetSums
 mod ObjectLaw
 mod ResidueSums
 mod ListLaw
+mod Corners

@@ -1,10 +1,11 @@
 -- The steps of loops that multiply and add residues: the residue of the product or sum so far.
-use Rattle.std.proofs.Common.{List, ◌/◌, neg_ℤ, lit<, [], ◌∷◌, ◌++◌, length, get_or, take, add-one, ◌≡◌, ℕ, ◌+◌, ◌*◌, ◌%◌, ◌^◌, ◌<◌, ℤ, pos, ◌+ℤ◌, ◌*ℤ◌, arith, refl, ◌∙◌, ap, sym}
+use Rattle.std.proofs.Common.{List, zero, suc, inl, inr, ◌/◌, neg_ℤ, [], ◌∷◌, ◌++◌, length, get_or, take, add-one, ◌≡◌, ℕ, ◌+◌, ◌*◌, ◌%◌, ◌^◌, ◌<◌, ℤ, pos, ◌+ℤ◌, ◌*ℤ◌, arith, refl, ◌∙◌, ap, sym}
 use Rattle.std.proofs.lemmas.Nat.{mul-mod_first}
 use Rattle.std.proofs.lemmas.Int.{ints}
 use Rattle.std.proofs.lemmas.List.{take_more}
 use Rattle.std.specs.Int.{int_pow}
-use Rattle.std.proofs.lemmas.Bool.{ne_eqb, eq-eqb}
+use Rattle.std.proofs.lemmas.Bool.{cases_lt, ne_eqb, eq-eqb}
+use Rattle.std.proofs.Math.IntN.{zero-*ℤ, *ℤ-zero}
 use Rattle.bw_types.specs.Residues.{residue, opposite_residue}
 use Rattle.bw_types.specs.ResidueLaws.{residue_of_sum, residue_of_product, residue_of_natural, residue_of_small, residue_of_opposite}
 use Rattle.bw_types.specs.Tally.{int_product_below, int_sum_by}
@@ -47,15 +48,24 @@ coefficient-highest e f c h = let ne : f ≡ 0 → ⊥ = λ z. omega arith in rw
 pub coefficient-other : (e f : ℕ) (c : ℤ) → (f ≡ 0 → ⊥) → (f ≡ e + 1 → ⊥) → coefficient e f c ≡ pos 0
 coefficient-other e f c low high = rw (ne_eqb f 0 low, ne_eqb f (e + 1) high) refl
 
-pub constant_is : (e f : ℕ) (c : ℤ) (scale power product result : ℕ) → f ≡ 0 → scale ≡ 6 / (e + 1) → power ≡ residue (int_pow c (e + 1)) → product ≡ scale * power % 2 ^ 128 → result ≡ opposite_residue product
+pub constant_is : (e f : ℕ) (c : ℤ) (at_corner result : ℕ) → f ≡ 0 → at_corner ≡ residue (primitive e c) → result ≡ opposite_residue at_corner
     → result ≡ residue (coefficient e f c)
-constant_is e f c scale power product result low is_scale is_power is_product now =
-    now ∙ ap opposite_residue (is_product ∙ ap (λ s. s * power % 2 ^ 128) is_scale ∙ ap (λ p. 6 / (e + 1) * p % 2 ^ 128) is_power ∙ sym (residue_of_times (6 / (e + 1)) (int_pow c (e + 1))))
-    ∙ sym (residue_of_opposite (primitive e c)) ∙ ap residue (sym (coefficient-constant e f c low))
+constant_is e f c at_corner result low is_there now =
+    now ∙ ap opposite_residue is_there ∙ sym (residue_of_opposite (primitive e c)) ∙ ap residue (sym (coefficient-constant e f c low))
+
+-- the primitive from the power
+pub primitive_is : (e : ℕ) (c : ℤ) (scale power product : ℕ) → scale ≡ 6 / (e + 1) → power ≡ residue (int_pow c (e + 1)) → product ≡ scale * power % 2 ^ 128 → product ≡ residue (primitive e c)
+primitive_is e c scale power product is_scale is_power is_product =
+    is_product ∙ ap (λ s. s * power % 2 ^ 128) is_scale ∙ ap (λ p. 6 / (e + 1) * p % 2 ^ 128) is_power ∙ sym (residue_of_times (6 / (e + 1)) (int_pow c (e + 1)))
+
+-- a product with a factor 0 is 0
+pub product-zero : (n i : ℕ) (f : ℕ → ℤ) → i < n → f i ≡ pos 0 → int_product_below n f ≡ pos 0
+product-zero zero i f lt z = absurd (omega arith)
+product-zero (suc n) i f lt z = elim (cases_lt i n) [
+  | inl below ↦ ap (λ x. x *ℤ f n) (product-zero n i f below z) ∙ zero-*ℤ (f n)
+  | inr above ↦ (let e : i ≡ n = omega arith in ap (λ x. int_product_below n f *ℤ x) (sym (ap f e) ∙ z) ∙ *ℤ-zero (int_product_below n f))
+]
 
 pub highest_is : (e f : ℕ) (c : ℤ) (scale : ℕ) → f ≡ e + 1 → scale ≡ 6 / (e + 1) → scale ≡ residue (coefficient e f c)
 highest_is e f c scale high is_scale =
     is_scale ∙ sym (residue_of_small (6 / (e + 1)) (omega (arith, quotient_small e))) ∙ ap residue (sym (coefficient-highest e f c high))
-
-pub other_is : (e f : ℕ) (c : ℤ) → (f ≡ 0 → ⊥) → (f ≡ e + 1 → ⊥) → 0 ≡ residue (coefficient e f c)
-other_is e f c low high = sym (residue_of_small 0 (lit< tt)) ∙ ap residue (sym (coefficient-other e f c low high))

@@ -1,3 +1,4 @@
 pub mod Planes
 pub mod Integrals
 pub mod PlaneSums
+pub mod Powers

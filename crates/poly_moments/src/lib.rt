@@ -13,5 +13,6 @@ mod reaches;
 mod sums;
 
 pub use exponents::exponent;
-pub use planes::{eval, plane_count, plane_weight};
+pub use planes::{eval, plane_count, plane_weight, plane_weight_by};
+pub use powers::{BoxPowers, box_powers};
 pub use sums::mass;

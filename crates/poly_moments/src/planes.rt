@@ -5,11 +5,13 @@ ghost use Rattle.std.specs.List.{slice_index_or};
 ghost use Rattle.bw_types.specs.Residues.{residue};
 ghost use Rattle.bw_types.specs.Fits.{IsInRange, object_fits, coefficient_count};
 ghost use Rattle.bw_types.specs.Integral.{exponent_lists};
+ghost use Rattle.box_corners.specs.Corners.{object_corner};
 ghost use Rattle.poly_moments.specs.Planes.{corner_coefficient, corner_sum, plane_count, plane_exponents, plane_weight, monomial, planes_value};
+ghost use Rattle.poly_moments.specs.Powers.{ArePowersOf};
 
 use crate::exponents::exponent;
-use crate::powers::{factor, power};
-use box_corners::{object_corner, sign};
+use crate::powers::{BoxPowers, box_powers, factor, power, power_at};
+use box_corners::sign;
 use bw_types::{Object, Params, coefficient_count, res_add, res_mul, res_of};
 
 /// How many planes there are: `(degree + 2)^dims`, or none without a degree.
@@ -37,13 +39,29 @@ pub fn plane_weight(object: &Object, params: &Params, subset: u8, plane: u8) -> 
     requires plane { plane < plane_count params.now }
     ensures { result ≡ residue (plane_weight params.now object.now subset plane) }
 {
+    plane_weight_by(&box_powers(object, params), object, params, subset, plane)
+}
+
+/// The same, by the powers of the object's box.
+pub fn plane_weight_by(
+    powers: &BoxPowers,
+    object: &Object,
+    params: &Params,
+    subset: u8,
+    plane: u8,
+) -> u128
+    requires powers { ArePowersOf params.now object.now powers.now }
+    requires in_range { IsInRange params.now }
+    requires degree { IsSome params.now.degree }
+    requires plane { plane < plane_count params.now }
+    ensures { result ≡ residue (plane_weight params.now object.now subset plane) }
+{
     let Some(degree) = params.degree else {
         return 0;
     };
-    let corner = object_corner(object, subset);
     sign(
         subset,
-        corner_sum(object, params, degree, &corner, usize::from(plane)),
+        corner_sum(powers, object, params, degree, subset, usize::from(plane)),
     )
 }
 
@@ -68,11 +86,19 @@ pub fn eval(planes: &[u128], params: &Params, at: &[u32; 3]) -> u128
 }
 
 // The coefficient of the plane's monomial in the polynomial of a corner, without the sign of its subset.
-fn corner_sum(object: &Object, params: &Params, degree: u8, corner: &[u32; 3], plane: usize) -> u128
+fn corner_sum(
+    powers: &BoxPowers,
+    object: &Object,
+    params: &Params,
+    degree: u8,
+    subset: u8,
+    plane: usize,
+) -> u128
+    requires powers { ArePowersOf params.now object.now powers.now }
     requires in_range { IsInRange params.now }
     requires degree { params.now.degree ≡ Some degree }
     requires plane { plane < plane_count params.now }
-    ensures { result ≡ residue (corner_sum params.now object.now degree corner.now (slice_index_or (plane_exponents params.now.dims degree) plane [])) }
+    ensures { result ≡ residue (corner_sum params.now object.now degree (object_corner object.now subset) (slice_index_or (plane_exponents params.now.dims degree) plane [])) }
 {
     let mut total: u128 = 0;
     for k in 0..coefficient_count(params) {
@@ -81,7 +107,7 @@ fn corner_sum(object: &Object, params: &Params, degree: u8, corner: &[u32; 3], p
             total,
             res_mul(
                 coefficient,
-                corner_coefficient(params, degree, corner, plane, k),
+                corner_coefficient(powers, object, params, degree, subset, plane, k),
             ),
         );
     }
@@ -90,24 +116,30 @@ fn corner_sum(object: &Object, params: &Params, degree: u8, corner: &[u32; 3], p
 
 // The coefficient of the plane's monomial in the polynomial of one term of a value function at a corner.
 fn corner_coefficient(
+    powers: &BoxPowers,
+    object: &Object,
     params: &Params,
     degree: u8,
-    corner: &[u32; 3],
+    subset: u8,
     plane: usize,
     k: usize,
 ) -> u128
+    requires powers { ArePowersOf params.now object.now powers.now }
     requires in_range { IsInRange params.now }
     requires degree { params.now.degree ≡ Some degree }
     requires plane { plane < plane_count params.now }
     requires coefficient { k < coefficient_count params.now }
-    ensures { result ≡ residue (corner_coefficient params.now corner.now (slice_index_or (plane_exponents params.now.dims degree) plane []) (slice_index_or (exponent_lists params.now.dims degree) k [])) }
+    ensures { result ≡ residue (corner_coefficient params.now (object_corner object.now subset) (slice_index_or (plane_exponents params.now.dims degree) plane []) (slice_index_or (exponent_lists params.now.dims degree) k [])) }
 {
     let dims = usize::from(params.dims);
     let mut product: u128 = 1;
     for i in 0..dims {
-        let e = exponent(k, i, dims, usize::from(degree)) as u32;
-        let f = exponent(plane, i, dims, usize::from(degree) + 1) as u32;
-        product = res_mul(product, factor(e, f, corner[i], params.origin));
+        let e = exponent(k, i, dims, usize::from(degree));
+        let f = exponent(plane, i, dims, usize::from(degree) + 1);
+        let Some(factor) = factor(e as u32, f as u32, power_at(powers, subset, i, e)) else {
+            return 0;
+        };
+        product = res_mul(product, factor);
     }
     product
 }
@@ -131,6 +163,7 @@ fn monomial(params: &Params, degree: u8, at: &[u32; 3], plane: usize) -> u128
 #[cfg(test)]
 mod tests {
     use super::*;
+    use box_corners::object_corner;
     use bw_types::{object_fits, res_signed};
     use std::test::Fail;
 

@@ -8,6 +8,7 @@ use Rattle.bw_types.specs.ResidueLaws.{residue_of_small}
 use Rattle.bw_types.specs.Residues.{residue}
 use Rattle.bw_types.specs.Tally.{int_sum_by}
 use Rattle.bw_types.specs.Integral.{exponent_lists}
+use Rattle.box_corners.specs.Corners.{object_corner}
 use Rattle.poly_moments.specs.Planes.{corner_coefficient, plane_exponents}
 use Rattle.poly_moments.proofs.Digits.{length-exponent_lists}
 use Rattle.poly_moments.proofs.Steps.{sum_step, scaled}
@@ -22,7 +23,7 @@ loop-k-preserved c =
     let coeffs = c.args.object.now.coeffs in
     let lists = exponent_lists params.dims c.args.degree in
     let fs : List ℕ = slice_index_or (plane_exponents params.dims c.args.degree) c.args.plane [] in
-    let term = λ (p : ℤ × List ℕ). p.0 *ℤ corner_coefficient params c.args.corner.now fs p.1 in
+    let term = λ (p : ℤ × List ℕ). p.0 *ℤ corner_coefficient params (object_corner c.args.object.now c.args.subset) fs p.1 in
     let degree : c.args.degree ≤ 2 = rw c.requires.degree at c.requires.in_range.degree in
     let counted : c.coefficient_count-k-end.result ≡ (c.args.degree + 1) ^ params.dims = rw c.requires.degree at c.coefficient_count-k-end.ensures.count in
     let some : c.loop-k.k < length lists = omega (arith, length-exponent_lists params.dims c.args.degree c.requires.in_range.dims (omega arith)) in
@@ -34,7 +35,7 @@ loop-k-preserved c =
     let wide : FitsSigned w128 c.from.result = search rules in
     let is_first : c.res_of-coefficient.result ≡ residue (get_or coeffs c.loop-k.k (pos 0)) = c.res_of-coefficient.ensures ∙ ap residue (to_z-of_z w128 c.from.result wide ∙ read) in
     let is : c.res_mul.result ≡ residue (term (get_or coeffs c.loop-k.k (pos 0), get_or lists c.loop-k.k [])) =
-    scaled (get_or coeffs c.loop-k.k (pos 0)) (corner_coefficient params c.args.corner.now fs (get_or lists c.loop-k.k [])) c.res_of-coefficient.result c.corner_coefficient.result c.res_mul.result is_first c.corner_coefficient.ensures c.res_mul.ensures in
+    scaled (get_or coeffs c.loop-k.k (pos 0)) (corner_coefficient params (object_corner c.args.object.now c.args.subset) fs (get_or lists c.loop-k.k [])) c.res_of-coefficient.result c.corner_coefficient.result c.res_mul.result is_first c.corner_coefficient.ensures c.res_mul.ensures in
     sum_step term (zip coeffs lists) c.loop-k.k (pos 0, []) c.loop-k.total c.res_mul.result c.res_add-total.result within c.loop-k.invariant (is ∙ ap (λ p. residue (term p)) (sym at)) c.res_add-total.ensures
 
 pub returns : goal.returns
@@ -43,7 +44,7 @@ returns c =
     let coeffs = c.args.object.now.coeffs in
     let lists = exponent_lists params.dims c.args.degree in
     let fs : List ℕ = slice_index_or (plane_exponents params.dims c.args.degree) c.args.plane [] in
-    let term = λ (p : ℤ × List ℕ). p.0 *ℤ corner_coefficient params c.args.corner.now fs p.1 in
+    let term = λ (p : ℤ × List ℕ). p.0 *ℤ corner_coefficient params (object_corner c.args.object.now c.args.subset) fs p.1 in
     let degree : c.args.degree ≤ 2 = rw c.requires.degree at c.requires.in_range.degree in
     let counted : c.coefficient_count-k-end.result ≡ (c.args.degree + 1) ^ params.dims = rw c.requires.degree at c.coefficient_count-k-end.ensures.count in
     let past : length (zip coeffs lists) ≤ c.loop-k.k =
