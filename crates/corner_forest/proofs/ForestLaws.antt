@@ -1,5 +1,5 @@
 -- The laws of forests.
-use Rattle.std.proofs.Common.{◌≡◌, ℕ, zero, suc, ◌≤◌, List, [], ◌∷◌, ◌++◌, replicate, refl, sym, ap, ◌∙◌, subst, append_assoc, IsPermutation}
+use Rattle.std.proofs.Common.{◌≡◌, ℕ, zero, suc, ◌+◌, ◌≤◌, ◌^◌, get_or, length, List, [], ◌∷◌, ◌++◌, replicate, refl, sym, ap, ◌∙◌, subst, arith, append_assoc, IsPermutation}
 use Rattle.std.specs.List.{All, flat_map}
 use Rattle.std.proofs.lemmas.List.{length-replicate}
 use Rattle.std.proofs.lemmas.List.Elements.{All-cons, All-nil}
@@ -15,11 +15,13 @@ use Rattle.page_layout.specs.Footprint.{NamesNoneTwice}
 use Rattle.poly_moments.specs.PlaneSums.{Entered, EnteredFits}
 use Rattle.dom_index.specs.declared.index.DomIndex.{Ghosts}
 use Rattle.corner_forest.specs.Entries.{entry_points, root_count, root_points}
-use Rattle.corner_forest.specs.Laws.{EmptyForestStands, ForestPagesAreThere, ForestStandsByItsPages, EntryStandsAnywhere}
+use Rattle.corner_forest.specs.Laws.{EmptyForestStands, ForestPagesAreThere, ForestStandsByItsPages, EntryStandsAnywhere, TreesCountTheirPoints}
 use Rattle.corner_forest.specs.Stands.{AreBalanced}
 use Rattle.corner_forest.specs.Trees.{EachStands, trees_pages}
 use Rattle.corner_forest.proofs.Changing.{each_by_pages, each_there}
 use Rattle.corner_forest.proofs.Entering.{each_low, each_with, each_without}
+use Rattle.corner_forest.proofs.Newness.{length_root}
+use Rattle.corner_forest.proofs.Places.{stands_at}
 
 module _ {X : Type 0} (g : Ghosts X)
     (empty : (pages : PageMap) (dims : ℕ) → 1 ≤ dims → dims ≤ g.DIMS → g.stands pages dims empty_tree [] × (g.footprint pages dims empty_tree ≡ []) × g.balanced pages dims empty_tree) where
@@ -102,3 +104,13 @@ module _ {X : Type 0} (g : Ghosts X)
       each_there (λ m t ps. g.stands m params.dims t ps) (λ m t. g.footprint m params.dims t)
       (λ m n t ps s agree. by_its_pages m n params.dims t ps s agree) (λ m t ps s. in_map m params.dims t ps s) (λ m t ps s. single m params.dims t ps s)
       pages (root_points params entries) 0 roots s.trees
+
+module _ {X : Type 0} (g : Ghosts X)
+    (counted : (pages : PageMap) (dims : ℕ) (tree : Tree) (points : List Point) → g.stands pages dims tree points → (tree.count ≡ length points) × (length points ≤ 2 ^ 31) × (tree.levels ≡ 0 → points ≡ [])) where
+  pub trees_count : TreesCountTheirPoints g
+  trees_count pages params roots entries s root lt =
+      let count = s.count in
+      let from_zero : 0 + root ≡ root = omega arith in
+      let here = subst (λ (k : ℕ). g.stands pages params.dims (get_or roots root empty_tree) (root_points params entries k)) from_zero
+      (stands_at (g.stands pages params.dims) (root_points params entries) 0 roots root empty_tree s.trees (omega (arith, lt, count))) in
+      (counted pages params.dims (get_or roots root empty_tree) (root_points params entries root) here).0 ∙ length_root params entries root

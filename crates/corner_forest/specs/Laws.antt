@@ -1,5 +1,5 @@
 -- What the crates above know of forests, beside the contracts of the calls.
-use Rattle.std.specs.Prelude.{◌≡◌, ◌≤◌, ◌↔◌, List, [], ◌∷◌, ◌++◌, length, replicate}
+use Rattle.std.specs.Prelude.{◌≡◌, ℕ, ◌*◌, ◌<◌, ◌≤◌, ◌↔◌, List, [], ◌∷◌, ◌++◌, length, get_or, replicate}
 use Rattle.std.specs.List.{All}
 use Rattle.bw_types.specs.Empty.{empty_tree}
 use Rattle.bw_types.specs.Fits.{IsInRange}
@@ -9,7 +9,7 @@ use Rattle.page_ports.specs.Frame.{AgreeOn, AreInMap}
 use Rattle.page_ports.specs.Pages.{PageMap}
 use Rattle.poly_moments.specs.PlaneSums.{Entered}
 use Rattle.dom_index.specs.declared.index.DomIndex.{Ghosts}
-use Rattle.corner_forest.specs.Entries.{root_count}
+use Rattle.corner_forest.specs.Entries.{point_count, root_count}
 use Rattle.corner_forest.specs.Enters.{first_pages}
 use Rattle.corner_forest.specs.Stands.{AreBalanced, ForestStands, forest_pages}
 
@@ -40,3 +40,9 @@ ForestPagesAreThere g = (pages : PageMap) (params : Params) (roots : List Tree) 
 abbrev pub FirstPagesAreTakenOnce : Type 0
 FirstPagesAreTakenOnce = (params : Params) (roots : List Tree) → (first_pages params roots ≤ root_count params)
     × (length roots ≡ root_count params → All (λ t. t.levels ≡ 1) roots → first_pages params roots ≡ 0)
+
+-- Each tree of a forest that stands counts its points: so many for each entry.
+abbrev pub TreesCountTheirPoints : {X : Type 0} → Ghosts X → Type 0
+TreesCountTheirPoints g = (pages : PageMap) (params : Params) (roots : List Tree) (entries : List Entered)
+    → ForestStands g pages params roots entries → (root : ℕ) → root < root_count params
+    → (get_or roots root empty_tree).count ≡ length entries * point_count params root

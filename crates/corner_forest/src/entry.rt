@@ -1,5 +1,5 @@
 //! Entering an object.
-ghost use Rattle.std.specs.Prelude.{◌≡◌, ◌≢◌, ◌+◌, ◌-◌, ◌*◌, ◌^◌, ◌<◌, ◌≤◌, ◌⊎◌, ℕ, List, ◌∷◌, length, Err, IsTrue, IfOk, OnOk, OnErr};
+ghost use Rattle.std.specs.Prelude.{◌≡◌, ◌≢◌, ◌+◌, ◌-◌, ◌*◌, ◌^◌, ◌<◌, ◌≤◌, ◌⊎◌, ℕ, List, ◌∷◌, length, Err, IsTrue, IsSome, IfOk, OnOk, OnErr};
 ghost use Rattle.std.specs.List.{All, sum_by, range_with_len};
 ghost use Rattle.bw_types.specs.Fits.{IsInRange, object_fits};
 ghost use Rattle.bw_types.specs.declared.point.Point.{Point};
@@ -7,6 +7,7 @@ ghost use Rattle.page_ports.specs.Calls.{Changes};
 ghost use Rattle.page_layout.specs.Footprint.{NamesNoneTwice};
 ghost use Rattle.page_layout.specs.TreeValue.{IsTreeTyped, tree_fits};
 ghost use Rattle.poly_moments.specs.PlaneSums.{Entered};
+ghost use Rattle.poly_moments.specs.Powers.{ArePowersOf};
 ghost use Rattle.corner_forest.specs.EntryDamage.{AdditionsMayLeave, IsDamagedForEntry, IsDamagedForPoints};
 ghost use Rattle.corner_forest.specs.Enters.{AreNewPoints, EntryHasRoom, ForestEnters, TakesMore, TreeEnters, entered, entry_of, entry_growth, first_pages};
 ghost use Rattle.bw_types.specs.Heights.{added_pages};
@@ -20,6 +21,7 @@ use arrayvec::ArrayVec;
 use bw_types::{Object, Params, Tree};
 use dom_index::DomIndex;
 use page_ports::{Stage, StageFault};
+use poly_moments::{BoxPowers, box_powers};
 
 /// Adds the object's corner points to every tree, with the opposite weights where `minus`.
 ///
@@ -153,11 +155,20 @@ fn enter_all<X: DomIndex, S: Stage>(
         → 2 ≤ params.now.dims → EntryHasRoom params.now old.now → All (λ t. t.levels ≡ 1) roots.items) }
 {
     X::index_laws();
+    let powers = box_powers(object, params);
     let count = root_count(params);
     let mut roots = ArrayVec::new();
     for place in 0..count {
         let mut root = old[place];
-        enter_root::<X, S>(stage, params, &mut root, place as u8, object, stamp)?;
+        enter_root::<X, S>(
+            stage,
+            params,
+            &powers,
+            &mut root,
+            place as u8,
+            object,
+            stamp,
+        )?;
         roots.push(root);
     }
     Ok(roots)
@@ -167,6 +178,7 @@ fn enter_all<X: DomIndex, S: Stage>(
 fn enter_root<X: DomIndex, S: Stage>(
     stage: &mut S,
     params: &Params,
+    powers: &BoxPowers,
     root: &mut Tree,
     place: u8,
     object: &Object,
@@ -174,6 +186,7 @@ fn enter_root<X: DomIndex, S: Stage>(
 ) -> Result<(), StageFault>
     requires in_range { IsInRange params.now }
     requires dims { params.now.dims ≤ X.DIMS }
+    requires powers { IsSome params.now.degree → ArePowersOf params.now object.now powers.now }
     requires fits { IsTrue (object_fits params.now object.now) }
     requires event { stamp.event < 2 ^ 28 }
     requires version { stamp.version < 2 ^ 32 - 1 }
@@ -207,7 +220,7 @@ fn enter_root<X: DomIndex, S: Stage>(
     X::index_laws();
     let count = point_count(params, place);
     for i in 0..count {
-        let point = entry_point(params, object, stamp, place, count - 1 - i);
+        let point = entry_point(params, powers, object, stamp, place, count - 1 - i);
         X::add(stage, params.dims, root, &point)?;
     }
     Ok(())

@@ -4,6 +4,7 @@ ghost use Rattle.bw_types.specs.Fits.{IsInRange, object_fits};
 ghost use Rattle.bw_types.specs.Keys.{point_key as key_of_point};
 ghost use Rattle.box_corners.specs.Corners.{corner_keys};
 ghost use Rattle.dom_index.specs.Points.{AreKeysBelow};
+ghost use Rattle.poly_moments.specs.Powers.{ArePowersOf};
 ghost use Rattle.corner_forest.specs.Enters.{entered};
 ghost use Rattle.corner_forest.specs.Entries.{corner_count as count_of_corners, entered_residue, entry_point as point_of_entry, root_count};
 
@@ -11,11 +12,19 @@ use crate::forest::corner_count;
 use crate::stamp::Stamp;
 use box_corners::object_corner;
 use bw_types::{Object, Params, Point, point_key, res_neg, res_of};
-use poly_moments::plane_weight;
+use poly_moments::{BoxPowers, plane_weight_by};
 
-/// The entry's point in a tree; in a plane that of this corner.
-pub fn entry_point(params: &Params, object: &Object, stamp: Stamp, root: u8, corner: u8) -> Point
+/// The entry's point in a tree; in a plane that of this corner, by the powers of the object's box.
+pub fn entry_point(
+    params: &Params,
+    powers: &BoxPowers,
+    object: &Object,
+    stamp: Stamp,
+    root: u8,
+    corner: u8,
+) -> Point
     requires in_range { IsInRange params.now }
+    requires powers { IsSome params.now.degree → ArePowersOf params.now object.now powers.now }
     requires fits { IsTrue (object_fits params.now object.now) }
     requires event { stamp.event < 2 ^ 28 }
     requires root { root < root_count params.now }
@@ -41,7 +50,7 @@ pub fn entry_point(params: &Params, object: &Object, stamp: Stamp, root: u8, cor
     let number = stamp.event * u32::from(corners) + u32::from(corner);
     let weight = weighed(
         stamp,
-        plane_weight(object, params, corner, root - 2 * corners),
+        plane_weight_by(powers, object, params, corner, root - 2 * corners),
     );
     corner_point(params, object, number, stamp.version, corner, weight)
 }

@@ -131,7 +131,10 @@ loop-i-preserved g c =
     let added = points_from params e c.args.place (n - i) i in
     let lt : i < n = c.loop-i-test.true in
     record {
-      went = search rules;
+      went =
+          let pages = g.S.Pages in
+          let there : ℕ = pages.allotted c.add.new.stage in
+          went_then pages (pages.allotted c.loop-i.stage + 1) (there + 1) (there + 1) c.args.stage.now c.loop-i.stage c.add.new.stage c.loop-i.invariant.went c.in_ok-add.ensures.changes.went_on (omega arith);
       enters = λ tells points stands new.
           let entered_so_far = c.loop-i.invariant.enters tells points stands new in
           let is_new = subst (λ (q : Point). IsNewPoint dims (added ++ points) q) (sym c.entry_point-point.ensures.point)

@@ -1,6 +1,6 @@
 use Rattle.std.proofs.Common.{arith}
 use Rattle.corner_forest.specs.Entries.{root_count}
-use Rattle.corner_forest.proofs.ForestLaws.{empty_forest_stands, forest_by_its_pages, entry_stands_anywhere, forest_pages_there}
+use Rattle.corner_forest.proofs.ForestLaws.{empty_forest_stands, forest_by_its_pages, entry_stands_anywhere, forest_pages_there, trees_count}
 use Rattle.corner_forest.proofs.Lists.{few_first_pages, no_first_pages}
 use Rattle.corner_forest.proofs.laws.forest_laws.Goals as goal
 
@@ -18,3 +18,6 @@ returns-clause-in_map g c = forest_pages_there g.X.DomIndex c.index_laws.ensures
 
 pub returns-clause-first_pages : goal.returns-clause-first_pages
 returns-clause-first_pages g c = λ params roots. (few_first_pages roots (root_count params), λ count all. no_first_pages roots (root_count params) (omega (arith, count)) all)
+
+pub returns-clause-counted : goal.returns-clause-counted
+returns-clause-counted g c = trees_count g.X.DomIndex c.index_laws.ensures.counted
