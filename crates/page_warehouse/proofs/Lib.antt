@@ -17,3 +17,4 @@ pub mod MetaSet
 pub mod Outcomes
 pub mod Drafted
 pub mod Same
+pub mod Small

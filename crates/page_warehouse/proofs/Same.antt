@@ -62,3 +62,20 @@ module _ {H D : Type 0} where
   kept_at_limit (NoMemory house) P Q R f p q = tt
   kept_at_limit (Damaged house page) P Q R f p q = tt
   kept_at_limit (Disk device) P Q R f p q = tt
+
+  -- a clause, and another one where S is so
+  pub limit_both : (r : Committed H D) (S : Type 0) (P Q : H → ℕ → Type 0) → IfPageLimit r P → (S → IfPageLimit r Q) → IfPageLimit r (λ house allotted. P house allotted × (S → Q house allotted))
+  limit_both (Done house version) S P Q p q = tt
+  limit_both (Refused house refusal) S P Q p q = tt
+  limit_both (PageLimit house allotted) S P Q p q = (p, q)
+  limit_both (NoMemory house) S P Q p q = tt
+  limit_both (Damaged house page) S P Q p q = tt
+  limit_both (Disk device) S P Q p q = tt
+
+  pub done_both : (r : Committed H D) (S : Type 0) (P Q : H → ℕ → Type 0) → IfDone r P → (S → IfDone r Q) → IfDone r (λ house version. P house version × (S → Q house version))
+  done_both (Done house version) S P Q p q = (p, q)
+  done_both (Refused house refusal) S P Q p q = tt
+  done_both (PageLimit house allotted) S P Q p q = tt
+  done_both (NoMemory house) S P Q p q = tt
+  done_both (Damaged house page) S P Q p q = tt
+  done_both (Disk device) S P Q p q = tt

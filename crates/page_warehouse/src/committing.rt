@@ -12,7 +12,7 @@ ghost use Rattle.page_space.specs.Shown.{begun_of, disk_of, meta_of, params_of};
 ghost use Rattle.session_book.specs.declared.refusals.BookFault.{BookFault};
 ghost use Rattle.warehouse.specs.Committed.{IfDisk, IfDone, IfKept, IfPageLimit, IsCommitCause, device_out, with_batch};
 ghost use Rattle.page_warehouse.specs.Holds.{Holds, table_form};
-ghost use Rattle.page_warehouse.specs.Needs.{batch_need, charge_of, meta_charge};
+ghost use Rattle.page_warehouse.specs.Needs.{StaysSmall, batch_need, charge_of, meta_charge, small_need};
 
 use crate::Warehouse;
 use crate::drafting::{Counts, draft};
@@ -22,6 +22,7 @@ use crate::seen::TableSeen;
 use bw_types::{Refusal, Row};
 use change_laws::table_tells_ids;
 use corner_forest::Forest;
+use corner_forest::laws::forest_laws;
 use dom_index::DomIndex;
 use history_laws::histories_grow_by_lawful_batches;
 use object_table::Form;
@@ -87,8 +88,10 @@ impl<D: Disk, X: DomIndex> Warehouse<D, X> {
         requires mass { (meta_of space).mass < 2 ^ 126 }
         ensures { space_in result ≡ space }
     {
-        let mut forest = Forest::new(&space.params());
-        forest.roots = copied(space.meta().roots.as_slice());
+        let forest = Forest {
+            params: space.params(),
+            roots: copied(space.meta().roots.as_slice()),
+        };
         Warehouse {
             alloc,
             space,
@@ -196,6 +199,14 @@ impl<D: Disk, X: DomIndex> Warehouse<D, X> {
         ensures charge_done { (h : History) → HoldsHistory D.Disk X.DomIndex true (disk_in self) (params_in self) h
             → IsLawfulBatch (params_in self) h (flat rows.now) → IfDone result (λ house version.
             charge_of (D.image (disk_in house)) ≤ charge_of (D.image (disk_in self)) + batch_need (params_in self) h rows.now) }
+        ensures small_limit { (h : History) → HoldsHistory D.Disk X.DomIndex true (disk_in self) (params_in self) h
+            → IsLawfulBatch (params_in self) h (flat rows.now) → StaysSmall (D.image (disk_in self)) (params_in self) h rows.now
+            → IfPageLimit result (λ house allotted.
+            (params_in self).pages < charge_of (D.image (disk_in self)) + small_need (params_in self) (length (flat rows.now))) }
+        ensures small_done { (h : History) → HoldsHistory D.Disk X.DomIndex true (disk_in self) (params_in self) h
+            → IsLawfulBatch (params_in self) h (flat rows.now) → StaysSmall (D.image (disk_in self)) (params_in self) h rows.now
+            → IfDone result (λ house version.
+            charge_of (D.image (disk_in house)) ≤ charge_of (D.image (disk_in self)) + small_need (params_in self) (length (flat rows.now))) }
         ensures disk { IfDisk result (Rose (D.faults (disk_in self)) (D.faults (device_out disk_in result))) }
         ensures faults { D.faults (disk_in self) ≤ D.faults (device_out disk_in result) }
     {
@@ -203,6 +214,7 @@ impl<D: Disk, X: DomIndex> Warehouse<D, X> {
         holds_one();
         settling_laws();
         histories_grow_by_lawful_batches();
+        forest_laws::<X>();
         self.space.is_held();
         self.is_charged();
         let Warehouse {

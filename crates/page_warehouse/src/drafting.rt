@@ -10,9 +10,10 @@ ghost use Rattle.history_laws.specs.Bounds.{HasSmallWeight};
 ghost use Rattle.page_ports.specs.Calls.{Changes};
 ghost use Rattle.page_space.specs.MetaSet.{FitsBesideCounts, with_counts_of};
 ghost use Rattle.page_space.specs.Shown.{IsMetaSet, base_of, disk_under, staged_map, staged_meta};
+ghost use Rattle.corner_forest.specs.Enters.{first_pages};
 ghost use Rattle.change_laws.specs.Begun.{with_changes};
 ghost use Rattle.page_warehouse.specs.Entering.{FormKeeps, KeepsOn, PagesKeep, RootsFit, StayRoots};
-ghost use Rattle.page_warehouse.specs.Needs.{changes_need};
+ghost use Rattle.page_warehouse.specs.Needs.{StayOnePage, changes_need};
 ghost use Rattle.page_warehouse.specs.NextMeta.{IsNextMeta};
 
 use crate::masses::mass_with;
@@ -53,6 +54,11 @@ pub(crate) fn draft<D: Disk, X: DomIndex>(
         → FormKeeps X.DomIndex by_ids (staged_map stage.old) roots.old h
         → KeepsOn ⟦<Staged<D> as Pages>⟧ ((if by_ids then 8 * roots.old.table.count else 0) + changes_need roots.old.forest.params (length (changes h)) (length (flat rows.now))) stage.old stage.new result
         (PagesKeep X.DomIndex (staged_map stage.new) roots.new (with_changes h (flat rows.now))) }
+    ensures small { IsTrue (D.tells (disk_under stage.old)) → (h : History) → IsLawful roots.old.forest.params h
+        → IsLawfulBatch roots.old.forest.params h (flat rows.now) → before.version ≡ last_version h → before.rows ≡ length (changes h)
+        → FormKeeps X.DomIndex by_ids (staged_map stage.old) roots.old h
+        → StayOnePage roots.old.forest.params (length (changes h) + length (flat rows.now)) roots.old.forest.roots.items
+        → Changes ⟦<Staged<D> as Pages>⟧ ((if by_ids then 8 * roots.old.table.count else 0) + (8 * length (flat rows.now) + first_pages roots.old.forest.params roots.old.forest.roots.items)) stage.old stage.new result }
     ensures roots { StayRoots X.DIMS roots.old roots.new result }
     ensures meta { OnOk result (IsNextMeta before (length (flat rows.now)) (total_mass roots.old.forest.params (flat rows.now)) roots.new (staged_meta stage.new)) }
     ensures weights { OnOk result (All HasSmallWeight (flat rows.now)) }

@@ -1,6 +1,6 @@
 //! One change more in the table and in the trees.
-ghost use Rattle.std.specs.Prelude.{◌≡◌, ℕ, ◌+◌, ◌-◌, ◌*◌, ◌^◌, ◌<◌, ◌≤◌, List, [], ◌∷◌, ◌++◌, length, IsTrue, IfOk, IfSome, Some, None};
-ghost use Rattle.std.specs.List.{list_all};
+ghost use Rattle.std.specs.Prelude.{◌≡◌, ℕ, ◌+◌, ◌-◌, ◌*◌, ◌^◌, ◌<◌, ◌≤◌, List, [], ◌∷◌, ◌++◌, length, IsTrue, IfOk, OnOk, IfSome, Some, None};
+ghost use Rattle.std.specs.List.{All, list_all};
 ghost use Rattle.std.specs.Option.{option_map_or};
 ghost use Rattle.page_layout.specs.Dated.{by_life_fits};
 ghost use Rattle.bw_types.specs.declared.dated.Dated.{Dated};
@@ -11,10 +11,11 @@ ghost use Rattle.bw_types.specs.declared.change.Change.{Change};
 ghost use Rattle.bw_types.specs.declared.change.Change.TheVariants as change;
 ghost use Rattle.bw_types.specs.declared.row.Row.{Row};
 ghost use Rattle.page_ports.specs.Calls.{Changes};
+ghost use Rattle.corner_forest.specs.Enters.{first_pages};
 ghost use Rattle.change_laws.specs.Growth.{most_growth};
 ghost use Rattle.change_laws.specs.Begun.{next_event, next_version, with_changes};
 ghost use Rattle.page_warehouse.specs.Entering.{KeepsOn, PagesKeep, RootsFit, StayRoots};
-ghost use Rattle.page_warehouse.specs.Needs.{changes_need};
+ghost use Rattle.page_warehouse.specs.Needs.{StayOnePage, changes_need};
 
 use crate::roots::Roots;
 use bw_types::{Dated, Object, Params, Row, object_fits};
@@ -87,6 +88,12 @@ pub(crate) fn add_object<X: DomIndex, S: Stage>(
         → length (changes h) + length done + 1 ≤ most → PagesKeep X.DomIndex (S.map stage.old) roots.old (with_changes h done)
         → KeepsOn S.Pages (8 + most_growth roots.old.forest.params most) stage.old stage.new result
         (PagesKeep X.DomIndex (S.map stage.new) roots.new (with_changes h (done ++ change.Add object.now ∷ []))) }
+    ensures small { IsTrue (S.tells stage.old) → (h : History) (done later : List Change) (most : ℕ) → IsLawful roots.old.forest.params h
+        → IsLawfulBatch roots.old.forest.params h (done ++ change.Add object.now ∷ later) → version ≡ next_version h → event ≡ next_event h done
+        → length (changes h) + length done + 1 ≤ most → PagesKeep X.DomIndex (S.map stage.old) roots.old (with_changes h done)
+        → StayOnePage roots.old.forest.params most roots.old.forest.roots.items
+        → Changes S.Pages (8 + first_pages roots.old.forest.params roots.old.forest.roots.items) stage.old stage.new result
+        × OnOk result (All (λ t. t.levels ≡ 1) roots.new.forest.roots.items) }
     ensures roots { StayRoots X.DIMS roots.old roots.new result }
     ensures changes { Changes S.Pages (S.allotted stage.new + 1) stage.old stage.new result }
 {
@@ -124,6 +131,12 @@ pub(crate) fn withdraw_id<X: DomIndex, S: Stage>(
         → length (changes h) + length done + 1 ≤ most → PagesKeep X.DomIndex (S.map stage.old) roots.old (with_changes h done)
         → KeepsOn S.Pages (8 + most_growth roots.old.forest.params most) stage.old stage.new result
         (PagesKeep X.DomIndex (S.map stage.new) roots.new (with_changes h (done ++ change.Withdraw id ∷ []))) }
+    ensures small { IsTrue (S.tells stage.old) → (h : History) (done later : List Change) (most : ℕ) → IsLawful roots.old.forest.params h
+        → IsLawfulBatch roots.old.forest.params h (done ++ change.Withdraw id ∷ later) → version ≡ next_version h → event ≡ next_event h done
+        → length (changes h) + length done + 1 ≤ most → PagesKeep X.DomIndex (S.map stage.old) roots.old (with_changes h done)
+        → StayOnePage roots.old.forest.params most roots.old.forest.roots.items
+        → Changes S.Pages (8 + first_pages roots.old.forest.params roots.old.forest.roots.items) stage.old stage.new result
+        × OnOk result (All (λ t. t.levels ≡ 1) roots.new.forest.roots.items) }
     ensures roots { StayRoots X.DIMS roots.old roots.new result }
     ensures changes { Changes S.Pages (S.allotted stage.new + 1) stage.old stage.new result }
 {
@@ -161,9 +174,16 @@ pub(crate) fn enter_row<X: DomIndex, S: Stage>(
         → length (changes h) + length done + length (flat_row row.now) ≤ most → PagesKeep X.DomIndex (S.map stage.old) roots.old (with_changes h done)
         → KeepsOn S.Pages (length (flat_row row.now) * (8 + most_growth roots.old.forest.params most)) stage.old stage.new result
         (PagesKeep X.DomIndex (S.map stage.new) roots.new (with_changes h (done ++ flat_row row.now))) }
+    ensures small { IsTrue (S.tells stage.old) → (h : History) (done later : List Change) (most : ℕ) → IsLawful roots.old.forest.params h
+        → IsLawfulBatch roots.old.forest.params h (done ++ (flat_row row.now ++ later)) → version ≡ next_version h → event ≡ next_event h done
+        → length (changes h) + length done + length (flat_row row.now) ≤ most → PagesKeep X.DomIndex (S.map stage.old) roots.old (with_changes h done)
+        → StayOnePage roots.old.forest.params most roots.old.forest.roots.items
+        → Changes S.Pages (8 * length (flat_row row.now) + first_pages roots.old.forest.params roots.old.forest.roots.items) stage.old stage.new result
+        × OnOk result (All (λ t. t.levels ≡ 1) roots.new.forest.roots.items) }
     ensures roots { StayRoots X.DIMS roots.old roots.new result }
     ensures changes { Changes S.Pages (S.allotted stage.new + 1) stage.old stage.new result }
 {
+    forest_laws::<X>();
     match row {
         Row::Add(object) => {
             add_object::<X, S>(stage, roots, object, event, version)?;
@@ -199,10 +219,16 @@ pub(crate) fn enter_rows<X: DomIndex, S: Stage>(
         → PagesKeep X.DomIndex (S.map stage.old) roots.old h
         → KeepsOn S.Pages (changes_need roots.old.forest.params (length (changes h)) (length (flat rows.now))) stage.old stage.new result
         (PagesKeep X.DomIndex (S.map stage.new) roots.new (with_changes h (flat rows.now))) }
+    ensures small { IsTrue (S.tells stage.old) → (h : History) → IsLawful roots.old.forest.params h
+        → IsLawfulBatch roots.old.forest.params h (flat rows.now) → version ≡ next_version h → event ≡ length (changes h)
+        → PagesKeep X.DomIndex (S.map stage.old) roots.old h
+        → StayOnePage roots.old.forest.params (length (changes h) + length (flat rows.now)) roots.old.forest.roots.items
+        → Changes S.Pages (8 * length (flat rows.now) + first_pages roots.old.forest.params roots.old.forest.roots.items) stage.old stage.new result }
     ensures roots { StayRoots X.DIMS roots.old roots.new result }
     ensures changes { Changes S.Pages (S.allotted stage.new + 1) stage.old stage.new result }
 {
     batches_begin_alike();
+    forest_laws::<X>();
     let mut event = event;
     for row in rows {
         event = enter_row::<X, S>(stage, roots, row, event, version)?;

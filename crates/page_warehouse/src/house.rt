@@ -18,7 +18,7 @@ impl<D: Disk + Drop, X: DomIndex + Drop> House for Warehouse<D, X> {
     ghost use Rattle.bw_types.specs.History.{changes};
     ghost use Rattle.page_warehouse.specs.Costs.{query_cost};
     ghost use Rattle.page_warehouse.specs.Holds.{Holds};
-    ghost use Rattle.page_warehouse.specs.Needs.{LacksPages, batch_need, charge_of};
+    ghost use Rattle.page_warehouse.specs.Needs.{LacksPages, RisesWithin, batch_need, charge_of};
     ghost use Rattle.page_warehouse.specs.Shown.{HoldsHistory, disk_in, params_in};
 
     ghost Image = { DiskImage };
@@ -50,6 +50,8 @@ impl<D: Disk + Drop, X: DomIndex + Drop> House for Warehouse<D, X> {
     ghost charge = { λ disk. charge_of (D.image disk) };
 
     ghost need = { batch_need };
+
+    ghost rises_within = { λ disk params h rows after. RisesWithin (D.image disk) params h rows (D.image after) };
 
     ghost cost = { λ params h query. query_cost X.cost params h query };
 

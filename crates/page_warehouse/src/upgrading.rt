@@ -5,9 +5,10 @@ ghost use Rattle.bw_types.specs.Fits.{row_fits};
 ghost use Rattle.bw_types.specs.History.{History, changes, flat};
 ghost use Rattle.bw_types.specs.Lawful.{IsLawful, IsLawfulBatch};
 ghost use Rattle.page_ports.specs.Calls.{Changes};
+ghost use Rattle.corner_forest.specs.Enters.{first_pages};
 ghost use Rattle.change_laws.specs.Begun.{next_version, with_changes};
 ghost use Rattle.page_warehouse.specs.Entering.{FormKeeps, KeepsOn, OldPagesKeep, PagesKeep, RootsFit, StayRoots};
-ghost use Rattle.page_warehouse.specs.Needs.{changes_need};
+ghost use Rattle.page_warehouse.specs.Needs.{StayOnePage, changes_need};
 
 use crate::entering::enter_rows;
 use crate::roots::Roots;
@@ -25,6 +26,7 @@ fn renew_table<X: DomIndex, S: Stage>(stage: &mut S, roots: &mut Roots) -> Resul
     requires roots { RootsFit X.DIMS roots.old }
     ensures keeps_on { IsTrue (S.tells stage.old) → (h : History) → IsLawful roots.old.forest.params h → OldPagesKeep X.DomIndex (S.map stage.old) roots.old h
         → KeepsOn S.Pages (8 * roots.old.table.count) stage.old stage.new result (PagesKeep X.DomIndex (S.map stage.new) roots.new h) }
+    ensures trees { roots.new.forest ≡ roots.old.forest }
     ensures roots { StayRoots X.DIMS roots.old roots.new result }
     ensures changes { Changes S.Pages (S.allotted stage.new + 1) stage.old stage.new result }
 {
@@ -57,6 +59,11 @@ pub(crate) fn enter_batch<X: DomIndex, S: Stage>(
         → FormKeeps X.DomIndex by_ids (S.map stage.old) roots.old h
         → KeepsOn S.Pages ((if by_ids then 8 * roots.old.table.count else 0) + changes_need roots.old.forest.params (length (changes h)) (length (flat rows.now))) stage.old stage.new result
         (PagesKeep X.DomIndex (S.map stage.new) roots.new (with_changes h (flat rows.now))) }
+    ensures small { IsTrue (S.tells stage.old) → (h : History) → IsLawful roots.old.forest.params h
+        → IsLawfulBatch roots.old.forest.params h (flat rows.now) → version ≡ next_version h → event ≡ length (changes h)
+        → FormKeeps X.DomIndex by_ids (S.map stage.old) roots.old h
+        → StayOnePage roots.old.forest.params (length (changes h) + length (flat rows.now)) roots.old.forest.roots.items
+        → Changes S.Pages ((if by_ids then 8 * roots.old.table.count else 0) + (8 * length (flat rows.now) + first_pages roots.old.forest.params roots.old.forest.roots.items)) stage.old stage.new result }
     ensures roots { StayRoots X.DIMS roots.old roots.new result }
     ensures changes { Changes S.Pages (S.allotted stage.new + 1) stage.old stage.new result }
 {

@@ -66,6 +66,10 @@ pub trait House: Drop {
     /// The most pages that a batch of these rows needs on a history.
     ghost need: { Params → History → List Row → ℕ };
 
+    /// From the first device to the last the pages that count against the limit rose by no more than a batch of
+    /// these rows takes, on a history for which the first one stands.
+    ghost rises_within: { Self.Device → Params → History → List Row → Self.Device → Type 0 };
+
     /// The most reads of a query on a history.
     ghost cost: { Params → History → Query → ℕ };
 
@@ -123,6 +127,8 @@ pub trait House: Drop {
             → first_refusal (params self) h rows.now ≡ Some refusal → moments (device_out device result) ≡ moments (device self) }
         ensures charge_done { (h : History) → stands true (device self) (params self) h → IfDone result (λ house version.
             charge (device house) ≤ charge (device self) + need (params self) h rows.now) }
+        ensures rises { (h : History) → stands true (device self) (params self) h → IfDone result (λ house version.
+            rises_within (device self) (params self) h rows.now (device house)) }
         ensures charge_kept { IfKept result (λ house. charge (device house) ≡ charge (device self)) }
         ensures moments_kept { IfKept result (λ house. moments (device house) ≡ moments (device self)) }
 

@@ -191,6 +191,8 @@ impl House for ListHouse {
 
     ghost need = { λ params h rows. 0 };
 
+    ghost rises_within = { λ house params h rows after. ⊤ };
+
     ghost cost = { λ params h query. 0 };
 
     fn params(&self) -> Params {

@@ -1,4 +1,4 @@
-use Rattle.std.proofs.Common.{◌≡◌, ◌⊎◌, ◌+◌, ◌<◌, ◌≤◌, ◌^◌, true, IsTrue, List, Option, None, Ok, Err, IfOk, inl, inr, refl, sym, ◌∙◌, ap, subst}
+use Rattle.std.proofs.Common.{◌≡◌, ◌⊎◌, ◌+◌, ◌<◌, ◌≤◌, ◌^◌, true, IsTrue, List, Option, None, Ok, Err, IfOk, length, inl, inr, refl, sym, ◌∙◌, ap, subst}
 use Rattle.std.specs.List.{list_all}
 use Rattle.bw_types.specs.Fits.{row_fits}
 use Rattle.bw_types.specs.History.{History, flat, last_version}
@@ -15,10 +15,10 @@ use Rattle.page_space.specs.Shown.{begun_of, disk_of, meta_of, params_of}
 use Rattle.session_book.specs.declared.refusals.BookFault.{BookFault}
 use Rattle.warehouse.specs.Committed.{IfDone, IsCommitCause, after_commit, device_out, with_batch}
 use Rattle.page_warehouse.specs.Holds.{Holds}
-use Rattle.page_warehouse.specs.Needs.{LacksPages, batch_need, charge_of}
+use Rattle.page_warehouse.specs.Needs.{LacksPages, RisesWithin, StaysSmall, batch_need, charge_of, small_need}
 use Rattle.page_warehouse.specs.Shown.{HoldsHistory, disk_in, space_in}
 use Rattle.page_warehouse.proofs.Outcomes.{if_done}
-use Rattle.page_warehouse.proofs.Same.{both_done, held_own, kept_at_limit, left_now, only_leaves}
+use Rattle.page_warehouse.proofs.Same.{both_done, done_both, held_own, kept_at_limit, left_now, limit_both, only_leaves}
 use Rattle.page_warehouse.proofs.house.WarehouseHouse.commit.Goals as goal
 
 pub put-requires-clause-fit : goal.put-requires-clause-fit
@@ -160,14 +160,16 @@ returns-in-None-clause-page_limit g c = λ h held.
     let held1 = held_own g.X.DomIndex true old mid h stays held in
     let batch1 = subst (λ (p : Params). IsLawfulBatch p h (flat rows)) (sym same) batch in
     let h1 : History = with_batch h rows in
+    let x = g.D.Disk.image (disk_of mid) in
     kept_at_limit c.put.result (λ house. begun_of (space_in house) ≡ begun_of mid)
-    (λ house n. (params_of mid).pages < charge_of (g.D.Disk.image (disk_of mid)) + batch_need (params_of mid) h rows)
+    (λ house n. ((params_of mid).pages < charge_of x + batch_need (params_of mid) h rows) × (StaysSmall x (params_of mid) h rows → (params_of mid).pages < charge_of x + small_need (params_of mid) (length (flat rows))))
     (λ house n. LacksPages (g.D.Disk.image (disk_in house)) params h rows × (params.pages < charge_of (g.D.Disk.image (disk_in house)) + batch_need params h rows))
     (λ house n kept passed.
-    let own = subst (λ (p : Params). p.pages < charge_of (g.D.Disk.image (disk_of mid)) + batch_need p h rows) same passed in
-    let image : g.D.Disk.image (disk_in house) ≡ g.D.Disk.image (disk_of mid) = ap (λ (b : Begun). b.image) kept in
-    let here = subst (λ (y : Image). params.pages < charge_of y + batch_need params h rows) (sym image) own in
-    (here, here)) c.put.ensures.kept (c.put.ensures.page_limit h held1 batch1)
+    let own : LacksPages x params h rows = subst (λ (p : Params). LacksPages x p h rows) same (record { need = passed.0; small = passed.1 }) in
+    let here = subst (λ (y : Image). LacksPages y params h rows) (sym (ap (λ (b : Begun). b.image) kept)) own in
+    (here, here.need)) c.put.ensures.kept
+    (limit_both c.put.result (StaysSmall x (params_of mid) h rows) (λ house n. (params_of mid).pages < charge_of x + batch_need (params_of mid) h rows) (λ house n. (params_of mid).pages < charge_of x + small_need (params_of mid) (length (flat rows)))
+    (c.put.ensures.page_limit h held1 batch1) (c.put.ensures.small_limit h held1 batch1))
 
 pub returns-in-None-clause-charge_done : goal.returns-in-None-clause-charge_done
 returns-in-None-clause-charge_done g c = λ h held.
@@ -190,6 +192,32 @@ returns-in-None-clause-charge_done g c = λ h held.
     let own = subst (λ (p : Params). charge_of (g.D.Disk.image (disk_in house)) ≤ charge_of (g.D.Disk.image (disk_of mid)) + batch_need p h rows) same most in
     subst (λ (y : Image). charge_of (g.D.Disk.image (disk_in house)) ≤ charge_of y + batch_need params h rows) (ap (λ (b : Begun). b.image) stays) own)
     (c.put.ensures.charge_done h held1 batch1)
+
+pub returns-in-None-clause-rises : goal.returns-in-None-clause-rises
+returns-in-None-clause-rises g c = λ h held.
+    let old = c.args.self.space in
+    let mid = c.judge-house.result.house.space in
+    let params = params_of old in
+    let rows = c.args.rows.now in
+    let stays = c.judge-house.ensures.stays in
+    let same : params_of mid ≡ params = ap (λ (b : Begun). b.params) stays in
+    let none = c.in-Ok.is ∙ ap (λ (r : Option Refusal). Ok r) c.in-None.is in
+    let found = subst (λ r. IfOk r (λ (refusal : Option Refusal). (h : History) → HoldsHistory g.D.Disk g.X.DomIndex true (disk_of old) params h → refusal ≡ first_refusal params h rows)) none c.judge-house.ensures.ok in
+    let accepted : None ≡ first_refusal params h rows = found h held in
+    let batch : IsLawfulBatch params h (flat rows) = c.accepted_batches_are_lawful.ensures params h rows c.requires.fit c.requires.most (sym accepted) in
+    let held1 = held_own g.X.DomIndex true old mid h stays held in
+    let batch1 = subst (λ (p : Params). IsLawfulBatch p h (flat rows)) (sym same) batch in
+    let h1 : History = with_batch h rows in
+    let x = g.D.Disk.image (disk_of mid) in
+    if_done c.put.result (λ house version. (charge_of (g.D.Disk.image (disk_in house)) ≤ charge_of x + batch_need (params_of mid) h rows)
+    × (StaysSmall x (params_of mid) h rows → charge_of (g.D.Disk.image (disk_in house)) ≤ charge_of x + small_need (params_of mid) (length (flat rows))))
+    (λ house version. RisesWithin (g.D.Disk.image (disk_of old)) params h rows (g.D.Disk.image (disk_in house)))
+    (λ house version both.
+    let own : RisesWithin x params h rows (g.D.Disk.image (disk_in house)) = subst (λ (p : Params). RisesWithin x p h rows (g.D.Disk.image (disk_in house))) same (record { need = both.0; small = both.1 }) in
+    subst (λ (y : Image). RisesWithin y params h rows (g.D.Disk.image (disk_in house))) (ap (λ (b : Begun). b.image) stays) own)
+    (done_both c.put.result (StaysSmall x (params_of mid) h rows) (λ house version. charge_of (g.D.Disk.image (disk_in house)) ≤ charge_of x + batch_need (params_of mid) h rows)
+    (λ house version. charge_of (g.D.Disk.image (disk_in house)) ≤ charge_of x + small_need (params_of mid) (length (flat rows)))
+    (c.put.ensures.charge_done h held1 batch1) (c.put.ensures.small_done h held1 batch1))
 
 pub returns-in-Damaged-clause-cause : goal.returns-in-Damaged-clause-cause
 returns-in-Damaged-clause-cause g c = λ h held. c.judge-house.ensures.sound h c.in-Damaged.page held (c.in-Err.is ∙ ap (λ (f : BookFault). Err f) c.in-Damaged.is)

@@ -1,4 +1,4 @@
-use Rattle.std.proofs.Common.{◌≡◌, ◌⊎◌, ◌+◌, ◌<◌, ◌==◌, IsTrue, length, Err, inl, inr, sym, ◌∙◌, ap, subst, arith}
+use Rattle.std.proofs.Common.{◌≡◌, ◌⊎◌, ◌+◌, ◌<◌, ◌≤◌, ◌==◌, IsTrue, List, length, Err, inl, inr, sym, ◌∙◌, ap, subst, arith}
 use Rattle.std.specs.List.{list_all}
 use Rattle.bw_types.specs.Fits.{row_fits}
 use Rattle.bw_types.specs.History.{History, changes, flat}
@@ -15,14 +15,18 @@ use Rattle.page_space.specs.Space.{HoldsSpace}
 use Rattle.page_space.specs.declared.space.Space.{Space}
 use Rattle.page_ports.specs.declared.page.StageFault.{StageFault}
 use Rattle.page_ports.specs.declared.page.StageFault.TheVariants as fault
+use Rattle.bw_types.specs.declared.tree.Tree.{Tree}
+use Rattle.redo_journal.specs.Settled.{SettlesTo}
+use Rattle.corner_forest.specs.Entries.{root_count}
+use Rattle.corner_forest.specs.Enters.{first_pages}
 use Rattle.change_laws.specs.Begun.{with_changes}
 use Rattle.page_warehouse.specs.Entering.{FormKeeps}
 use Rattle.page_warehouse.specs.Holds.{Holds}
-use Rattle.page_warehouse.specs.Needs.{batch_need, changes_need, charge_of, meta_charge}
+use Rattle.page_warehouse.specs.Needs.{StayOnePage, batch_need, changes_need, charge_of, meta_charge, small_need}
 use Rattle.page_warehouse.specs.NextMeta.{IsNextMeta}
 use Rattle.page_warehouse.specs.Shown.{space_in}
 use Rattle.page_warehouse.specs.declared.roots.Roots.{Roots}
-use Rattle.page_warehouse.proofs.Drafted.{charge_after, charge_before, form_here, held_of, here_then, ordered, unchanged, weakened}
+use Rattle.page_warehouse.proofs.Drafted.{charge_after, charge_before, form_here, held_of, here_then, meta_is, ordered, unchanged, weakened}
 use Rattle.page_warehouse.proofs.Here.{Here, here, space_here}
 use Rattle.page_warehouse.proofs.Outcomes.{if_disk, if_done, if_kept, if_page_limit}
 use Rattle.page_warehouse.proofs.state.Warehouse.put.Goals as goal
@@ -323,3 +327,91 @@ returns-in-Err-commit-clause-any_moment g c = λ h held batch.
       | inl s ↦ inl (held_of g.X.DomIndex y params meta map h now (ordered y params meta map (IsInOrder space) order s))
       | inr s ↦ inr (held_of g.X.DomIndex y params (staged_meta mid) (staged_map mid) h1 next (ordered y params (staged_meta mid) (staged_map mid) (IsStagedInOrder mid) order2 s))
     ]) only
+
+pub returns-in-Err-clause-small_limit : goal.returns-in-Err-clause-small_limit
+returns-in-Err-clause-small_limit g c = λ h held batch stays.
+    let space = c.args.self.space in
+    let x = g.D.Disk.image (disk_of space) in
+    let params = params_of space in
+    let meta = meta_of space in
+    let map = map_of space in
+    let batched = flat c.args.rows.now in
+    let one = c.holds_one.ensures.one in
+    let whole = c.is_held.ensures.held held.0 in
+    let now : Here g.X.DomIndex params meta map h = here g.X.DomIndex one x params meta map (IsInOrder space) whole h held.1 in
+    let roots : Roots = record { table = c.meta-3.result.now.table; forest = c.args.self.forest } in
+    let by_ids : c.is_by_ids-by_ids.result ≡ (meta.lives == 0) = c.is_by_ids-by_ids.ensures ∙ ap (λ (m : Meta). m.lives == 0) c.meta.ensures.value in
+    let table = ap (λ (m : Meta). m.table) c.meta-3.ensures.value in
+    let same : c.args.self.forest.params ≡ params = c.args.self.params in
+    let form = form_here g.X.DomIndex params meta map h now c.is_by_ids-by_ids.result roots by_ids table same c.args.self.trees in
+    let form1 = subst (λ (m : PageMap). FormKeeps g.X.DomIndex c.is_by_ids-by_ids.result m roots h) (sym c.begin-stage.ensures.map) form in
+    let told : IsTrue (g.D.Disk.tells (disk_under c.begin-stage.result)) = subst IsTrue (sym (ap g.D.Disk.tells c.begin-stage.ensures.disk)) held.0 in
+    let ver = c.counts-before.ensures.version ∙ ap (λ (m : Meta). m.version) c.meta-2.ensures.value in
+    let ro = c.counts-before.ensures.rows ∙ ap (λ (m : Meta). m.rows) c.meta-2.ensures.value in
+    let settles : SettlesTo x x.pages = c.settling_laws.ensures.idle x (c.is_held.ensures.idle held.0) in
+    let on_meta : StayOnePage params (length (changes h) + length batched) meta.roots.items =
+    subst (λ (m : Meta). StayOnePage params (length (changes h) + length batched) m.roots.items) (meta_is c.settling_laws.ensures.one x params meta map (IsInOrder space) whole settles) stays in
+    let trees : StayOnePage c.args.self.forest.params (length (changes h) + length batched) c.args.self.forest.roots.items =
+    subst (λ (l : List Tree). StayOnePage c.args.self.forest.params (length (changes h) + length batched) l) (sym c.args.self.trees)
+    (subst (λ (p : Params). StayOnePage p (length (changes h) + length batched) meta.roots.items) (sym same) on_meta) in
+    let few : first_pages c.args.self.forest.params c.args.self.forest.roots.items ≤ root_count params =
+    subst (λ (p : Params). first_pages c.args.self.forest.params c.args.self.forest.roots.items ≤ root_count p) same (c.forest_laws.ensures.first_pages c.args.self.forest.params c.args.self.forest.roots.items).0 in
+    let little = c.in-Err.ensures.small told h (subst (λ (p : Params). IsLawful p h) (sym same) now.lawful) (subst (λ (p : Params). IsLawfulBatch p h batched) (sym same) batch) (ver ∙ now.tells.version) (ro ∙ now.tells.rows) form1 trees in
+    if_page_limit c.given_back.result (λ house n. c.in-Err.fault ≡ fault.PageLimit n) (λ house n. params.pages < charge_of x + small_need params (length batched))
+    (λ house n is.
+    let passed = little.page_limit n (ap (λ (f : StageFault). Err f) is) in
+    let last = passed.2 in
+    let limit : n ≡ params.pages = c.in-Err.ensures.limit n (ap (λ (f : StageFault). Err f) is) ∙ ap (λ (b : Begun). b.params.pages) c.begin-stage.ensures.base in
+    let first : (staged_meta c.begin-stage.result).allotted ≡ meta.allotted = ap (λ (m : Meta). m.allotted) c.begin-stage.ensures.meta in
+    let charge = charge_before meta c.is_by_ids-by_ids.result c.meta-3.result.now.table.count by_ids (ap (λ (m : Meta). m.table.count) c.meta-3.ensures.value) in
+    let kept = c.is_charged.ensures held.0 in
+    omega (arith, last, limit, first, charge, few, kept)) c.given_back.ensures.page_limit
+
+pub returns-in-Err-clause-small_done : goal.returns-in-Err-clause-small_done
+returns-in-Err-clause-small_done g c = λ h held batch stays. if_done c.given_back.result (λ house version. ⊥) _ (λ house version no. absurd no) c.given_back.ensures.not_done
+
+pub returns-in-Ok-clause-small_done : goal.returns-in-Ok-clause-small_done
+returns-in-Ok-clause-small_done g c = λ h held batch stays.
+    let space = c.args.self.space in
+    let x = g.D.Disk.image (disk_of space) in
+    let params = params_of space in
+    let meta = meta_of space in
+    let map = map_of space in
+    let batched = flat c.args.rows.now in
+    let one = c.holds_one.ensures.one in
+    let whole = c.is_held.ensures.held held.0 in
+    let now : Here g.X.DomIndex params meta map h = here g.X.DomIndex one x params meta map (IsInOrder space) whole h held.1 in
+    let roots : Roots = record { table = c.meta-3.result.now.table; forest = c.args.self.forest } in
+    let by_ids : c.is_by_ids-by_ids.result ≡ (meta.lives == 0) = c.is_by_ids-by_ids.ensures ∙ ap (λ (m : Meta). m.lives == 0) c.meta.ensures.value in
+    let table = ap (λ (m : Meta). m.table) c.meta-3.ensures.value in
+    let same : c.args.self.forest.params ≡ params = c.args.self.params in
+    let form = form_here g.X.DomIndex params meta map h now c.is_by_ids-by_ids.result roots by_ids table same c.args.self.trees in
+    let form1 = subst (λ (m : PageMap). FormKeeps g.X.DomIndex c.is_by_ids-by_ids.result m roots h) (sym c.begin-stage.ensures.map) form in
+    let told : IsTrue (g.D.Disk.tells (disk_under c.begin-stage.result)) = subst IsTrue (sym (ap g.D.Disk.tells c.begin-stage.ensures.disk)) held.0 in
+    let ver = c.counts-before.ensures.version ∙ ap (λ (m : Meta). m.version) c.meta-2.ensures.value in
+    let ro = c.counts-before.ensures.rows ∙ ap (λ (m : Meta). m.rows) c.meta-2.ensures.value in
+    let settles : SettlesTo x x.pages = c.settling_laws.ensures.idle x (c.is_held.ensures.idle held.0) in
+    let on_meta : StayOnePage params (length (changes h) + length batched) meta.roots.items =
+    subst (λ (m : Meta). StayOnePage params (length (changes h) + length batched) m.roots.items) (meta_is c.settling_laws.ensures.one x params meta map (IsInOrder space) whole settles) stays in
+    let trees : StayOnePage c.args.self.forest.params (length (changes h) + length batched) c.args.self.forest.roots.items =
+    subst (λ (l : List Tree). StayOnePage c.args.self.forest.params (length (changes h) + length batched) l) (sym c.args.self.trees)
+    (subst (λ (p : Params). StayOnePage p (length (changes h) + length batched) meta.roots.items) (sym same) on_meta) in
+    let few : first_pages c.args.self.forest.params c.args.self.forest.roots.items ≤ root_count params =
+    subst (λ (p : Params). first_pages c.args.self.forest.params c.args.self.forest.roots.items ≤ root_count p) same (c.forest_laws.ensures.first_pages c.args.self.forest.params c.args.self.forest.roots.items).0 in
+    let little = c.in_default.ensures.small told h (subst (λ (p : Params). IsLawful p h) (sym same) now.lawful) (subst (λ (p : Params). IsLawfulBatch p h batched) (sym same) batch) (ver ∙ now.tells.version) (ro ∙ now.tells.rows) form1 trees in
+    let mid = c.draft.new.stage in
+    let told1 : IsTrue (g.D.Disk.tells (disk_under mid)) = subst IsTrue (sym little.went_on.tells) told in
+    let is : IsNextMeta c.counts-before.result (length batched) (total_mass params batched) c.draft.new.roots (staged_meta mid) =
+    subst (λ (p : Params). IsNextMeta c.counts-before.result (length batched) (total_mass p batched) c.draft.new.roots (staged_meta mid)) same c.in_default.ensures.meta in
+    let most = little.went_on.at_most in
+    let first : (staged_meta c.begin-stage.result).allotted ≡ meta.allotted = ap (λ (m : Meta). m.allotted) c.begin-stage.ensures.meta in
+    let charge = charge_before meta c.is_by_ids-by_ids.result c.meta-3.result.now.table.count by_ids (ap (λ (m : Meta). m.table.count) c.meta-3.ensures.value) in
+    let after = charge_after (staged_meta mid) is.lives in
+    let made = c.in-Ok.space in
+    let tells1 : IsTrue (g.D.Disk.tells (disk_of made)) = subst IsTrue (sym c.in-Ok.ensures.writes.tells) told1 in
+    let tells2 = subst (λ (s : Space g.row.D.Denot g.D.Disk). IsTrue (g.D.Disk.tells (disk_of s))) (sym c.over-house.ensures) tells1 in
+    let now_kept = c.is_charged-in-Ok.ensures tells2 in
+    let kept = c.is_charged.ensures held.0 in
+    let last : meta_of c.over-house.result.space ≡ staged_meta mid = ap (λ (s : Space g.row.D.Denot g.D.Disk). meta_of s) c.over-house.ensures ∙ c.in-Ok.ensures.meta in
+    let as_much = ap meta_charge last in
+    omega (arith, most, first, charge, few, after, now_kept, kept, as_much)
