@@ -77,6 +77,8 @@ pub fn run<D: Disk + Drop, S: Source, K: Sink>(
         IsTrue (D.tells disk) → is_empty (D.image disk) ≡ true → StaysAsRead D.Disk disk result.disk
         × ((result.status ≡ Status.NoWarehouse) ⊎ ((result.status ≡ Status.DiskFault) ⊎ (result.status ≡ Status.NoMemory))) }
     ensures none_only { result.status ≡ Status.NoWarehouse → IsTrue (D.tells disk) → is_empty (D.image disk) ≡ true }
+    ensures none_untouched { built_command (map string_bytes words.now) ≡ Some Command.Run →
+        IsTrue (D.tells disk) → is_empty (D.image disk) ≡ true → (source.new ≡ source.old) × (sink.new ≡ sink.old) }
 
     // The whole text is written, and the input is read to its end.
     ensures fine { (params : Params) (h : History) →
@@ -236,6 +238,7 @@ fn run_on<X: DomIndex + Drop, D: Disk + Drop, S: Source, K: Sink>(
     ensures none { IsTrue (D.tells disk) → is_empty (D.image disk) ≡ true → StaysAsRead D.Disk disk result.disk
         × ((result.status ≡ Status.NoWarehouse) ⊎ ((result.status ≡ Status.DiskFault) ⊎ (result.status ≡ Status.NoMemory))) }
     ensures none_only { result.status ≡ Status.NoWarehouse → IsTrue (D.tells disk) → is_empty (D.image disk) ≡ true }
+    ensures none_untouched { IsTrue (D.tells disk) → is_empty (D.image disk) ≡ true → (source.new ≡ source.old) × (sink.new ≡ sink.old) }
     ensures fine { (params : Params) (h : History) →
         BeginsWith D.Disk X.DomIndex (Some Command.Run) disk (S.tells source.old) (S.left source.old) params h →
         result.status ≡ Status.Fine → IsTrue (S.tells source.old) → IsTrue (K.tells sink.old) →
