@@ -34,3 +34,4 @@ pub mod Topping
 pub mod Values
 pub mod Ways
 pub mod Whole
+mod Walking

@@ -1,17 +1,17 @@
 -- What a node on the way of a key and a version tells of the value there, and of damage below it.
-use Rattle.std.proofs.Common.{◌≡◌, ◌≢◌, ℕ, zero, suc, ◌+◌, ◌-◌, ◌%◌, ◌^◌, ◌≤◌, ◌==◌, inl, inr, true, List, Option, Some, None, refl, sym, ap, ◌∙◌, subst, arith}
+use Rattle.std.proofs.Common.{◌≡◌, ◌≢◌, ℕ, zero, suc, ◌+◌, ◌-◌, ◌%◌, ◌^◌, ◌≤◌, ◌==◌, inl, inr, true, Option, Some, None, refl, sym, ap, ◌∙◌, subst, arith}
 use Rattle.std.specs.Option.{option_map_or}
 use Rattle.std.proofs.Math.Nat.{add-mod-mod, mod-add-mod}
 use Rattle.std.proofs.lemmas.Bool.{cases_Bool, eqb-true, eq-eqb, cond-true, cond-false}
 use Rattle.page_ports.specs.Pages.{PageMap}
-use Rattle.page_layout.specs.Damage.{HoldsNoNode, IsDamagedBelow, NothingBeside}
+use Rattle.page_layout.specs.Damage.{IsDamagedBelow, NothingBeside}
 use Rattle.page_layout.specs.DamageLaws as laws
 use Rattle.page_layout.specs.declared.mv_node.MvNode.{MvNode}
 use Rattle.page_layout.specs.MvNode.{IsMvNode, IsTyped, mv_node_page}
 use Rattle.mv_pages.specs.Alive.{child_of, node_value, value_of, or_later, path_child}
 use Rattle.mv_pages.specs.Lows.{alive_lows, low_above, low_at}
 use Rattle.mvsb_tree.specs.declared.place.Place.{Place}
-use Rattle.mvsb_tree.specs.Damage.{FitsPlace, LeadsTo, IsDamagedFromRoot, IsDamagedPast, IsInPlace}
+use Rattle.mvsb_tree.specs.Damage.{FitsPlace, LeadsTo, IsDamagedFromRoot, IsInPlace}
 use Rattle.mvsb_tree.specs.Steps.{node_on, node_total, root_level, total_below}
 use Rattle.mvsb_tree.proofs.Nodes.{node_on-spelled, same_spelled}
 
@@ -34,18 +34,39 @@ leaf_value pages node key v value none is_value =
     let whole : node_total pages node key v ≡ value_of node.entries.items key v = omega (arith, nothing) in
     is_value ∙ ap (λ (n : ℕ). n % 2 ^ 128) (sym whole)
 
-pub index_value : (pages : PageMap) (node below_node : MvNode) (key v value below child : ℕ) → child_of node key v ≡ Some child
-    → total_below (node.level - 1) pages child key v ≡ node_total pages below_node key v
-    → value ≡ node_value node key v → below ≡ node_total pages below_node key v % 2 ^ 128
+pub index_value : (pages : PageMap) (node : MvNode) (key v value below child : ℕ) → child_of node key v ≡ Some child
+    → value ≡ node_value node key v → below ≡ total_below (node.level - 1) pages child key v % 2 ^ 128
     → (value + below) % 2 ^ 128 ≡ node_total pages node key v % 2 ^ 128
-index_value pages node below_node key v value below child leads total is_value is_below =
+index_value pages node key v value below child leads is_value is_below =
     let s : ℕ = value_of node.entries.items key v in
-    let t : ℕ = node_total pages below_node key v in
+    let t : ℕ = total_below (node.level - 1) pages child key v in
     let rest : option_map_or (λ child. total_below (node.level - 1) pages child key v) (child_of node key v) 0 ≡ t =
-    ap (λ (o : Option ℕ). option_map_or (λ child. total_below (node.level - 1) pages child key v) o 0) leads ∙ total in
+    ap (λ (o : Option ℕ). option_map_or (λ child. total_below (node.level - 1) pages child key v) o 0) leads in
     let whole : node_total pages node key v ≡ s + t = ap (λ (n : ℕ). s + n) rest in
     ap (λ (n : ℕ). (n + below) % 2 ^ 128) is_value ∙ ap (λ (n : ℕ). (s % 2 ^ 128 + n) % 2 ^ 128) is_below
     ∙ mod-add-mod s (2 ^ 128) (t % 2 ^ 128) ∙ add-mod-mod s t (2 ^ 128) ∙ ap (λ (n : ℕ). n % 2 ^ 128) (sym whole)
+
+-- What the node of a page says is the value there, where it leads to no child; else the child's value is added.
+module _ (pages : PageMap) (level page key v value : ℕ) (node : MvNode) (some : 1 ≤ level) (typed : IsTyped node) (rules : IsMvNode node) (at : node.level ≡ level)
+    (there : pages page ≡ Some (mv_node_page node)) (is_value : value ≡ node_value node key v) where
+  whole : node_total pages node key v % 2 ^ 128 ≡ total_below level pages page key v % 2 ^ 128
+  whole = ap (λ (n : ℕ). n % 2 ^ 128) (sym (total_at pages level page key v node some typed rules at there))
+
+  pub value_alone : child_of node key v ≡ None → value ≡ total_below level pages page key v % 2 ^ 128
+  value_alone none = leaf_value pages node key v value none is_value ∙ whole
+
+  pub value_with : (child below : ℕ) → child_of node key v ≡ Some child → below ≡ total_below (level - 1) pages child key v % 2 ^ 128
+      → (value + below) % 2 ^ 128 ≡ total_below level pages page key v % 2 ^ 128
+  value_with child below leads is_below =
+      index_value pages node key v value below child leads is_value (is_below ∙ ap (λ (l : ℕ). total_below (l - 1) pages child key v % 2 ^ 128) (sym at)) ∙ whole
+
+-- The value of the child is told by the map of before and at the place sought.
+pub told_there : (pages later : PageMap) (level child below : ℕ) (place inner : Place) (node : MvNode) → LeadsTo place node child inner → later ≡ pages
+    → below ≡ total_below level later child inner.key inner.version % 2 ^ 128 → below ≡ total_below level pages child place.key place.version % 2 ^ 128
+told_there pages later level child below place inner node leads same is =
+    is ∙ ap (λ (m : PageMap). total_below level m child inner.key inner.version % 2 ^ 128) same
+    ∙ ap (λ (k : ℕ). total_below level pages child k inner.version % 2 ^ 128) leads.key
+    ∙ ap (λ (w : ℕ). total_below level pages child place.key w % 2 ^ 128) leads.version
 
 -- A leaf leads to no child.
 pub index_leads : (node : MvNode) (key v child : ℕ) → child_of node key v ≡ Some child → node.level ≢ 1
@@ -77,29 +98,12 @@ leads_there place inner node child low next is_child is_low is_next in_low in_hi
   version = in_version;
 }
 
--- The child itself is damaged.
-pub past_here : (pages : PageMap) (place inner : Place) (node : MvNode) (child damaged : ℕ) → 1 ≤ node.level - 1 → LeadsTo place node child inner
-    → damaged ≡ child → HoldsNoNode FitsPlace pages (node.level - 1) inner child → IsDamagedPast pages place node damaged
-past_here pages place inner node child damaged some leads same none =
-    (child, inner, leads, laws.damaged_here FitsPlace LeadsTo NothingBeside pages (node.level - 1) inner child damaged some same none)
-
--- A node below the child is damaged.
-pub past_further : (pages : PageMap) (place inner : Place) (node below_node : MvNode) (child damaged : ℕ) (bytes : List ℕ) → 1 ≤ node.level - 1 → LeadsTo place node child inner
-    → pages child ≡ Some bytes → FitsPlace (node.level - 1) inner below_node bytes
-    → IsDamagedPast pages inner below_node damaged → IsDamagedPast pages place node damaged
-past_further pages place inner node below_node child damaged bytes some leads there fits past =
-    let less : below_node.level - 1 ≡ node.level - 1 - 1 = ap (λ (l : ℕ). l - 1) fits.fits.at_level in
-    let below = subst (λ (l : ℕ). IsDamagedBelow FitsPlace LeadsTo NothingBeside pages l past.1 past.0 damaged) less past.3 in
-    (child, inner, leads, laws.damaged_further FitsPlace LeadsTo NothingBeside pages (node.level - 1) inner child damaged below_node bytes past.0 past.1 some there fits past.2 below)
-
--- The node of a page is damaged where one below it is.
-pub root_further : (pages : PageMap) (place : Place) (node : MvNode) (level page damaged : ℕ) (bytes : List ℕ) → 1 ≤ level
-    → pages page ≡ Some bytes → FitsPlace level place node bytes
-    → IsDamagedPast pages place node damaged → IsDamagedBelow FitsPlace LeadsTo NothingBeside pages level place page damaged
-root_further pages place node level page damaged bytes some there fits past =
-    let less : node.level - 1 ≡ level - 1 = ap (λ (l : ℕ). l - 1) fits.fits.at_level in
-    let below = subst (λ (l : ℕ). IsDamagedBelow FitsPlace LeadsTo NothingBeside pages l past.1 past.0 damaged) less past.3 in
-    laws.damaged_further FitsPlace LeadsTo NothingBeside pages level place page damaged node bytes past.0 past.1 some there fits past.2 below
+-- The page is damaged where one is below a child to which its node leads.
+pub below_further : (pages : PageMap) (place inner : Place) (node : MvNode) (level page child damaged : ℕ) → 1 ≤ level
+    → pages page ≡ Some (mv_node_page node) → FitsPlace level place node (mv_node_page node) → LeadsTo place node child inner
+    → IsDamagedBelow FitsPlace LeadsTo NothingBeside pages (level - 1) inner child damaged → IsDamagedBelow FitsPlace LeadsTo NothingBeside pages level place page damaged
+below_further pages place inner node level page child damaged some there fits leads below =
+    laws.damaged_further FitsPlace LeadsTo NothingBeside pages level place page damaged node (mv_node_page node) child inner some there fits leads below
 
 -- A root that spells a node which does not keep to the place is damaged.
 pub root_unfit : (pages : PageMap) (root : ℕ) (place : Place) (node : MvNode) (damaged : ℕ) → root ≢ 0 → IsTyped node → IsMvNode node → pages root ≡ Some (mv_node_page node)
@@ -112,20 +116,14 @@ root_unfit pages root place node damaged some typed rules there unfit same =
     let at = subst (λ (n : MvNode). IsInPlace (root_level pages root) place n) is fits.admitted in
     unfit (subst (λ (l : ℕ). IsInPlace l place node) level at)))
 
--- A root whose node fits is damaged where a node below it is.
-pub root_past : (pages : PageMap) (root : ℕ) (place : Place) (node : MvNode) (damaged : ℕ) → root ≢ 0 → IsTyped node → IsMvNode node → pages root ≡ Some (mv_node_page node)
-    → IsInPlace node.level place node → IsDamagedPast pages place node damaged → IsDamagedFromRoot pages root place damaged
-root_past pages root place node damaged some typed rules there fits past =
+-- A root whose node fits is damaged where a page below it is.
+pub root_further : (pages : PageMap) (root : ℕ) (place inner : Place) (node : MvNode) (child damaged : ℕ) → root ≢ 0 → IsTyped node → IsMvNode node → pages root ≡ Some (mv_node_page node)
+    → IsInPlace node.level place node → LeadsTo place node child inner
+    → IsDamagedBelow FitsPlace LeadsTo NothingBeside pages (node.level - 1) inner child damaged → IsDamagedFromRoot pages root place damaged
+root_further pages root place inner node child damaged some typed rules there fits leads below =
     let level : root_level pages root ≡ node.level = level_of_root pages root node some typed rules there in
-    inr (root_further pages place node (root_level pages root) root damaged (mv_node_page node) (omega (arith, level, rules.low_level)) there
+    inr (below_further pages place inner node (root_level pages root) root child damaged (omega (arith, level, rules.low_level)) there
     (record {
       fits = record { spelled = refl; rules = rules; typed = typed; at_level = sym level };
       admitted = subst (λ (l : ℕ). IsInPlace l place node) (sym level) fits;
-    }) past)
-
--- The total from a root is that of its node.
-pub root_total_is : (pages : PageMap) (root key v : ℕ) (node : MvNode) → root ≢ 0 → IsTyped node → IsMvNode node → pages root ≡ Some (mv_node_page node)
-    → total_below (root_level pages root) pages root key v ≡ node_total pages node key v
-root_total_is pages root key v node some typed rules there =
-    let level : root_level pages root ≡ node.level = level_of_root pages root node some typed rules there in
-    total_at pages (root_level pages root) root key v node (omega (arith, level, rules.low_level)) typed rules (sym level) there
+    }) leads (subst (λ (l : ℕ). IsDamagedBelow FitsPlace LeadsTo NothingBeside pages (l - 1) inner child damaged) (sym level) below))

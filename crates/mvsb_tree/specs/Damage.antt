@@ -1,5 +1,5 @@
 -- What a call on a multiversion tree may find damaged.
-use Rattle.std.specs.Prelude.{◌≡◌, ◌≢◌, ℕ, ◌-◌, ◌⊎◌, ◌≤◌, ◌^◌, nat_le, ◌&&◌, ◌||◌, not, Bool, IsTrue, List, Some, None, IsSome}
+use Rattle.std.specs.Prelude.{◌≡◌, ◌≢◌, ℕ, ◌⊎◌, ◌≤◌, ◌^◌, nat_le, ◌&&◌, ◌||◌, not, Bool, IsTrue, List, Some, None, IsSome}
 use Rattle.std.specs.List.{list_all}
 use Rattle.bw_types.specs.declared.tree.Tree.{Tree}
 use Rattle.page_ports.specs.Pages.{PageMap}
@@ -43,12 +43,6 @@ pub record LeadsTo (place : Place) (node : MvNode) (child : ℕ) (inner : Place)
   pub high : inner.high ≡ inner_high place.high (alive_lows node.entries.items place.version) place.key
   pub key : inner.key ≡ place.key
   pub version : inner.version ≡ place.version
-
--- The page is the first below the node, on the way of the key and the version sought, that holds no fitting node.
-abbrev pub IsDamagedPast : PageMap → Place → MvNode → ℕ → Type 0
-IsDamagedPast pages place node damaged =
-    (child : ℕ) × (inner : Place) × LeadsTo place node child inner
-    × IsDamagedBelow FitsPlace LeadsTo NothingBeside pages (node.level - 1) inner child damaged
 
 -- the place of the root for a key and a version
 abbrev pub root_place : ℕ → ℕ → Place

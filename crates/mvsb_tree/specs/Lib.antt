@@ -9,4 +9,5 @@ pub mod Stands
 pub mod Steps
 pub mod Stored
 pub mod Tops
+pub mod Walks
 pub mod Ways

@@ -34,6 +34,7 @@ mod tests_add;
 mod tests_broken;
 #[cfg(test)]
 mod tests_index;
+mod told;
 mod top;
 mod value;
 

@@ -34,7 +34,8 @@ pub fn root_place(key: u64, version: u32) -> Place
 // The end of an entry that is not closed.
 const OPEN: u32 = 4294967295;
 
-fn is_alive(e: &MvEntry, version: u32) -> bool
+/// Whether the entry has started at the version and is not closed there.
+pub fn is_alive(e: &MvEntry, version: u32) -> bool
     ensures { result ≡ spec_is_alive version e.now }
 {
     e.start <= version && (version < e.end || e.end == OPEN)
@@ -49,8 +50,8 @@ fn ends_after(high: Option<u64>, low: u64) -> bool
     }
 }
 
-// Whether the entry is not alive at the version sought, or begins within the place.
-fn begins_within(e: &MvEntry, place: Place) -> bool
+/// Whether the entry is not alive at the version sought, or begins within the place.
+pub fn begins_within(e: &MvEntry, place: Place) -> bool
     ensures { result ≡ spec_begins_within place e.now }
 {
     !is_alive(e, place.version) || (place.low <= e.low && ends_after(place.high, e.low))

@@ -3,18 +3,20 @@ ghost use Rattle.std.specs.Prelude.{◌≡◌, ◌≢◌, ◌+◌, ◌-◌, ◌%
 ghost use Rattle.bw_types.specs.Dominance.{dominance_sum};
 ghost use Rattle.bw_types.specs.Heights.{digit_count};
 ghost use Rattle.bw_types.specs.declared.point.Point.{Point};
+ghost use Rattle.page_layout.specs.Damage.{HoldsNoNode, IsDamagedBelow, NothingBeside};
 ghost use Rattle.page_ports.specs.Calls.{OnlyReads};
-ghost use Rattle.mvsb_tree.specs.Damage.{IsDamagedForValue, IsDamagedFromRoot, IsDamagedPast, root_place as spec_root_place};
+ghost use Rattle.mvsb_tree.specs.Damage.{FitsPlace, IsDamagedForValue, IsDamagedFromRoot, LeadsTo, root_place as spec_root_place};
 ghost use Rattle.mvsb_tree.specs.Stands.{IsBalanced, MvStands, RootStands};
-ghost use Rattle.mvsb_tree.specs.Steps.{node_total, root_level, total_below, tree_value};
+ghost use Rattle.mvsb_tree.specs.Walks.{ToldIn};
+ghost use Rattle.mvsb_tree.specs.Steps.{root_level, total_below, tree_value};
 
 use crate::directory::root_at;
-use crate::place::{Place, inner_place, root_place};
+use crate::place::{Place, root_place};
+use crate::told::{Told, told_on};
 use bw_types::Tree;
-use mv_pages::{reached_at, value_at};
-use page_access::{PlaceFor, read_in_place, read_page};
-use page_layout::MvNode;
-use page_ports::{PageFault, Pages};
+use page_access::view_page;
+use page_layout::{MvNode, View};
+use page_ports::{Page, PageFault, Pages, blank_page};
 
 /// The value of the tree at a key and a version: the sum of what was added at or below that key and at
 /// or before that version, modulo `2^128`.
@@ -47,11 +49,17 @@ pub fn mv_value<P: Pages>(
     if root == 0 {
         return Ok(0);
     }
-    value_from(pages, root, root_place(key, version))
+    let mut bytes = blank_page();
+    value_from(pages, &mut bytes, root, root_place(key, version))
 }
 
-// The value from a root down, which tells its level.
-fn value_from<P: Pages>(pages: &mut P, root: u64, place: Place) -> Result<u128, PageFault>
+// The value from a root down, which tells its level. Each page is read in place in these bytes.
+fn value_from<P: Pages>(
+    pages: &mut P,
+    bytes: &mut Page,
+    root: u64,
+    place: Place,
+) -> Result<u128, PageFault>
     requires { root ≢ 0 }
     ensures value { IfOk result (λ value. IsTrue (P.tells pages.old)
         → value ≡ total_below (root_level (P.map pages.old) root) (P.map pages.old) root place.key place.version % 2 ^ 128) }
@@ -63,28 +71,62 @@ fn value_from<P: Pages>(pages: &mut P, root: u64, place: Place) -> Result<u128, 
     ensures cost { IsTrue (P.tells pages.old) → 1 ≤ root_level (P.map pages.old) root
         → P.gets pages.new ≤ P.gets pages.old + root_level (P.map pages.old) root }
 {
-    let node: MvNode = read_page(pages, root)?;
-    if !place.admits(node.level, &node) {
+    let node: View<MvNode> = view_page(pages, root, bytes)?;
+    let level = node.level();
+    let Some(told) = told_on(&node, place) else {
         return Err(PageFault::Damaged(root));
-    }
-    value_on(pages, &node, place)
+    };
+    let Some(step) = told.step else {
+        return Ok(told.value);
+    };
+    let below = value_below(pages, bytes, step.child, level - 1, step.place)?;
+    Ok(told.value.wrapping_add(below))
 }
 
-// The value of the node, and of those below it, at the key and the version sought.
-fn value_on<P: Pages>(pages: &mut P, node: &MvNode, place: Place) -> Result<u128, PageFault>
-    requires { 1 ≤ node.now.level }
+// The value of the page, and of those below it, at the key and the version sought.
+fn value_below<P: Pages>(
+    pages: &mut P,
+    bytes: &mut Page,
+    page: u64,
+    level: u8,
+    place: Place,
+) -> Result<u128, PageFault>
     ensures value { IfOk result (λ value. IsTrue (P.tells pages.old)
-        → value ≡ node_total (P.map pages.old) node.now place.key place.version % 2 ^ 128) }
+        → value ≡ total_below level (P.map pages.old) page place.key place.version % 2 ^ 128) }
     ensures damaged { (damaged : ℕ) → result ≡ Err (PageFault.Damaged damaged) → IsTrue (P.tells pages.old)
-        → IsDamagedPast (P.map pages.old) place node.now damaged }
-    ensures reads { OnlyReads P.Pages (node.now.level - 1) pages.old pages.new result }
+        → IsDamagedBelow FitsPlace LeadsTo NothingBeside (P.map pages.old) level place page damaged }
+    ensures reads { OnlyReads P.Pages level pages.old pages.new result }
 {
-    let value = value_at(node, place.key, place.version);
-    let Some(reached) = reached_at(node, place.key, place.version) else {
-        return Ok(value);
+    if level == 0 {
+        return Ok(0);
+    }
+    let told = told_in(pages, bytes, page, level, place)?;
+    let Some(step) = told.step else {
+        return Ok(told.value);
     };
-    let inner = inner_place(reached, place);
-    let child: MvNode = read_in_place(pages, reached.child, node.level - 1, inner)?;
-    let below = value_on(pages, &child, inner)?;
-    Ok(value.wrapping_add(below))
+    let below = value_below(pages, bytes, step.child, level - 1, step.place)?;
+    Ok(told.value.wrapping_add(below))
+}
+
+// What the node of the page tells in its place.
+fn told_in<P: Pages>(
+    pages: &mut P,
+    bytes: &mut Page,
+    page: u64,
+    level: u8,
+    place: Place,
+) -> Result<Told, PageFault>
+    ensures told { IfOk result (λ told. IsTrue (P.tells pages.old) → ToldIn (P.map pages.old) page level place told) }
+    ensures damaged { (p : ℕ) → result ≡ Err (PageFault.Damaged p) → (p ≡ page) × (IsTrue (P.tells pages.old)
+        → HoldsNoNode FitsPlace (P.map pages.old) level place page) }
+    ensures reads { OnlyReads P.Pages 1 pages.old pages.new result }
+{
+    let node: View<MvNode> = view_page(pages, page, bytes)?;
+    if node.level() != level {
+        return Err(PageFault::Damaged(page));
+    }
+    match told_on(&node, place) {
+        Some(told) => Ok(told),
+        None => Err(PageFault::Damaged(page)),
+    }
 }

@@ -1,0 +1,113 @@
+//! What a node tells, in one walk over its entries where they stand.
+ghost use Rattle.std.specs.Prelude.{◌≡◌, ◌⊎◌, ◌∷◌, ◌++◌, [], List, IsSome, IfSome, None};
+ghost use Rattle.mv_pages.specs.Alive.{child_of, node_value};
+ghost use Rattle.page_layout.specs.declared.mv_node.MvEntry.{MvEntry};
+ghost use Rattle.mvsb_tree.specs.Damage.{IsInPlace, LeadsTo};
+ghost use Rattle.mvsb_tree.specs.Walks.{IsWalked, TellsOf};
+
+use crate::place::{Place, begins_within, inner_place, is_alive};
+use crate::step::Step;
+use mv_pages::Reached;
+use page_layout::{MvEntry, MvNode, View};
+
+/// What a node tells at a key and a version: its own value there, and the step on to its child, if it
+/// leads on.
+#[derive(Clone, Copy)]
+pub struct Told {
+    pub value: u128,
+    pub step: Option<Step>,
+}
+
+/// The child of an entry, and where the entry begins.
+#[derive(Clone, Copy)]
+pub struct Lead {
+    pub child: u64,
+    pub low: u64,
+}
+
+/// What the entries so far tell at a key and a version: their value, the last that is alive and begins at
+/// or below the key, and where the first one begins that is alive and does so above it.
+#[derive(Clone, Copy)]
+pub struct Walked {
+    pub value: u128,
+    pub last: Option<Lead>,
+    pub next: Option<u64>,
+}
+
+/// What a node tells in a place, or `None` exactly where it does not keep to the place.
+pub fn told_on(view: &View<MvNode>, place: Place) -> Option<Told>
+    ensures none { result ≡ None → IsInPlace view.now.level place view.now → ⊥ }
+    ensures fits { IfSome result (λ told. IsInPlace view.now.level place view.now) }
+    ensures told { IfSome result (λ told. TellsOf view.now place told) }
+{
+    let mut walked = Walked {
+        value: 0,
+        last: None,
+        next: None,
+    };
+    for index in 0..view.len() {
+        let e = view.entry(index);
+        if !begins_within(&e, place) {
+            return None;
+        }
+        walked = walk_on(walked, &e, place);
+    }
+    told_of(view, walked, place)
+}
+
+// What the entries tell with one more.
+fn walk_on(walked: Walked, e: &MvEntry, place: Place) -> Walked
+    ensures { (es : List MvEntry) → IsWalked es place walked → IsWalked (es ++ e.now ∷ []) place result }
+{
+    if !is_alive(e, place.version) {
+        return walked;
+    }
+    if e.low <= place.key {
+        return Walked {
+            value: walked.value.wrapping_add(e.value),
+            last: Some(Lead {
+                child: e.child,
+                low: e.low,
+            }),
+            next: walked.next,
+        };
+    }
+    if walked.next.is_some() {
+        return walked;
+    }
+    Walked {
+        value: walked.value,
+        last: walked.last,
+        next: Some(e.low),
+    }
+}
+
+// What the node tells, all of whose entries were passed, or `None` where an index node leads nowhere.
+fn told_of(view: &View<MvNode>, walked: Walked, place: Place) -> Option<Told>
+    requires { IsWalked view.now.entries.items place walked }
+    ensures none { result ≡ None → IsInPlace view.now.level place view.now → ⊥ }
+    ensures leads { IfSome result (λ told. (view.now.level ≡ 1) ⊎ IsSome (child_of view.now place.key place.version)) }
+    ensures told { IfSome result (λ told. TellsOf view.now place told) }
+{
+    if view.level() == 1 {
+        return Some(Told {
+            value: walked.value,
+            step: None,
+        });
+    }
+    let Some(last) = walked.last else {
+        return None;
+    };
+    let reached = Reached {
+        child: last.child,
+        low: last.low,
+        next: walked.next,
+    };
+    Some(Told {
+        value: walked.value,
+        step: Some(Step {
+            child: last.child,
+            place: inner_place(reached, place),
+        }),
+    })
+}
