@@ -20,7 +20,7 @@ mod tests;
 pub use entry::{page_of_one, set_entry};
 pub use laws::{cut_laws, in_three, page_laws, region_laws};
 pub use median::median_cut;
-pub use places::{find, region_of};
+pub use places::{find, place_on, region_of};
 pub use replace::replace_by_cut;
 pub use root::{KEY_END, root_laws, root_region};
 pub use split::split_first_cut;

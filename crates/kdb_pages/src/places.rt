@@ -8,8 +8,9 @@ ghost use Rattle.page_layout.specs.Regions.{AreProper, above_cut, below_cut, pla
 
 use crate::laws::in_three;
 use crate::sides::first_cut;
+use arrayvec::ArrayVec;
 use bw_types::Region;
-use page_layout::{CutNode, CutPage};
+use page_layout::{CutNode, CutPage, View};
 
 // The part of the region whose keys of the dimension are below the key.
 fn below_cut(region: &Region, dimension: u8, key: u64) -> Region
@@ -110,4 +111,27 @@ pub fn region_of(page: &CutPage, region: &Region, index: usize) -> Region
     ensures { result ≡ region_at (cuts_in page.now.cuts.items) region.now index }
 {
     region_at(page.cuts.as_slice(), region, index)
+}
+
+// The nodes of the cuts of a page that is read in place.
+fn nodes_on(view: &View<CutPage>) -> ArrayVec<CutNode, 33>
+    requires { IsCutPageUpTo 17 view.now }
+    ensures { result.items ≡ view.now.cuts.items }
+{
+    let mut nodes = ArrayVec::new();
+    for place in 0..view.node_count() {
+        nodes.push(view.node(place));
+    }
+    nodes
+}
+
+/// The index of the entry to which the keys lead on a page that is read in place. Where the page's region holds the
+/// keys, it is the entry whose region does.
+pub fn place_on(view: &View<CutPage>, keys: &[u64; 3]) -> usize
+    requires { IsCutPageUpTo 17 view.now }
+    ensures place { result ≡ place_of (cuts_in view.now.cuts.items) keys.now }
+    ensures few { result < length view.now.entries.items }
+{
+    let nodes = nodes_on(view);
+    place_of(nodes.as_slice(), keys)
 }
