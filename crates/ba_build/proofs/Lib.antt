@@ -1,0 +1,4 @@
+pub mod Found
+pub mod Children
+pub mod Apart
+pub mod Whole

@@ -1,0 +1,18 @@
+-- Points of which a tree may be built.
+use Rattle.std.specs.Prelude.{ℕ, ◌-◌, ◌^◌, ◌<◌, ◌≤◌, List, length}
+use Rattle.std.specs.List.{All}
+use Rattle.bw_types.specs.declared.point.Point.{Point}
+use Rattle.dom_index.specs.Points.{AreKeysBelow}
+use Rattle.ba_trees.specs.Pages.{ShareNoKey}
+
+-- The point's keys are below the end of regions, and its version below the last.
+abbrev pub IsPointBelow : ℕ → Point → Type 0
+IsPointBelow dims p = AreKeysBelow dims p.keys × (p.version < 2 ^ 32 - 1)
+
+-- At most 2^31 points, of which no two share a key in one of the dimensions; their keys are below the end of regions, and
+-- their versions below 2^32 - 1.
+pub record MayBeBuilt (dims : ℕ) (points : List Point) : Type 0 where
+  pub few : length points ≤ 2 ^ 31
+  pub apart : ShareNoKey dims points
+  pub keys : All (λ p. AreKeysBelow dims p.keys) points
+  pub versions : All (λ p. p.version < 2 ^ 32 - 1) points

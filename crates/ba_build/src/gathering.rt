@@ -1,0 +1,68 @@
+//! The points of the leaves, page by page.
+ghost use Rattle.std.specs.Prelude.{◌≡◌, ◌⊎◌, ◌+◌, ◌++◌, ◌<◌, ℕ, None, Err, IsTrue, OnOk, length};
+ghost use Rattle.page_layout.specs.Damage.{IsDamagedBelow, NothingBeside};
+ghost use Rattle.ba_trees.specs.Nodes.{FitsNode, HoldsNoPoints, Node};
+ghost use Rattle.ba_trees.specs.Pages.{points_on};
+ghost use Rattle.ba_trees.specs.Stands.{points_below};
+ghost use Rattle.ba_build.specs.Collected.{LeadsToEach, OnlyCollects};
+
+use bw_types::{Point, Tree};
+use page_access::{read_level, read_page};
+use page_layout::{CutPage, PointLeaf};
+use page_ports::{Pages, StageFault};
+
+/// Pushes the points below a page of this level of the tree.
+///
+/// It ends with the first leaf past the tree's count: then `Damaged` carries the root.
+pub(crate) fn gather<P: Pages>(
+    pages: &mut P,
+    tree: &Tree,
+    page: u64,
+    level: u8,
+    points: &mut Vec<Point>,
+) -> Result<(), StageFault>
+    ensures points { OnOk result (IsTrue (P.tells pages.old) → points.new.items ≡ points.old.items ++ points_below level (P.map pages.old) page) }
+    ensures damaged { (damaged : ℕ) → result ≡ Err (StageFault.Damaged damaged) → IsTrue (P.tells pages.old)
+        → IsDamagedBelow {N = Node} {P = Unit {0}} FitsNode LeadsToEach NothingBeside (P.map pages.old) level tt page damaged
+        ⊎ ((damaged ≡ tree.now.root) × (tree.now.count < length points.old.items + length (points_below level (P.map pages.old) page))) }
+    ensures reads { OnlyCollects P.Pages pages.old pages.new result }
+{
+    if level == 0 {
+        return Ok(());
+    }
+    if level == 1 {
+        return gather_leaf(pages, tree, page, points);
+    }
+    let cuts: CutPage = read_level(pages, page, level)?;
+    for entry in cuts.entries.as_slice() {
+        gather(pages, tree, entry.child, level - 1, points)?;
+    }
+    Ok(())
+}
+
+// Pushes the points of a leaf.
+fn gather_leaf<P: Pages>(
+    pages: &mut P,
+    tree: &Tree,
+    page: u64,
+    points: &mut Vec<Point>,
+) -> Result<(), StageFault>
+    ensures points { OnOk result (IsTrue (P.tells pages.old) → points.new.items ≡ points.old.items ++ points_on (P.map pages.old) page) }
+    ensures damaged { (damaged : ℕ) → result ≡ Err (StageFault.Damaged damaged) → IsTrue (P.tells pages.old)
+        → ((damaged ≡ page) × HoldsNoPoints (P.map pages.old) None page)
+        ⊎ ((damaged ≡ tree.now.root) × (tree.now.count < length points.old.items + length (points_on (P.map pages.old) page))) }
+    ensures reads { OnlyCollects P.Pages pages.old pages.new result }
+{
+    let leaf: PointLeaf = read_page(pages, page)?;
+    if leaf.next != 0 {
+        return Err(StageFault::Damaged(page));
+    }
+    let more = leaf.points.as_slice();
+    if points.len().saturating_add(more.len()) as u64 > u64::from(tree.count) {
+        return Err(StageFault::Damaged(tree.root));
+    }
+    match points.extend_from_slice(more) {
+        Ok(()) => Ok(()),
+        Err(_) => Err(StageFault::NoMemory),
+    }
+}
