@@ -1,33 +1,54 @@
-//! What trees over versions cost, over a stage in memory.
+//! What trees over versions and multiversion trees cost, over a stage in memory.
 //!
-//! Without an argument it adds 1,000 values and compares the tree with a plain sum at every version.
-//! With a number of additions it prints how many are made a second, how many values are read a
-//! second, and how many pages an addition and a value get. With the word `objects` and a number it
-//! prints the same of an object table: how many objects are entered and found a second.
+//! Without an argument it adds 1,000 values to a tree of each kind and compares the trees with plain
+//! sums. With a number of additions it prints how many are made a second in a tree over versions, how many values are
+//! read a second, and how many pages an addition and a value get. With the word `random` or `rising` and a
+//! number it prints the same of a multiversion tree whose keys come so, and beside it a scan of the same
+//! points. With the word `points` and a number it prints what a dominance sum over two dimensions costs, and
+//! beside it a scan of the same points. With the word `objects` and a number it prints how many objects
+//! are entered in an object table and found a second. With the word `weights` and a number it prints what all
+//! weights of an object cost, made so many times.
 #![tactic(auto)]
 
+mod dominance;
 mod draws;
 mod measured;
 mod objects;
+mod over_keys;
 mod plain;
+mod put_count;
+mod weights;
 
 use anyhow::{Context, Result};
+use dominance::{compare_points, measure_points};
 use measured::measure;
 use objects::measure_objects;
-use plain::compare;
+use over_keys::{Keys, measure_keys};
+use plain::{compare, compare_keys};
 use std::env;
+use weights::measure_weights;
 
 fn main(rt: HostRuntime) -> Result<()> {
-    match env::args(&rt)?.nth(1) {
-        None => compare(&rt),
-        Some(word) if word.as_str() == "objects" => {
-            let word = env::args(&rt)?.nth(2).context("a number of objects")?;
-            let objects = word.parse::<u32>().context("a number of objects")?;
-            measure_objects(&rt, objects)
-        }
-        Some(word) => {
+    let Some(word) = env::args(&rt)?.nth(1) else {
+        compare(&rt)?;
+        compare_keys(&rt)?;
+        return compare_points(&rt);
+    };
+    match word.as_str() {
+        "weights" => measure_weights(&rt, number_after(&rt)?),
+        "objects" => measure_objects(&rt, number_after(&rt)?),
+        "points" => measure_points(&rt, number_after(&rt)?),
+        "random" => measure_keys(&rt, Keys::Random, number_after(&rt)?),
+        "rising" => measure_keys(&rt, Keys::Rising, number_after(&rt)?),
+        word => {
             let additions = word.parse::<u32>().context("a number of additions")?;
             measure(&rt, additions)
         }
     }
+}
+
+// The number that the second word tells.
+fn number_after(rt: &HostRuntime) -> Result<u32> {
+    let word = env::args(rt)?.nth(2).context("a number")?;
+    word.parse::<u32>().context("a number")
 }

@@ -1,0 +1,223 @@
+//! Additions and values of multiversion trees, with the pages that they get and put, and beside them a scan
+//! of the same points in a sorted array.
+
+use crate::draws::Draws;
+use crate::measured::rate;
+use crate::put_count::PutCount;
+use anyhow::Result;
+use bw_types::Tree;
+use mvsb_tree::{mv_add, mv_value};
+use page_ports::{MemStage, PageFault, StageFault};
+use std::alloc::{AllocError, Global};
+use std::time::Instant;
+
+const QUERIES: u32 = 100_000;
+
+const SCANNED: usize = 20;
+
+const ROUNDS: u32 = 5;
+
+/// In which order keys come.
+#[derive(Clone, Copy, PartialEq, Eq, Debug)]
+pub enum Keys {
+    Random,
+    Rising,
+}
+
+// A key and a version, and what is added from them on.
+#[derive(Clone, Copy)]
+struct Keyed {
+    key: u64,
+    version: u32,
+    value: u32,
+}
+
+// The versions rise, four additions to each.
+fn drawn(draws: &mut Draws, keys: Keys, number: u32) -> Keyed {
+    Keyed {
+        key: match keys {
+            Keys::Random => u64::from(draws.draw()),
+            Keys::Rising => u64::from(number),
+        },
+        version: number / 4,
+        value: draws.draw(),
+    }
+}
+
+// A key and a version among those of so many additions; nothing is added.
+fn asked(draws: &mut Draws, keys: Keys, additions: u32) -> Keyed {
+    Keyed {
+        key: match keys {
+            Keys::Random => u64::from(draws.draw()),
+            Keys::Rising => u64::from(draws.draw() % additions.max(1)),
+        },
+        version: draws.draw() % (additions / 4).saturating_add(1),
+        value: 0,
+    }
+}
+
+fn add_all(
+    stage: &mut PutCount<MemStage>,
+    tree: &mut Tree,
+    keys: Keys,
+    additions: u32,
+) -> Result<(), StageFault> {
+    let mut draws = Draws::new(1);
+    for number in 0..additions {
+        let new = drawn(&mut draws, keys, number);
+        mv_add(stage, tree, new.key, number / 4, u128::from(new.value))?;
+    }
+    Ok(())
+}
+
+fn value_all(
+    stage: &mut MemStage,
+    tree: &Tree,
+    keys: Keys,
+    additions: u32,
+) -> Result<u128, PageFault> {
+    let mut draws = Draws::new(2);
+    let mut total = 0_u128;
+    for _ in 0..QUERIES {
+        let at = asked(&mut draws, keys, additions);
+        total = total.wrapping_add(mv_value(stage, tree, at.key, at.version)?);
+    }
+    Ok(total)
+}
+
+// The first values again, one by one.
+fn first_values(
+    stage: &mut MemStage,
+    tree: &Tree,
+    keys: Keys,
+    additions: u32,
+) -> Result<[u128; SCANNED], PageFault> {
+    let mut draws = Draws::new(2);
+    let mut values = [0; SCANNED];
+    for place in 0..SCANNED {
+        let at = asked(&mut draws, keys, additions);
+        values[place] = mv_value(stage, tree, at.key, at.version)?;
+    }
+    Ok(values)
+}
+
+fn sorted(alloc: Global, keys: Keys, additions: u32) -> Result<Vec<Keyed>, AllocError> {
+    let mut draws = Draws::new(1);
+    let mut points = Vec::new(alloc);
+    for number in 0..additions {
+        points.push(drawn(&mut draws, keys, number))?;
+    }
+    points.sort_unstable_by_key(|point| point.key);
+    Ok(points)
+}
+
+fn scan(points: &[Keyed], at: Keyed) -> u128 {
+    let mut total = 0_u128;
+    for point in points {
+        if point.key > at.key {
+            return total;
+        }
+        if point.version <= at.version {
+            total = total.wrapping_add(u128::from(point.value));
+        }
+    }
+    total
+}
+
+fn scanned(points: &[Keyed], keys: Keys, additions: u32) -> [u128; SCANNED] {
+    let mut draws = Draws::new(2);
+    let mut values = [0; SCANNED];
+    for place in 0..SCANNED {
+        values[place] = scan(points, asked(&mut draws, keys, additions));
+    }
+    values
+}
+
+fn total_of(values: &[u128; SCANNED]) -> u128 {
+    let mut total = 0_u128;
+    for place in 0..SCANNED {
+        total = total.wrapping_add(values[place]);
+    }
+    total
+}
+
+// A hundred times so many for each.
+fn hundredths(many: u64, each: u32) -> u64 {
+    many.saturating_mul(100) / u64::from(each.max(1))
+}
+
+fn print_additions(
+    rt: &HostRuntime,
+    stage: &mut PutCount<MemStage>,
+    tree: &mut Tree,
+    keys: Keys,
+    additions: u32,
+) -> Result<()> {
+    let start = Instant::now(rt)?;
+    let made = add_all(stage, tree, keys, additions).is_ok();
+    let took = start.elapsed(rt)?.as_nanos();
+    println!(rt;
+        "{additions} additions, {keys:?} keys: all made {made}, {} a second, {} pages, {} gets and {} puts in 100",
+        rate(additions, took),
+        stage.stage.allotted() - 3,
+        hundredths(stage.stage.gets(), additions),
+        hundredths(stage.puts, additions)
+    )?;
+    Ok(())
+}
+
+fn print_values(
+    rt: &HostRuntime,
+    stage: &mut MemStage,
+    tree: &Tree,
+    keys: Keys,
+    additions: u32,
+) -> Result<()> {
+    let before = stage.gets();
+    let start = Instant::now(rt)?;
+    let read = value_all(stage, tree, keys, additions).is_ok();
+    let took = start.elapsed(rt)?.as_nanos();
+    let gets = stage.gets().saturating_sub(before);
+    println!(rt;
+        "{QUERIES} values: all read {read}, {} a second, {} gets in 100, {} nanoseconds a get",
+        rate(QUERIES, took),
+        hundredths(gets, QUERIES),
+        took / u128::from(gets.max(1))
+    )?;
+    Ok(())
+}
+
+fn print_scans(
+    rt: &HostRuntime,
+    stage: &mut MemStage,
+    tree: &Tree,
+    keys: Keys,
+    additions: u32,
+) -> Result<()> {
+    let points = sorted(rt.alloc(), keys, additions)?;
+    let mut values = [0; SCANNED];
+    let start = Instant::now(rt)?;
+    for _ in 0..ROUNDS {
+        values = scanned(points.as_slice(), keys, additions);
+    }
+    let took = start.elapsed(rt)?.as_nanos();
+    let same = first_values(stage, tree, keys, additions) == Ok(values);
+    println!(rt;
+        "scans of a sorted array: {} a second; the first {SCANNED} add up to {}, the same values {same}",
+        rate(SCANNED as u32 * ROUNDS, took),
+        total_of(&values)
+    )?;
+    Ok(())
+}
+
+/// Prints what so many additions and 100,000 values cost, and what the same values cost by a scan.
+pub fn measure_keys(rt: &HostRuntime, keys: Keys, additions: u32) -> Result<()> {
+    let mut stage = PutCount {
+        stage: MemStage::new(rt.alloc(), 4294967295),
+        puts: 0,
+    };
+    let mut tree = Tree::default();
+    print_additions(rt, &mut stage, &mut tree, keys, additions)?;
+    print_values(rt, &mut stage.stage, &tree, keys, additions)?;
+    print_scans(rt, &mut stage.stage, &tree, keys, additions)
+}
