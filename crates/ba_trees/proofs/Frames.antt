@@ -103,7 +103,7 @@ module _ (dims : ℕ) (subtotals borders : TreeKind) (of_subtotals : KeepsLaws s
         (subst (λ (ps : List ℕ). AgreeOn ps a b) (sym (of_borders.empty a).1) (λ p named. cc))
   ]
 
-  outside_same : (a b : PageMap) (region : Region) (points : List Point) (outside : Outside) → IsOutsideTyped outside → OutsideStands dims subtotals borders a region points outside
+  pub outside_same : (a b : PageMap) (region : Region) (points : List Point) (outside : Outside) → IsOutsideTyped outside → OutsideStands dims subtotals borders a region points outside
       → AgreeOn (outside_pages dims subtotals borders a outside) a b
       → OutsideStands dims subtotals borders b region points outside × (outside_pages dims subtotals borders b outside ≡ outside_pages dims subtotals borders a outside)
   outside_same a b region points (Pocket page count) typed s h = (pocket_stands dims a b region points page count (agree_first page [] a b h) s, refl)
@@ -123,7 +123,7 @@ module _ (dims : ℕ) (subtotals borders : TreeKind) (of_subtotals : KeepsLaws s
             ∙ ap (λ (ps : List ℕ). subtotals.footprint a subtotal ++ ps) (flat_same (borders.footprint a) (borders.footprint b) empty_tree trees each),
       )
 
-  outside_there : (a : PageMap) (region : Region) (points : List Point) (outside : Outside) → IsOutsideTyped outside → OutsideStands dims subtotals borders a region points outside
+  pub outside_there : (a : PageMap) (region : Region) (points : List Point) (outside : Outside) → IsOutsideTyped outside → OutsideStands dims subtotals borders a region points outside
       → AreInMap a (outside_pages dims subtotals borders a outside)
   outside_there a region points (Pocket page count) typed s = there_first a page (of_points.point_leaf_page (leaf_on a page)) [] s.pocket.spelled (λ p named. cc)
   outside_there a region points (Trees subtotal trees) typed s =
@@ -134,7 +134,7 @@ module _ (dims : ℕ) (subtotals borders : TreeKind) (of_subtotals : KeepsLaws s
       let stands = border_at a region points subtotal trees s i (omega (arith, three, lt)) in
       of_borders.in_map a (slice_index_or trees i empty_tree) stands.0 stands.1))
 
-  outside_balanced : (a b : PageMap) (region : Region) (points : List Point) (outside : Outside) → IsOutsideTyped outside → OutsideStands dims subtotals borders a region points outside
+  pub outside_balanced : (a b : PageMap) (region : Region) (points : List Point) (outside : Outside) → IsOutsideTyped outside → OutsideStands dims subtotals borders a region points outside
       → AgreeOn (outside_pages dims subtotals borders a outside) a b → OutsideIsBalanced dims subtotals borders a outside → OutsideIsBalanced dims subtotals borders b outside
   outside_balanced a b region points (Pocket page count) typed s h balanced = tt
   outside_balanced a b region points (Trees subtotal trees) typed s h balanced =

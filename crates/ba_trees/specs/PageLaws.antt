@@ -10,13 +10,14 @@ use Rattle.bw_types.specs.declared.point.Point.{Point}
 use Rattle.bw_types.specs.declared.region.Region.{Region}
 use Rattle.page_ports.specs.Frame.{AgreeOn, AreInMap}
 use Rattle.page_ports.specs.Pages.{PageMap}
+use Rattle.page_layout.specs.BaEntry.{IsOutsideTyped}
 use Rattle.page_layout.specs.Cuts.{Cuts, entry_count, in_dimensions}
 use Rattle.page_layout.specs.PointLeaf.{IsPointTyped}
 use Rattle.page_layout.specs.Regions.{AreProper, region_at}
 use Rattle.dom_index.specs.Points.{AreKeysBelow}
 use Rattle.ba_trees.specs.Kinds.{trees_over, version_trees}
 use Rattle.ba_trees.specs.Pages.{ShareNoKey, no_entry}
-use Rattle.ba_trees.specs.Stands.{BalancedBelow, OutsideStands, StandsBelow, pages_below, points_below}
+use Rattle.ba_trees.specs.Stands.{BalancedBelow, OutsideIsBalanced, OutsideStands, StandsBelow, outside_pages, pages_below, points_below}
 
 -- Whether a page stands, and which pages and points are below it, depends on these pages alone.
 abbrev pub PageStandsByItsPages : Type 0
@@ -56,6 +57,28 @@ PartsKeepInside = (dims : ℕ) (cuts : Cuts) (region : Region) (entries : List B
     → All (λ p. (length p.keys ≡ 3) × IsTrue (lies_in dims p.keys (region_at cuts region place))) (points (slice_index_or entries place no_entry)))
     → index < length entries
     → points (slice_index_or entries index no_entry) ≡ points_of_class dims (region_at cuts region index) Inside (flat_map points entries)
+
+-- Whether what an entry keeps outside its region stands, and which pages are its own, depends on these pages alone.
+abbrev pub OutsideStandsByItsPages : Type 0
+OutsideStandsByItsPages = (dims : ℕ) (pages others : PageMap) (region : Region) (points : List Point) (outside : Outside) → IsOutsideTyped outside
+    → OutsideStands dims version_trees (trees_over (dims - 1)) pages region points outside
+    → AgreeOn (outside_pages dims version_trees (trees_over (dims - 1)) pages outside) pages others
+    → OutsideStands dims version_trees (trees_over (dims - 1)) others region points outside
+    × (outside_pages dims version_trees (trees_over (dims - 1)) others outside ≡ outside_pages dims version_trees (trees_over (dims - 1)) pages outside)
+
+-- So does whether its trees are balanced.
+abbrev pub OutsideBalanceByItsPages : Type 0
+OutsideBalanceByItsPages = (dims : ℕ) (pages others : PageMap) (region : Region) (points : List Point) (outside : Outside) → IsOutsideTyped outside
+    → OutsideStands dims version_trees (trees_over (dims - 1)) pages region points outside
+    → AgreeOn (outside_pages dims version_trees (trees_over (dims - 1)) pages outside) pages others
+    → OutsideIsBalanced dims version_trees (trees_over (dims - 1)) pages outside
+    → OutsideIsBalanced dims version_trees (trees_over (dims - 1)) others outside
+
+-- These pages are in the map.
+abbrev pub OutsidePagesAreThere : Type 0
+OutsidePagesAreThere = (dims : ℕ) (pages : PageMap) (region : Region) (points : List Point) (outside : Outside) → IsOutsideTyped outside
+    → OutsideStands dims version_trees (trees_over (dims - 1)) pages region points outside
+    → AreInMap pages (outside_pages dims version_trees (trees_over (dims - 1)) pages outside)
 
 -- The order of a page's points does not count for what an entry keeps outside its region.
 abbrev pub OutsideInAnyOrder : Type 0

@@ -1,5 +1,5 @@
 //! The laws of a page with those below it, and of the points that its entries keep.
-ghost use Rattle.ba_trees.specs.PageLaws.{BordersAreBelow, BordersShareNoKey, OutsideInAnyOrder, PageBalanceByItsPages, PageStandsByItsPages, PagesBelowAreThere, PartsKeepInside, PointsLieInside, RootKeysAreBelow};
+ghost use Rattle.ba_trees.specs.PageLaws.{BordersAreBelow, BordersShareNoKey, OutsideBalanceByItsPages, OutsideInAnyOrder, OutsidePagesAreThere, OutsideStandsByItsPages, PageBalanceByItsPages, PageStandsByItsPages, PagesBelowAreThere, PartsKeepInside, PointsLieInside, RootKeysAreBelow};
 
 use crate::laws::tree_kind_laws;
 
@@ -11,6 +11,16 @@ pub fn page_laws()
     ensures in_map { PagesBelowAreThere }
     ensures inside { PointsLieInside }
     ensures any_order { OutsideInAnyOrder }
+{
+    tree_kind_laws();
+}
+
+/// Whether what an entry keeps outside its region stands, its pages and its balance depend on its own pages alone, which
+/// are in the map.
+pub fn outside_laws()
+    ensures by_its_pages { OutsideStandsByItsPages }
+    ensures balance { OutsideBalanceByItsPages }
+    ensures in_map { OutsidePagesAreThere }
 {
     tree_kind_laws();
 }

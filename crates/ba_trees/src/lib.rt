@@ -10,5 +10,5 @@ mod laws;
 #[cfg(test)]
 mod tests;
 
-pub use below::{border_laws, page_laws, parts_keep_inside};
+pub use below::{border_laws, outside_laws, page_laws, parts_keep_inside};
 pub use laws::{children_keep_inside, tree_kind_laws};

@@ -4,7 +4,7 @@ ghost use Rattle.page_layout.specs.BaEntry.{IsBaEntryTyped, ba_entry_fits};
 ghost use Rattle.page_layout.specs.Cuts.{Entry, cuts_in};
 ghost use Rattle.page_layout.specs.CutPage.{IsCutPage, IsCutPageUpTo, IsTyped};
 
-use crate::replace::ENTRY_NODE;
+use crate::sides::entry_node;
 use arrayvec::ArrayVec;
 use bw_types::BaEntry;
 use page_layout::CutPage;
@@ -19,7 +19,7 @@ pub fn page_of_one(level: u8, entry: &BaEntry) -> CutPage
     ensures typed { IsBaEntryTyped entry.now → IsTyped result }
 {
     let mut cuts = ArrayVec::new();
-    cuts.push(ENTRY_NODE);
+    cuts.push(entry_node());
     let mut entries = ArrayVec::new();
     entries.push(*entry);
     CutPage {

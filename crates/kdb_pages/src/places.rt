@@ -12,8 +12,8 @@ use arrayvec::ArrayVec;
 use bw_types::Region;
 use page_layout::{CutNode, CutPage, View};
 
-// The part of the region whose keys of the dimension are below the key.
-fn below_cut(region: &Region, dimension: u8, key: u64) -> Region
+/// The part of the region whose keys of the dimension are below the key.
+pub fn below_cut(region: &Region, dimension: u8, key: u64) -> Region
     requires { dimension < 3 }
     ensures { result ≡ below_cut region.now dimension key }
 {
@@ -22,8 +22,8 @@ fn below_cut(region: &Region, dimension: u8, key: u64) -> Region
     part
 }
 
-// The part of the region whose keys of the dimension are from the key on.
-fn above_cut(region: &Region, dimension: u8, key: u64) -> Region
+/// The part of the region whose keys of the dimension are from the key on.
+pub fn above_cut(region: &Region, dimension: u8, key: u64) -> Region
     requires { dimension < 3 }
     ensures { result ≡ above_cut region.now dimension key }
 {

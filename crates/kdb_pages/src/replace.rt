@@ -7,17 +7,10 @@ ghost use Rattle.page_layout.specs.BaEntry.{IsBaEntryTyped, ba_entry_fits};
 ghost use Rattle.page_layout.specs.Regions.{cut_at};
 ghost use Rattle.kdb_pages.specs.Sides.{with_cut};
 
-use crate::sides::{CUT, ENTRY};
+use crate::sides::{ENTRY, cut_node, entry_node};
 use arrayvec::ArrayVec;
 use bw_types::BaEntry;
 use page_layout::{CutNode, CutPage};
-
-/// The node of an entry.
-pub(crate) const ENTRY_NODE: CutNode = CutNode {
-    tag: ENTRY,
-    dimension: 0,
-    key: 0,
-};
 
 // The place of the node of the entry at the index, or past the last node where there are fewer entries.
 fn entry_node_at(nodes: &[CutNode], index: usize) -> usize
@@ -42,13 +35,8 @@ fn cut_nodes(nodes: &mut ArrayVec<CutNode, 33>, index: usize, dimension: u8, key
     ensures { nodes.new.items ≡ with_cut nodes.old.items index (cut_node dimension key) }
 {
     let at = entry_node_at(nodes.as_slice(), index);
-    nodes.insert(at, ENTRY_NODE);
-    let cut = CutNode {
-        tag: CUT,
-        dimension,
-        key,
-    };
-    nodes.insert(at, cut);
+    nodes.insert(at, entry_node());
+    nodes.insert(at, cut_node(dimension, key));
 }
 
 // Puts two entries in the place of the one at the index.

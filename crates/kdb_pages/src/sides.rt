@@ -1,5 +1,6 @@
 //! The nodes of the sides of a cut.
 ghost use Rattle.std.specs.Prelude.{◌≡◌, ◌<◌, ◌≤◌, length};
+ghost use Rattle.page_layout.specs.Cuts.{cut_node, entry_node};
 ghost use Rattle.kdb_pages.specs.Sides.{AreOfCut, AreOfCuts, filling};
 
 use page_layout::CutNode;
@@ -9,6 +10,28 @@ pub(crate) const ENTRY: u8 = 0;
 
 /// The tag of the node of a cut.
 pub(crate) const CUT: u8 = 1;
+
+/// The node of an entry.
+pub fn entry_node() -> CutNode
+    ensures { result ≡ entry_node }
+{
+    CutNode {
+        tag: ENTRY,
+        dimension: 0,
+        key: 0,
+    }
+}
+
+/// The node of a cut at the key of the dimension.
+pub fn cut_node(dimension: u8, key: u64) -> CutNode
+    ensures { result ≡ cut_node dimension key }
+{
+    CutNode {
+        tag: CUT,
+        dimension,
+        key,
+    }
+}
 
 /// The cut that nodes begin with, and the nodes of its two sides.
 #[derive(Drop)]

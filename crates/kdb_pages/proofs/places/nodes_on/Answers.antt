@@ -1,4 +1,4 @@
-use Rattle.std.proofs.Common.{◌≡◌, ℕ, suc, ◌+◌, ◌*◌, ◌≤◌, length, take, List, [], ◌∷◌, ◌++◌, rules, arith, sym, ap, ◌∙◌}
+use Rattle.std.proofs.Common.{◌≡◌, ℕ, suc, ◌+◌, take, List, [], ◌∷◌, ◌++◌, rules, arith, sym, ap, ◌∙◌}
 use Rattle.std.proofs.Math.Seq.{take-suc}
 use Rattle.page_layout.specs.declared.cut_node.CutNode.{CutNode}
 use Rattle.kdb_pages.proofs.Splitting.{page_counted}

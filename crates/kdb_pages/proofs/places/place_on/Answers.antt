@@ -1,4 +1,4 @@
-use Rattle.std.proofs.Common.{◌≡◌, ◌∙◌, ap, length, ℕ, List, arith}
+use Rattle.std.proofs.Common.{◌≡◌, ◌∙◌, ap, length, List, arith}
 use Rattle.page_layout.specs.declared.cut_node.CutNode.{CutNode}
 use Rattle.page_layout.specs.Cuts.{cuts_in, entry_count}
 use Rattle.kdb_pages.proofs.Partition.{place_below}
