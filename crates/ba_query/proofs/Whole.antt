@@ -1,5 +1,5 @@
 -- The sum of a whole tree, from that of its root's page.
-use Rattle.std.proofs.Common.{◌≡◌, ◌≢◌, ℕ, zero, suc, ◌+◌, ◌-◌, ◌*◌, ◌<◌, ◌≤◌, ◌&&◌, nat_le, List, [], ◌∷◌, take, length, slice_index, if◌then◌else◌, refl, sym, ap, ◌∙◌, subst, arith, ◌%◌, ◌^◌}
+use Rattle.std.proofs.Common.{◌≡◌, ◌≢◌, ℕ, zero, suc, ◌+◌, ◌-◌, ◌*◌, ◌<◌, ◌≤◌, ◌&&◌, nat_le, List, [], ◌∷◌, take, length, slice_index, if◌then◌else◌, inl, inr, refl, sym, ap, ◌∙◌, subst, arith, ◌%◌, ◌^◌}
 use Rattle.std.specs.List.{sum_by}
 use Rattle.std.proofs.Math.Nat.{mul-le-mul_right}
 use Rattle.std.proofs.lemmas.Bool.{lt-ltb, le-ltb}
@@ -13,16 +13,20 @@ use Rattle.bw_types.specs.Regions.{Holds, IsInThree, root_region}
 use Rattle.bw_types.specs.declared.point.Point.{Point}
 use Rattle.bw_types.specs.declared.tree.Tree.{Tree}
 use Rattle.page_ports.specs.Pages.{PageMap}
-use Rattle.page_layout.specs.Damage.{IsDamagedBelow}
+use Rattle.page_layout.specs.Damage.{IsDamagedBelow, NothingBeside}
 use Rattle.dom_index.specs.Points.{AreKeysBelow}
+use Rattle.sb_tree.specs.Damage as of_versions
 use Rattle.sb_tree.specs.Stands as over_versions
+use Rattle.sb_tree.specs.Steps.{total_below}
+use Rattle.sb_tree.proofs.Whole as on_ways
 use Rattle.mvsb_tree.specs.Stands as over_keys
+use Rattle.mvsb_tree.specs.Steps.{root_at}
 use Rattle.ba_trees.specs.Kinds.{trees_over, version_trees}
 use Rattle.ba_trees.specs.Stands.{BaBalanced, BaStands, RootStands, StandsBelow, points_below}
 use Rattle.ba_query.specs.Costs.{cost_below, outside_cost}
 use Rattle.ba_trees.specs.Nodes.{FitsNode}
 use Rattle.ba_query.specs.Damage.{IsDamagedBeside, IsDamagedForSum, LeadsOn}
-use Rattle.ba_query.specs.Sought.{IsSoughtIn, key_within, keys_within}
+use Rattle.ba_query.specs.Sought.{IsSoughtIn, Sought, key_within, keys_within, sought_within}
 use Rattle.ba_query.proofs.Adding.{sum_any_order}
 use Rattle.ba_query.proofs.Entries.{some_points}
 
@@ -76,6 +80,29 @@ damaged_more (suc zero) pages tree keys within version damaged two is h = absurd
 damaged_more (suc (suc d)) pages tree keys within version damaged two is h =
     subst (λ (n : ℕ). IsDamagedBelow FitsNode LeadsOn (IsDamagedBeside (suc (suc d)) (IsDamagedForSum n)) pages tree.levels (record { keys = keys_within (suc (suc d)) keys; version = version }) tree.root damaged) (less d)
     (subst (λ (ks : List ℕ). IsDamagedBelow FitsNode LeadsOn (IsDamagedBeside (suc (suc d)) (IsDamagedForSum (suc (suc d) - 1))) pages tree.levels (record { keys = ks; version = version }) tree.root damaged) is h)
+
+pub whole_more : (dims : ℕ) (pages : PageMap) (tree : Tree) (keys within : List ℕ) (version : ℕ) → 2 ≤ dims → within ≡ keys_within dims keys
+    → ((damaged : ℕ) → IsDamagedBelow FitsNode LeadsOn (IsDamagedBeside dims (IsDamagedForSum (dims - 1))) pages tree.levels (record { keys = within; version = version }) tree.root damaged → ⊥)
+    → (damaged : ℕ) → IsDamagedForSum dims pages tree (record { keys = keys; version = version }) damaged → ⊥
+whole_more zero pages tree keys within version two is h damaged d = absurd (omega (arith, two))
+whole_more (suc zero) pages tree keys within version two is h damaged d = absurd (omega (arith, two))
+whole_more (suc (suc n)) pages tree keys within version two is h damaged d =
+    h damaged (subst (λ (ks : List ℕ). IsDamagedBelow FitsNode LeadsOn (IsDamagedBeside (suc (suc n)) (IsDamagedForSum (suc (suc n) - 1))) pages tree.levels (record { keys = ks; version = version }) tree.root damaged) (sym is)
+    (subst (λ (k : ℕ). IsDamagedBelow FitsNode LeadsOn (IsDamagedBeside (suc (suc n)) (IsDamagedForSum k)) pages tree.levels (record { keys = keys_within (suc (suc n)) keys; version = version }) tree.root damaged) (sym (less n)) d))
+
+-- Of a tree without levels nothing is damaged.
+rootless : (pages : PageMap) (tree : Tree) (version : ℕ) → tree.levels ≡ 0 → root_at pages tree version ≡ 0
+rootless pages tree version none = ap (λ (l : ℕ). total_below l pages tree.root version % 2 ^ 128) none
+
+pub whole_empty : (dims : ℕ) (pages : PageMap) (tree : Tree) (sought : Sought) (damaged : ℕ) → tree.levels ≡ 0 → IsDamagedForSum dims pages tree sought damaged → ⊥
+whole_empty zero pages tree sought damaged none d =
+    on_ways.none_below of_versions.FitsPlace of_versions.LeadsTo NothingBeside pages tree.levels (of_versions.root_place sought.version) tree.root damaged none d
+whole_empty (suc zero) pages tree sought damaged none (inl d) =
+    on_ways.none_below of_versions.FitsPlace of_versions.LeadsTo NothingBeside pages tree.levels (of_versions.root_place sought.version) tree.root damaged none d
+whole_empty (suc zero) pages tree sought damaged none (inr (inl d)) = absurd (omega (arith, rootless pages tree sought.version none, d.1))
+whole_empty (suc zero) pages tree sought damaged none (inr (inr d)) = d.0 (rootless pages tree sought.version none)
+whole_empty (suc (suc n)) pages tree sought damaged none d =
+    on_ways.none_below FitsNode LeadsOn (IsDamagedBeside (suc (suc n)) (IsDamagedForSum (suc n))) pages tree.levels (sought_within (suc (suc n)) sought) tree.root damaged none d
 
 -- the root's page
 root_page : (dims levels : ℕ) (pages : PageMap) (root : ℕ) → levels ≢ 0 → RootStands dims version_trees (trees_over (dims - 1)) levels pages root

@@ -46,6 +46,10 @@ pub(crate) fn sum_from<P: Pages>(
     ensures damaged { (damaged : ℕ) → result ≡ Err (PageFault.Damaged damaged) → IsTrue (P.tells pages.old)
         → IsDamagedBelow FitsNode LeadsOn (IsDamagedBeside dims (IsDamagedForSum (dims - 1))) (P.map pages.old) level
         (record { keys = keys.now; version = version }) page damaged }
+    // Where it answers, no page on its way is damaged.
+    ensures whole { IfOk result (λ value. IsTrue (P.tells pages.old) → (damaged : ℕ)
+        → IsDamagedBelow FitsNode LeadsOn (IsDamagedBeside dims (IsDamagedForSum (dims - 1))) (P.map pages.old) level
+        (record { keys = keys.now; version = version }) page damaged → ⊥) }
     ensures sound { (region : Region) (damaged : ℕ) → IsTrue (P.tells pages.old) → IsSoughtIn dims region keys.now
         → StandsBelow dims version_trees (trees_over (dims - 1)) level (P.map pages.old) region page → result ≢ Err (PageFault.Damaged damaged) }
     ensures reads { OnlyReads P.Pages (P.gets pages.new) pages.old pages.new result }
@@ -85,6 +89,9 @@ fn sum_outside<P: Pages>(
         ≡ (dominance_sum dims (points_of_class dims region Inside points) keys.now version + value) % 2 ^ 128) }
     ensures damaged { (damaged : ℕ) → result ≡ Err (PageFault.Damaged damaged) → IsTrue (P.tells pages.old)
         → IsDamagedOutside dims (IsDamagedForSum (dims - 1)) (P.map pages.old) outside.now (record { keys = keys.now; version = version }) damaged }
+    // Where it answers, no page on its way is damaged.
+    ensures whole { IfOk result (λ value. IsTrue (P.tells pages.old) → (damaged : ℕ)
+        → IsDamagedOutside dims (IsDamagedForSum (dims - 1)) (P.map pages.old) outside.now (record { keys = keys.now; version = version }) damaged → ⊥) }
     ensures sound { (region : Region) (points : List Point) (damaged : ℕ) → IsTrue (P.tells pages.old) → IsSoughtIn dims region keys.now
         → OutsideStands dims version_trees (trees_over (dims - 1)) (P.map pages.old) region points outside.now → result ≢ Err (PageFault.Damaged damaged) }
     ensures reads { OnlyReads P.Pages (P.gets pages.new) pages.old pages.new result }
@@ -124,6 +131,11 @@ fn sum_trees<P: Pages>(
         → over_versions.IsDamagedOnPath (P.map pages.old) subtotal.now version damaged
         ⊎ ((dimension : ℕ) × (dimension < dims) × IsDamagedForSum (dims - 1) (P.map pages.old) (slice_index_or borders.now dimension empty_tree)
         (sought_without dimension (record { keys = keys.now; version = version })) damaged) }
+    // Where it answers, no page on its way is damaged.
+    ensures whole { IfOk result (λ value. IsTrue (P.tells pages.old) → (damaged : ℕ)
+        → over_versions.IsDamagedOnPath (P.map pages.old) subtotal.now version damaged
+        ⊎ ((dimension : ℕ) × (dimension < dims) × IsDamagedForSum (dims - 1) (P.map pages.old) (slice_index_or borders.now dimension empty_tree)
+        (sought_without dimension (record { keys = keys.now; version = version })) damaged) → ⊥) }
     ensures sound { (region : Region) (points : List Point) (damaged : ℕ) → IsTrue (P.tells pages.old)
         → TreesStand dims version_trees (trees_over (dims - 1)) (P.map pages.old) region points subtotal.now borders.now
         → result ≢ Err (PageFault.Damaged damaged) }

@@ -39,6 +39,9 @@ pub fn dom_sum<P: Pages>(
         → (trees_over dims).stands (P.map pages.old) tree.now points → value ≡ dominance_sum dims points keys.now version) }
     ensures damaged { (page : ℕ) → result ≡ Err (PageFault.Damaged page) → IsTrue (P.tells pages.old)
         → IsDamagedForSum dims (P.map pages.old) tree.now (record { keys = keys.now; version = version }) page }
+    // Where it answers, no page on its way is damaged.
+    ensures whole { IfOk result (λ value. IsTrue (P.tells pages.old) → (page : ℕ)
+        → IsDamagedForSum dims (P.map pages.old) tree.now (record { keys = keys.now; version = version }) page → ⊥) }
     ensures sound { (points : List Point) (page : ℕ) → IsTrue (P.tells pages.old)
         → (trees_over dims).stands (P.map pages.old) tree.now points → result ≢ Err (PageFault.Damaged page) }
     // However many, where the tree does not stand.

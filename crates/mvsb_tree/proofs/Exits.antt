@@ -32,3 +32,8 @@ both_ok P Q (Err e) p q = tt
 pub both_if : {T E : Type 0} (P Q : T → Type 0) (r : Result T E) → IfOk r P → IfOk r Q → IfOk r (λ x. P x × Q x)
 both_if P Q (Ok x) p q = (p, q)
 both_if P Q (Err e) p q = tt
+
+-- What holds of an answer holds as what follows from it.
+pub map_ok : {T E : Type 0} {P Q : T → Type 0} (r : Result T E) → ((x : T) → P x → Q x) → IfOk r P → IfOk r Q
+map_ok (Ok x) f p = f x p
+map_ok (Err e) f p = tt

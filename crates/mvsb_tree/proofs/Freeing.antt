@@ -1,18 +1,17 @@
 -- The chain in a map that has lost the directory.
-use Rattle.std.proofs.Common.{◌≡◌, ◌≢◌, ℕ, zero, suc, ◌≤◌, ◌==◌, inl, inr, ◌⊎◌, List, [], ◌++◌, Option, None, IsSome, refl, sym, ap, ◌∙◌, subst, arith}
-use Rattle.std.proofs.lemmas.Bool.{cases_Bool, eqb-true, cond-false, or_cases}
+use Rattle.std.proofs.Common.{◌≡◌, ◌≢◌, ℕ, zero, suc, ◌≤◌, ◌==◌, inl, inr, List, [], ◌++◌, Option, None, IsSome, refl, sym, subst, arith}
+use Rattle.std.proofs.lemmas.Bool.{cases_Bool, eqb-true, cond-false}
 use Rattle.bw_types.specs.declared.point.Point.{Point}
 use Rattle.bw_types.specs.declared.tree.Tree.{Tree}
 use Rattle.page_ports.specs.Pages.{PageMap}
 use Rattle.page_ports.specs.Frame.{names_page, AgreeOn, AreInMap, Replaces}
-use Rattle.page_ports.specs.FrameLaws.{names_page-append, Replaces-beside}
-use Rattle.page_layout.specs.Footprint.{NamesNoneTwice, IsNamedTwice}
+use Rattle.page_layout.specs.Footprint.{NamesNoneTwice}
 use Rattle.page_layout.specs.MvNode.{mv_node_page}
 use Rattle.page_layout.specs.Spelled.{SpellsNone}
-use Rattle.mvsb_tree.specs.Damage.{IsDamagedInChain, mv_pages}
+use Rattle.mvsb_tree.specs.Damage.{mv_pages}
 use Rattle.mvsb_tree.specs.Stands.{ChainStands, MvStands}
 use Rattle.mvsb_tree.specs.Steps.{chain_from, node_on, place_count}
-use Rattle.mvsb_tree.proofs.Chains.{same_chain, chain_left, chain_stands, parts_apart, twice_by_both}
+use Rattle.mvsb_tree.proofs.Chains.{same_chain, chain_stands, parts_apart}
 
 none_is_some : (o : Option (List ℕ)) → o ≡ None → IsSome o → ⊥
 none_is_some o none some = (let h : IsSome {T = List ℕ} None = subst IsSome none some in cc)
@@ -33,27 +32,6 @@ left_agree pages d m0 m1 r there = λ p named. elim (cases_Bool (names_page d p)
 pub same_left : (d : List ℕ) (places last : ℕ) (m0 m1 : PageMap) → Replaces d [] m0 m1 → AreInMap m1 (chain_from places m1 last)
     → chain_from places m0 last ≡ chain_from places m1 last
 same_left d places last m0 m1 r there = same_chain places m1 m0 last (left_agree (chain_from places m1 last) d m0 m1 r there)
-
-pub all_were_there : (d : List ℕ) (places last : ℕ) (m0 m1 : PageMap) → Replaces d [] m0 m1 → AreInMap m0 d → AreInMap m1 (chain_from places m1 last)
-    → AreInMap m0 (d ++ chain_from places m0 last)
-all_were_there d places last m0 m1 r there_d there = λ p named. elim (or_cases _ _ (sym (names_page-append d (chain_from places m0 last) p) ∙ named)) [
-  | inl first ↦ there_d p first
-  | inr second ↦
-      let here = ap (λ (ps : List ℕ). names_page ps p) (sym (same_left d places last m0 m1 r there)) ∙ second in
-      subst IsSome (sym (left_agree (chain_from places m1 last) d m0 m1 r there p here)) (there p here)
-]
-
-pub all_are_freed : (d : List ℕ) (places last : ℕ) (m0 m1 m2 : PageMap) → Replaces d [] m0 m1 → AreInMap m1 (chain_from places m1 last)
-    → Replaces (chain_from places m1 last) [] m1 m2 → Replaces (d ++ chain_from places m0 last) [] m0 m2
-all_are_freed d places last m0 m1 m2 r there freed =
-    Replaces-beside d [] (chain_from places m0 last) [] m0 m1 m2 r (subst (λ (ps : List ℕ). Replaces ps [] m1 m2) (sym (same_left d places last m0 m1 r there)) freed)
-
-pub damaged_or_twice : (d : List ℕ) (places last p : ℕ) (m0 m1 : PageMap) → Replaces d [] m0 m1 → IsDamagedInChain m1 places last p
-    → IsDamagedInChain m0 places last p ⊎ IsNamedTwice (d ++ chain_from places m0 last) p
-damaged_or_twice d places last p m0 m1 r damaged = elim (chain_left places d m0 m1 last p r damaged) [
-  | inl before ↦ inl before
-  | inr both ↦ inr (twice_by_both d (chain_from places m0 last) p both.0 both.1)
-]
 
 -- The chain stands still where the directory is gone.
 pub chain_still_stands : (d : List ℕ) (places last : ℕ) (m0 m1 : PageMap) → Replaces d [] m0 m1 → NamesNoneTwice (d ++ chain_from places m0 last)

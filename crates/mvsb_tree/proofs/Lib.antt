@@ -6,7 +6,9 @@ pub mod Chains
 pub mod Costs
 pub mod Counting
 pub mod Cutting
+pub mod DamageBefore
 pub mod Descending
+pub mod Dropping
 pub mod Ending
 pub mod Exits
 pub mod Firsts

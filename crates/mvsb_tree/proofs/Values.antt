@@ -1,8 +1,9 @@
 -- What a node on the way of a key and a version tells of the value there, and of damage below it.
-use Rattle.std.proofs.Common.{◌≡◌, ◌≢◌, ℕ, zero, suc, ◌+◌, ◌-◌, ◌%◌, ◌^◌, ◌≤◌, ◌==◌, inl, inr, true, Option, Some, None, refl, sym, ap, ◌∙◌, subst, arith}
+use Rattle.std.proofs.Common.{◌≡◌, ◌≢◌, ℕ, zero, suc, ◌+◌, ◌-◌, ◌%◌, ◌^◌, ◌≤◌, ◌==◌, ◌⊎◌, inl, inr, true, List, Option, Some, None, refl, sym, ap, ◌∙◌, subst, arith}
 use Rattle.std.specs.Option.{option_map_or}
 use Rattle.std.proofs.Math.Nat.{add-mod-mod, mod-add-mod}
 use Rattle.std.proofs.lemmas.Bool.{cases_Bool, eqb-true, eq-eqb, cond-true, cond-false}
+use Rattle.bw_types.specs.declared.tree.Tree.{Tree}
 use Rattle.page_ports.specs.Pages.{PageMap}
 use Rattle.page_layout.specs.Damage.{IsDamagedBelow, NothingBeside}
 use Rattle.page_layout.specs.DamageLaws as laws
@@ -10,10 +11,12 @@ use Rattle.page_layout.specs.declared.mv_node.MvNode.{MvNode}
 use Rattle.page_layout.specs.MvNode.{IsMvNode, IsTyped, mv_node_page}
 use Rattle.mv_pages.specs.Alive.{child_of, node_value, value_of, or_later, path_child}
 use Rattle.mv_pages.specs.Lows.{alive_lows, low_above, low_at}
+use Rattle.sb_tree.specs.Damage as over_versions
+use Rattle.sb_tree.proofs.Whole as on_ways
 use Rattle.mvsb_tree.specs.declared.place.Place.{Place}
-use Rattle.mvsb_tree.specs.Damage.{FitsPlace, LeadsTo, IsDamagedFromRoot, IsInPlace}
-use Rattle.mvsb_tree.specs.Steps.{node_on, node_total, root_level, total_below}
-use Rattle.mvsb_tree.proofs.Nodes.{node_on-spelled, same_spelled}
+use Rattle.mvsb_tree.specs.Damage.{FitsPlace, LeadsTo, IsDamagedForValue, IsDamagedFromRoot, IsInPlace, root_place}
+use Rattle.mvsb_tree.specs.Steps.{directory, node_on, node_total, root_at, root_level, total_below}
+use Rattle.mvsb_tree.proofs.Nodes.{node_on-spelled, same_spelled, some_same}
 
 -- The total of a page is that of the node that it spells.
 pub total_at : (pages : PageMap) (level page key v : ℕ) (node : MvNode) → 1 ≤ level
@@ -127,3 +130,71 @@ root_further pages root place inner node child damaged some typed rules there fi
       fits = record { spelled = refl; rules = rules; typed = typed; at_level = sym level };
       admitted = subst (λ (l : ℕ). IsInPlace l place node) (sym level) fits;
     }) leads (subst (λ (l : ℕ). IsDamagedBelow FitsPlace LeadsTo NothingBeside pages (l - 1) inner child damaged) (sym level) below))
+
+-- A node leads to one child, in one place.
+same_way : (place inner other : Place) (node : MvNode) (child next : ℕ) → LeadsTo place node child inner → LeadsTo place node next other
+    → (child ≡ next) × (inner ≡ other)
+same_way place inner other node child next a b =
+    let low : inner.low ≡ other.low = a.low ∙ sym b.low in
+    let high : inner.high ≡ other.high = a.high ∙ sym b.high in
+    let key : inner.key ≡ other.key = a.key ∙ sym b.key in
+    let version : inner.version ≡ other.version = a.version ∙ sym b.version in
+    (some_same child next (sym a.child_is ∙ b.child_is), λ i. record { low = low i; high = high i; key = key i; version = version i })
+
+some_or_none : (o : Option ℕ) (child : ℕ) → o ≡ None → o ≡ Some child → ⊥
+some_or_none o child none some = let both : ◌≡◌ {A = Option ℕ} (Some child) None = sym some ∙ none in cc
+
+-- Nothing is damaged where the page's node leads to no child, nor where nothing is from the child on.
+module _ (pages : PageMap) (level page : ℕ) (place : Place) (node : MvNode) (there : pages page ≡ Some (mv_node_page node)) (fits : FitsPlace level place node (mv_node_page node)) where
+  alone : (other : MvNode) (bytes : List ℕ) → pages page ≡ Some bytes → FitsPlace level place other bytes → node ≡ other
+  alone other bytes here fit = same_spelled pages page node other bytes fits.fits.typed fits.fits.rules there fit.fits.typed fit.fits.rules fit.fits.spelled here
+
+  pub whole_alone : child_of node place.key place.version ≡ None → (damaged : ℕ) → IsDamagedBelow FitsPlace LeadsTo NothingBeside pages level place page damaged → ⊥
+  whole_alone none damaged d =
+      on_ways.whole_below FitsPlace LeadsTo NothingBeside pages level place page node (mv_node_page node) there fits alone (λ p beside. beside)
+      (λ child inner p leads below. some_or_none (child_of node place.key place.version) child none leads.child_is) damaged d
+
+  pub whole_further : (child : ℕ) (inner : Place) → LeadsTo place node child inner
+      → ((damaged : ℕ) → IsDamagedBelow FitsPlace LeadsTo NothingBeside pages (level - 1) inner child damaged → ⊥)
+      → (damaged : ℕ) → IsDamagedBelow FitsPlace LeadsTo NothingBeside pages level place page damaged → ⊥
+  whole_further child inner leads below damaged d =
+      on_ways.whole_below FitsPlace LeadsTo NothingBeside pages level place page node (mv_node_page node) there fits alone (λ p beside. beside)
+      (λ next other p leads_on here.
+      let same = same_way place inner other node child next leads leads_on in
+      below p (subst (λ (q : Place). IsDamagedBelow FitsPlace LeadsTo NothingBeside pages (level - 1) q child p) (sym same.1)
+      (subst (λ (c : ℕ). IsDamagedBelow FitsPlace LeadsTo NothingBeside pages (level - 1) other c p) (sym same.0) here))) damaged d
+
+-- The same from a root on, which tells its level.
+module _ (pages : PageMap) (root : ℕ) (place : Place) (node : MvNode) (some : root ≢ 0) (typed : IsTyped node) (rules : IsMvNode node)
+    (there : pages root ≡ Some (mv_node_page node)) (fits : IsInPlace node.level place node) where
+  level : root_level pages root ≡ node.level
+  level = level_of_root pages root node some typed rules there
+
+  at_root : FitsPlace (root_level pages root) place node (mv_node_page node)
+  at_root = record {
+    fits = record { spelled = refl; rules = rules; typed = typed; at_level = sym level };
+    admitted = subst (λ (l : ℕ). IsInPlace l place node) (sym level) fits;
+  }
+
+  either : (damaged : ℕ) → (IsDamagedBelow FitsPlace LeadsTo NothingBeside pages (root_level pages root) place root damaged → ⊥) → IsDamagedFromRoot pages root place damaged → ⊥
+  either damaged below (inl d) = d.1 node (mv_node_page node) there (record { spelled = refl; rules = rules; typed = typed })
+  either damaged below (inr d) = below d
+
+  pub whole_root_alone : child_of node place.key place.version ≡ None → (damaged : ℕ) → IsDamagedFromRoot pages root place damaged → ⊥
+  whole_root_alone none damaged d = either damaged (whole_alone pages (root_level pages root) root place node there at_root none damaged) d
+
+  pub whole_root_further : (child : ℕ) (inner : Place) → LeadsTo place node child inner
+      → ((damaged : ℕ) → IsDamagedBelow FitsPlace LeadsTo NothingBeside pages (node.level - 1) inner child damaged → ⊥)
+      → (damaged : ℕ) → IsDamagedFromRoot pages root place damaged → ⊥
+  whole_root_further child inner leads below damaged d =
+      either damaged (whole_further pages (root_level pages root) root place node there at_root child inner leads
+      (subst (λ (l : ℕ). (p : ℕ) → IsDamagedBelow FitsPlace LeadsTo NothingBeside pages (l - 1) inner child p → ⊥) (sym level) below) damaged) d
+
+-- Nothing is damaged for a value, where nothing is on the way to the root of the version, nor from that root on.
+pub whole_from : (pages : PageMap) (tree : Tree) (key version root : ℕ) → root ≡ root_at pages tree version
+    → ((page : ℕ) → over_versions.IsDamagedOnPath pages (directory tree) version page ⊎ ((page ≡ tree.root) × (2 ^ 64 ≤ root_at pages tree version)) → ⊥)
+    → ((page : ℕ) → IsDamagedFromRoot pages root (root_place key version) page → ⊥) → (page : ℕ) → IsDamagedForValue pages tree key version page → ⊥
+whole_from pages tree key version root is_root way below page (inl d) = way page (inl d)
+whole_from pages tree key version root is_root way below page (inr (inl d)) = way page (inr d)
+whole_from pages tree key version root is_root way below page (inr (inr d)) =
+    below page (subst (λ (r : ℕ). IsDamagedFromRoot pages r (root_place key version) page) (sym is_root) d.1)

@@ -74,11 +74,11 @@ LeadsBack _ node child _ = child ≡ node.before
 abbrev pub IsDamagedInChain : PageMap → ℕ → ℕ → ℕ → Type 0
 IsDamagedInChain pages place page damaged = IsDamagedBelow FitsChain LeadsBack NothingBeside pages place tt page damaged
 
--- What freeing a tree may call damaged: the last page, where it spells no node; a page of the directory, or one
--- of the chain; or one that is named twice, so that it is gone when it is reached again.
+-- What freeing a tree may call damaged: the last page, where the tree has levels and it spells no node; a page of the
+-- directory, or one of the chain; or one that is named twice, so that it is gone when it is reached again.
 abbrev pub IsDamagedForFree : PageMap → Tree → ℕ → Type 0
 IsDamagedForFree pages tree damaged =
-    ((damaged ≡ tree.last) × SpellsNone mv_pages pages tree.last)
+    ((tree.levels ≢ 0) × (damaged ≡ tree.last) × SpellsNone mv_pages pages tree.last)
     ⊎ over_versions.IsDamagedForFree pages (directory tree) damaged
     ⊎ IsDamagedInChain pages (place_count pages tree) tree.last damaged
     ⊎ IsNamedTwice (tree_pages pages tree) damaged

@@ -1,6 +1,7 @@
 pub mod AddDamage
 pub mod Changed
 pub mod Damage
+pub mod Gone
 pub mod Grown
 pub mod Index
 pub mod Laws

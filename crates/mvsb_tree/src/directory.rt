@@ -32,6 +32,10 @@ pub fn root_at<P: Pages>(pages: &mut P, tree: &Tree, version: u32) -> Result<u64
     ensures damaged { (page : ℕ) → result ≡ Err (PageFault.Damaged page) → IsTrue (P.tells pages.old)
         → IsDamagedOnPath (P.map pages.old) (spec_directory tree.now) version page
         ⊎ ((page ≡ tree.now.root) × (2 ^ 64 ≤ spec_root_at (P.map pages.old) tree.now version)) }
+    // Where it answers, no page on its way is damaged.
+    ensures whole { IfOk result (λ root. IsTrue (P.tells pages.old) → (page : ℕ)
+        → IsDamagedOnPath (P.map pages.old) (spec_directory tree.now) version page
+        ⊎ ((page ≡ tree.now.root) × (2 ^ 64 ≤ spec_root_at (P.map pages.old) tree.now version)) → ⊥) }
     ensures sound { (changes : List Point) (page : ℕ) → IsTrue (P.tells pages.old)
         → SbStands (P.map pages.old) (spec_directory tree.now) changes → spec_root_at (P.map pages.old) tree.now version < 2 ^ 64
         → result ≢ Err (PageFault.Damaged page) }

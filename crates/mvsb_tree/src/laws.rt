@@ -1,4 +1,5 @@
 //! The laws of multiversion trees.
+ghost use Rattle.mvsb_tree.specs.Gone.{DamageIsThere, DroppedPagesWereThere};
 ghost use Rattle.mvsb_tree.specs.Laws.{BalanceByItsPages, BalancedTreeIsLow, EmptyTreeIsBalanced, EmptyTreeStands, PagesAreThere, StandsByItsPages, StandsInAnyOrder};
 
 use sb_tree::tree_laws;
@@ -15,3 +16,10 @@ pub fn mv_laws()
 {
     tree_laws();
 }
+
+/// Proves what a call that frees pages, whatever pages were freed before, tells of the map at the call: that map has lost
+/// no page since itself. It does nothing when it runs.
+pub fn freed_laws()
+    ensures dropped { DroppedPagesWereThere }
+    ensures damaged { DamageIsThere }
+{}

@@ -40,6 +40,6 @@ mod value;
 
 pub use add::mv_add;
 pub use free::mv_free;
-pub use laws::mv_laws;
+pub use laws::{freed_laws, mv_laws};
 pub use mv_index::MvIndex;
 pub use value::mv_value;

@@ -38,6 +38,9 @@ pub fn mv_value<P: Pages>(
         → MvStands (P.map pages.old) tree.now points → value ≡ dominance_sum 1 points (key ∷ []) version) }
     ensures damaged { (page : ℕ) → result ≡ Err (PageFault.Damaged page) → IsTrue (P.tells pages.old)
         → IsDamagedForValue (P.map pages.old) tree.now key version page }
+    // Where it answers, no page on its way is damaged.
+    ensures whole { IfOk result (λ value. IsTrue (P.tells pages.old) → (page : ℕ)
+        → IsDamagedForValue (P.map pages.old) tree.now key version page → ⊥) }
     ensures sound { (points : List Point) (page : ℕ) → IsTrue (P.tells pages.old)
         → MvStands (P.map pages.old) tree.now points → result ≢ Err (PageFault.Damaged page) }
     // No root has more than 16 levels; of a balanced tree the count bounds them.
@@ -65,6 +68,9 @@ fn value_from<P: Pages>(
         → value ≡ total_below (root_level (P.map pages.old) root) (P.map pages.old) root place.key place.version % 2 ^ 128) }
     ensures damaged { (damaged : ℕ) → result ≡ Err (PageFault.Damaged damaged) → IsTrue (P.tells pages.old)
         → IsDamagedFromRoot (P.map pages.old) root place damaged }
+    // Where it answers, no page on its way is damaged.
+    ensures whole { IfOk result (λ value. IsTrue (P.tells pages.old) → (damaged : ℕ)
+        → IsDamagedFromRoot (P.map pages.old) root place damaged → ⊥) }
     ensures sound { (nodes : List ℕ) (page : ℕ) → IsTrue (P.tells pages.old) → place ≡ spec_root_place place.key place.version
         → RootStands (P.map pages.old) nodes root place.version place.key → result ≢ Err (PageFault.Damaged page) }
     ensures reads { OnlyReads P.Pages 16 pages.old pages.new result }
@@ -95,6 +101,9 @@ fn value_below<P: Pages>(
         → value ≡ total_below level (P.map pages.old) page place.key place.version % 2 ^ 128) }
     ensures damaged { (damaged : ℕ) → result ≡ Err (PageFault.Damaged damaged) → IsTrue (P.tells pages.old)
         → IsDamagedBelow FitsPlace LeadsTo NothingBeside (P.map pages.old) level place page damaged }
+    // Where it answers, no page on its way is damaged.
+    ensures whole { IfOk result (λ value. IsTrue (P.tells pages.old) → (damaged : ℕ)
+        → IsDamagedBelow FitsPlace LeadsTo NothingBeside (P.map pages.old) level place page damaged → ⊥) }
     ensures reads { OnlyReads P.Pages level pages.old pages.new result }
 {
     if level == 0 {

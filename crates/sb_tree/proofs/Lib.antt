@@ -20,4 +20,5 @@ pub mod Standing
 pub mod Storing
 pub mod Totals
 pub mod Values
+pub mod Whole
 pub mod InPlace

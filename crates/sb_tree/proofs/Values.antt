@@ -13,8 +13,9 @@ use Rattle.sb_tree.specs.Cut.{IsCut}
 use Rattle.sb_tree.specs.Steps.{entries_on, begun_value, child_at, total_below}
 use Rattle.sb_tree.specs.Damage.{FitsLevel, FitsPlace, LeadsTo, low_from, next_from}
 use Rattle.sb_tree.specs.Stands.{first_low}
-use Rattle.sb_tree.proofs.Nodes.{entries_on-spelled}
+use Rattle.sb_tree.proofs.Nodes.{entries_on-spelled, same_spelled}
 use Rattle.sb_tree.proofs.Paths.{begun_value-cut, some_begun}
+use Rattle.sb_tree.proofs.Whole as whole
 
 -- The total at a version is the node's and that below its path.
 pub total-step : (pages : PageMap) (level page v : ℕ) (node : SbNode) → 1 ≤ level
@@ -86,3 +87,32 @@ some_at_cut level place node entries k bytes same fits index cut =
       | inl leaf ↦ absurd (index leaf)
       | inr first ↦ some_begun entries k place.sought place.high cut (subst (λ (es : List SbEntry). 1 ≤ length es) (sym same) fits.fits.rules.some) (subst (λ (es : List SbEntry). first_low es place.high ≤ place.sought) (sym same) first)
     ]
+
+-- A node leads to one child, in one place.
+same_way : (place inner other : Place) (node : SbNode) (child next : ℕ) → LeadsTo place node child inner → LeadsTo place node next other
+    → (child ≡ next) × (inner ≡ other)
+same_way place inner other node child next a b =
+    let low : inner.low ≡ other.low = a.low ∙ sym b.low in
+    let high : inner.high ≡ other.high = a.high ∙ sym b.high in
+    let sought : inner.sought ≡ other.sought = a.sought ∙ sym b.sought in
+    (a.child_is ∙ sym b.child_is, λ i. record { low = low i; high = high i; sought = sought i })
+
+-- Nothing is damaged where the page holds a leaf, nor where nothing is from the child on to which its node leads.
+module _ (pages : PageMap) (level page : ℕ) (place : Place) (node : SbNode) (there : pages page ≡ Some (sb_node_page node)) (fits : FitsPlace level place node (sb_node_page node)) where
+  alone : (other : SbNode) (bytes : List ℕ) → pages page ≡ Some bytes → FitsPlace level place other bytes → node ≡ other
+  alone other bytes here fit = same_spelled pages page node other bytes level level there fits.fits here fit.fits
+
+  pub whole_leaf : level ≡ 1 → (damaged : ℕ) → IsDamagedBelow FitsPlace LeadsTo NothingBeside pages level place page damaged → ⊥
+  whole_leaf leaf damaged d =
+      whole.whole_below FitsPlace LeadsTo NothingBeside pages level place page node (sb_node_page node) there fits alone (λ p none. none)
+      (λ child inner p leads below. whole.none_below FitsPlace LeadsTo NothingBeside pages (level - 1) inner child p (omega (arith, leaf)) below) damaged d
+
+  pub whole_further : (child : ℕ) (inner : Place) → LeadsTo place node child inner
+      → ((damaged : ℕ) → IsDamagedBelow FitsPlace LeadsTo NothingBeside pages (level - 1) inner child damaged → ⊥)
+      → (damaged : ℕ) → IsDamagedBelow FitsPlace LeadsTo NothingBeside pages level place page damaged → ⊥
+  whole_further child inner leads below damaged d =
+      whole.whole_below FitsPlace LeadsTo NothingBeside pages level place page node (sb_node_page node) there fits alone (λ p none. none)
+      (λ next other p leads_on here.
+      let same = same_way place inner other node child next leads leads_on in
+      below p (subst (λ (q : Place). IsDamagedBelow FitsPlace LeadsTo NothingBeside pages (level - 1) q child p) (sym same.1)
+      (subst (λ (c : ℕ). IsDamagedBelow FitsPlace LeadsTo NothingBeside pages (level - 1) other c p) (sym same.0) here))) damaged d

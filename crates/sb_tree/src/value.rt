@@ -28,6 +28,9 @@ pub fn sb_value<P: Pages>(pages: &mut P, tree: &Tree, version: u32) -> Result<u1
         → SbStands (P.map pages.old) tree.now points → value ≡ dominance_sum 0 points [] version) }
     ensures damaged { (page : ℕ) → result ≡ Err (PageFault.Damaged page) → IsTrue (P.tells pages.old)
         → IsDamagedOnPath (P.map pages.old) tree.now version page }
+    // Where it answers, no page on its way is damaged.
+    ensures whole { IfOk result (λ value. IsTrue (P.tells pages.old) → (page : ℕ)
+        → IsDamagedOnPath (P.map pages.old) tree.now version page → ⊥) }
     ensures sound { (points : List Point) (page : ℕ) → IsTrue (P.tells pages.old)
         → SbStands (P.map pages.old) tree.now points → result ≢ Err (PageFault.Damaged page) }
     ensures reads { OnlyReads P.Pages tree.now.levels pages.old pages.new result }
@@ -55,6 +58,9 @@ fn value_below<P: Pages>(
         → value ≡ total_below level (P.map pages.old) page place.sought % 2 ^ 128) }
     ensures damaged { (damaged : ℕ) → result ≡ Err (PageFault.Damaged damaged) → IsTrue (P.tells pages.old)
         → IsDamagedBelow FitsPlace LeadsTo NothingBeside (P.map pages.old) level place page damaged }
+    // Where it answers, no page on its way is damaged.
+    ensures whole { IfOk result (λ value. IsTrue (P.tells pages.old) → (damaged : ℕ)
+        → IsDamagedBelow FitsPlace LeadsTo NothingBeside (P.map pages.old) level place page damaged → ⊥) }
     ensures reads { OnlyReads P.Pages level pages.old pages.new result }
 {
     if level == 0 {

@@ -27,9 +27,9 @@ use Rattle.ba_query.specs.Damage.{IsDamagedBeside, IsDamagedForSum, IsDamagedOut
 use Rattle.ba_query.specs.Sought.{Sought}
 use Rattle.ba_query.proofs.Adding.{cost_step, digits_are_pages, keyed_pages, keys_stay_below, map_ok, one_page, pocket_sum, read_any, read_both, sum_again, told}
 use Rattle.ba_query.proofs.Borders.{add_border, border_balanced, border_cost, first_total, next_border, one_more_cost, subtotal_cost, within_cost}
-use Rattle.ba_query.proofs.Damaged.{damaged_below, damaged_beside, damaged_here, holds_level}
+use Rattle.ba_query.proofs.Damaged.{damaged_below, damaged_beside, damaged_here, holds_level, IsWholeAt, IsWholeUpTo, whole_cuts, whole_first, whole_next, whole_pocket, whole_points}
 use Rattle.ba_query.proofs.Entries.{child_fewer, entry_balanced, entry_stands, some_points}
-use Rattle.ba_query.proofs.Whole.{RootLaws, counted_below, damaged_more, low_more, low_none, low_one, no_points, over_none, over_one, root_stands, sought_in_root, sum_none, whole_cost, whole_sum}
+use Rattle.ba_query.proofs.Whole.{RootLaws, counted_below, damaged_more, low_more, low_none, low_one, no_points, over_none, over_one, root_stands, sought_in_root, sum_none, whole_cost, whole_empty, whole_more, whole_sum}
 use Rattle.ba_query.proofs.+sums.Goals as goal
 
 pub descent::sum_from-returns-in_err-entry-clause-damaged : goal.descent::sum_from-returns-in_err-entry-clause-damaged
@@ -203,6 +203,34 @@ descent::sum_from-returns-clause-sum g t c = λ tells region sought stands.
     sum_again c.in_ok-outside.outside c.in_ok-below.below (dominance_sum c.args.dims (points_of_class c.args.dims at.part Inside points) c.args.keys.now c.args.version)
     (dominance_sum c.args.dims points c.args.keys.now c.args.version) whole inside
 
+pub descent::sum_from-returns-then-level-eq1-clause-whole : goal.descent::sum_from-returns-then-level-eq1-clause-whole
+descent::sum_from-returns-then-level-eq1-clause-whole g t c =
+    map_ok c.points_sum.result (λ value holds tells.
+    whole_points c.args.dims (IsDamagedForSum (c.args.dims - 1)) c.args.level (g.P.Pages.map c.args.pages.now) (record { keys = c.args.keys.now; version = c.args.version }) c.args.page
+    (omega (arith, c.if-level-eq1.true)) (holds tells).0 (holds tells).1) c.points_sum.ensures.fits
+
+pub descent::sum_from-returns-clause-whole : goal.descent::sum_from-returns-clause-whole
+descent::sum_from-returns-clause-whole g t c = λ tells.
+    let m : PageMap = g.P.Pages.map c.args.pages.now in
+    let sought : Sought = record { keys = c.args.keys.now; version = c.args.version } in
+    let there = told (g.P.Pages.tells c.entry_at.new.pages) (g.P.Pages.tells c.args.pages.now) c.entry_at.ensures.reads.read.tells tells in
+    let there_2 = told (g.P.Pages.tells c.sum_outside.new.pages) (g.P.Pages.tells c.args.pages.now) (c.sum_outside.ensures.reads.read.tells ∙ c.entry_at.ensures.reads.read.tells) tells in
+    let fits = c.in_ok-entry.ensures.fits tells in
+    let entry_is = (c.in_ok-entry.ensures.entry tells).1 in
+    let border : PageMap → Tree → Sought → ℕ → Type 0 = IsDamagedForSum (c.args.dims - 1) in
+    let outside = subst (λ (n : PageMap). (p : ℕ) → IsDamagedOutside c.args.dims border n c.in_ok-entry.entry.outside sought p → ⊥) c.entry_at.ensures.reads.read.map (c.in_ok-outside.ensures.whole there) in
+    let below = subst (λ (n : PageMap). IsWholeAt c.args.dims border (c.args.level - 1) n sought c.in_ok-entry.entry.child)
+    (c.sum_outside.ensures.reads.read.map ∙ c.entry_at.ensures.reads.read.map) (c.in_ok-below.ensures.whole there_2) in
+    whole_cuts c.args.dims border c.args.level m sought c.args.page (λ z. omega (arith, c.if-level-eq0.false, z)) (λ z. omega (arith, c.if-level-eq1.false, z)) fits.0 fits.1
+    (subst (λ (x : BaEntry). (p : ℕ) → IsDamagedOutside c.args.dims border m x.outside sought p → ⊥) entry_is outside)
+    (subst (λ (x : BaEntry). IsWholeAt c.args.dims border (c.args.level - 1) m sought x.child) entry_is below)
+
+pub descent::sum_outside-returns-in-Pocket-clause-whole : goal.descent::sum_outside-returns-in-Pocket-clause-whole
+descent::sum_outside-returns-in-Pocket-clause-whole g t c =
+    map_ok c.points_sum.result (λ value holds tells.
+    whole_pocket c.args.dims (IsDamagedForSum (c.args.dims - 1)) (g.P.Pages.map c.args.pages.now) c.args.outside.now c.in-Pocket.page c.in-Pocket.count
+    (record { keys = c.args.keys.now; version = c.args.version }) c.in-Pocket.is (holds tells).0 (holds tells).1) c.points_sum.ensures.fits
+
 pub descent::sum_outside-returns-in-Pocket-clause-sum : goal.descent::sum_outside-returns-in-Pocket-clause-sum
 descent::sum_outside-returns-in-Pocket-clause-sum g t c =
     map_ok c.points_sum.result (λ value sums tells region points sought stands.
@@ -224,6 +252,7 @@ descent::sum_trees-loop-dimension-init g t c = record {
   sum = λ tells region points stands.
       first_total c.in_ok-total.total (dominated_weight 0 (points_of_class c.args.dims region Below points) [] c.args.version)
       (c.in_ok-total.ensures.sum tells (points_of_class c.args.dims region Below points) stands.below);
+  whole = λ tells. whole_first c.args.dims (g.P.Pages.map c.args.pages.now) c.args.subtotal.now c.args.borders.now c.args.keys.now c.args.version (c.in_ok-total.ensures.whole tells);
   cost = λ region points most tells stands balanced le.
       let few = subtotal_cost c.args.dims (g.P.Pages.map c.args.pages.now) region points c.args.subtotal.now c.args.borders.now most stands balanced le in
       omega (arith, few, c.sb_value.ensures.reads.read.at_most);
@@ -274,6 +303,18 @@ descent::sum_trees-loop-dimension-preserved g t c = record {
       let below : ℕ = dominance_sum 0 (points_of_class c.args.dims region Below points) [] c.args.version in
       add_border below (sum_below i each) c.loop-dimension.total c.in_ok-total-2.field-0 (each i) (inv.sum tells region points stands) kept
       ∙ ap (λ (n : ℕ). (below + n) % 2 ^ 128) (sym (next_border i each));
+  whole = λ tells.
+      let m : PageMap = g.P.Pages.map c.args.pages.now in
+      let i : ℕ = c.loop-dimension.dimension in
+      let inv = c.loop-dimension.invariant in
+      let there = told (g.P.Pages.tells c.loop-dimension.pages) (g.P.Pages.tells c.args.pages.now) inv.read.tells tells in
+      let d : ℕ = c.args.dims - 1 in
+      let v : ℕ = c.args.version in
+      let here = subst (λ (n : PageMap). (p : ℕ) → IsDamagedForSum d n (slice_index_or c.args.borders.now c.from.result empty_tree) (record { keys = c.drop_key-keys.result; version = v }) p → ⊥)
+      inv.read.map (c.in_ok-total-2.ensures.whole there) in
+      let at = subst (λ (k : ℕ). (p : ℕ) → IsDamagedForSum d m (slice_index_or c.args.borders.now k empty_tree) (record { keys = c.drop_key-keys.result; version = v }) p → ⊥) c.from.ensures here in
+      whole_next c.args.dims m c.args.subtotal.now c.args.borders.now c.args.keys.now v i (inv.whole tells)
+      (subst (λ (ks : List ℕ). (p : ℕ) → IsDamagedForSum d m (slice_index_or c.args.borders.now i empty_tree) (record { keys = ks; version = v }) p → ⊥) c.drop_key-keys.ensures at);
   cost = λ region points most tells stands balanced le.
       let m : PageMap = g.P.Pages.map c.args.pages.now in
       let i : ℕ = c.loop-dimension.dimension in
@@ -293,6 +334,11 @@ descent::sum_trees-loop-dimension-preserved g t c = record {
       let so_far = inv.cost region points most tells stands balanced le in
       omega (arith, gets, same, few, so_far, one_more_cost i (query_pages (c.args.dims - 1) most));
 }
+
+pub descent::sum_trees-returns-clause-whole : goal.descent::sum_trees-returns-clause-whole
+descent::sum_trees-returns-clause-whole g t c = λ tells.
+    let all : c.loop-dimension.dimension ≡ c.args.dims = omega (arith, c.loop-dimension-test.false, c.loop-dimension.auto.dimension-end) in
+    subst (λ (n : ℕ). IsWholeUpTo c.args.dims n (g.P.Pages.map c.args.pages.now) c.args.subtotal.now c.args.borders.now c.args.keys.now c.args.version) all (c.loop-dimension.invariant.whole tells)
 
 pub sum::dom_sum-returns-then-tree-eq0-clause-sum : goal.sum::dom_sum-returns-then-tree-eq0-clause-sum
 sum::dom_sum-returns-then-tree-eq0-clause-sum g t c = λ tells points stands.
@@ -371,3 +417,13 @@ sum::dom_sum-returns-clause-cost g t c = λ points tells stands balanced.
     (root_stands c.args.dims m c.args.tree.now points two some stands) (low_more c.args.dims m c.args.tree.now two balanced).inside
     (omega (arith, counted_below c.args.dims m c.args.tree.now points two stands)) in
     omega (arith, gets, whole_cost c.args.dims m c.args.tree.now points two some stands balanced)
+
+pub sum::dom_sum-returns-then-tree-eq0-clause-whole : goal.sum::dom_sum-returns-then-tree-eq0-clause-whole
+sum::dom_sum-returns-then-tree-eq0-clause-whole g t c = λ tells page.
+    whole_empty c.args.dims (g.P.Pages.map c.args.pages.now) c.args.tree.now (record { keys = c.args.keys.now; version = c.args.version }) page (omega (arith, c.if-tree-eq0.true))
+
+pub sum::dom_sum-returns-clause-whole : goal.sum::dom_sum-returns-clause-whole
+sum::dom_sum-returns-clause-whole g t c =
+    map_ok c.sum_from.result (λ value none tells.
+    whole_more c.args.dims (g.P.Pages.map c.args.pages.now) c.args.tree.now c.args.keys.now c.keys_within-within.result c.args.version
+    (omega (arith, c.if-dims-eq0.false, c.if-dims-eq1.false)) c.keys_within-within.ensures (none tells)) c.sum_from.ensures.whole

@@ -12,6 +12,7 @@ use Rattle.page_ports.specs.declared.pages.Pages.{Ghosts}
 use Rattle.ba_records.specs.Sums.{sum_below}
 use Rattle.ba_trees.specs.Kinds.{trees_over, version_trees}
 use Rattle.ba_trees.specs.Stands.{OutsideIsBalanced, TreesStand}
+use Rattle.ba_query.proofs.Damaged.{IsWholeUpTo}
 use Rattle.ba_query.proofs.+sums.Given as goal
 
 abbrev pub decreases-descent::sum_from : goal.decreases-descent::sum_from
@@ -32,6 +33,7 @@ pub record AddedUp {P : Type 0} (pages : Ghosts P) (dims dimension : ℕ) (old n
   pub sum : IsTrue (pages.tells old) → (region : Region) (points : List Point) → TreesStand dims version_trees (trees_over (dims - 1)) (pages.map old) region points subtotal borders
       → total ≡ (dominance_sum 0 (points_of_class dims region Below points) [] version
       + sum_below dimension (λ i. dominance_sum (dims - 1) (border_points dims region i points) (keys_without i keys) version)) % 2 ^ 128
+  pub whole : IsTrue (pages.tells old) → IsWholeUpTo dims dimension (pages.map old) subtotal borders keys version
   pub cost : (region : Region) (points : List Point) (most : ℕ) → IsTrue (pages.tells old)
       → TreesStand dims version_trees (trees_over (dims - 1)) (pages.map old) region points subtotal borders
       → OutsideIsBalanced dims version_trees (trees_over (dims - 1)) (pages.map old) (Trees subtotal borders)

@@ -1,4 +1,4 @@
-use Rattle.std.proofs.Common.{◌≡◌, ◌-◌, None, Option, Err, rules, arith, subst, ap}
+use Rattle.std.proofs.Common.{◌≡◌, ◌-◌, ℕ, None, Option, Err, rules, arith, subst, ap}
 use Rattle.std.proofs.lemmas.Result.{err_from_is_err_and}
 use Rattle.page_ports.specs.Pages.{PageMap}
 use Rattle.page_ports.specs.declared.page.PageFault.TheVariants.{Damaged}
@@ -9,7 +9,7 @@ use Rattle.mvsb_tree.specs.Damage.{FitsPlace, LeadsTo}
 use Rattle.mvsb_tree.specs.Walks.{StepsOn}
 use Rattle.mvsb_tree.specs.declared.step.Step.{Step}
 use Rattle.mvsb_tree.proofs.Exits.{exit_error}
-use Rattle.mvsb_tree.proofs.Values.{below_further, told_there, value_alone, value_with}
+use Rattle.mvsb_tree.proofs.Values.{below_further, told_there, value_alone, value_with, whole_alone, whole_further}
 use Rattle.mvsb_tree.proofs.value.+value_below.Goals as goal
 
 pub returns-in_err-told-clause-damaged : goal.returns-in_err-told-clause-damaged
@@ -26,6 +26,12 @@ returns-in_default-clause-value g t c = λ tells.
     let none : child_of told.node c.args.place.key c.args.place.version ≡ None = subst (λ (o : Option Step). StepsOn told.node c.args.place o) c.in_default.is told.tells.step in
     value_alone (g.P.Pages.map c.args.pages.now) c.args.level c.args.page c.args.place.key c.args.place.version c.in_ok-told.told.value told.node (omega (arith, c.if-level-eq0.false))
     fits.typed fits.rules fits.at_level told.there told.tells.value none
+
+pub returns-in_default-clause-whole : goal.returns-in_default-clause-whole
+returns-in_default-clause-whole g t c = λ tells.
+    let told = c.in_ok-told.ensures.told tells in
+    whole_alone (g.P.Pages.map c.args.pages.now) c.args.level c.args.page c.args.place told.node told.there told.fits
+    (subst (λ (o : Option Step). StepsOn told.node c.args.place o) c.in_default.is told.tells.step)
 
 pub returns-in_err-below-clause-damaged : goal.returns-in_err-below-clause-damaged
 returns-in_err-below-clause-damaged g t c = λ damaged e tells.
@@ -48,3 +54,11 @@ returns-clause-value g t c = λ tells.
     c.told_in.ensures.reads.read.map (c.in_ok-below.ensures.value (search rules)) in
     value_with m c.args.level c.args.page c.args.place.key c.args.place.version c.in_ok-told.told.value told.node (omega (arith, c.if-level-eq0.false))
     fits.typed fits.rules fits.at_level told.there told.tells.value c.in-Some.step.child c.in_ok-below.below leads.child_is below
+
+pub returns-clause-whole : goal.returns-clause-whole
+returns-clause-whole g t c = λ tells.
+    let told = c.in_ok-told.ensures.told tells in
+    let leads : LeadsTo c.args.place told.node c.in-Some.step.child c.in-Some.step.place = subst (λ (o : Option Step). StepsOn told.node c.args.place o) c.in-Some.is told.tells.step in
+    let below = subst (λ (m : PageMap). (damaged : ℕ) → IsDamagedBelow FitsPlace LeadsTo NothingBeside m (c.args.level - 1) c.in-Some.step.place c.in-Some.step.child damaged → ⊥)
+    c.told_in.ensures.reads.read.map (c.in_ok-below.ensures.whole (search rules)) in
+    whole_further (g.P.Pages.map c.args.pages.now) c.args.level c.args.page c.args.place told.node told.there told.fits c.in-Some.step.child c.in-Some.step.place leads below

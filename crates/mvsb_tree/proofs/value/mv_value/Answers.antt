@@ -4,11 +4,13 @@ use Rattle.bw_types.specs.Heights.{digit_count}
 use Rattle.page_ports.specs.Pages.{PageMap}
 use Rattle.page_ports.specs.declared.page.PageFault.TheVariants.{Damaged}
 use Rattle.mvsb_tree.specs.declared.place.Place.{Place}
+use Rattle.mvsb_tree.specs.Damage.{IsDamagedFromRoot}
 use Rattle.mvsb_tree.specs.Stands.{RootStands}
 use Rattle.mvsb_tree.specs.Steps.{node_pages, root_level}
 use Rattle.mvsb_tree.proofs.Costs.{directory_cost, root_named, root_place_same}
-use Rattle.mvsb_tree.proofs.Exits.{exit_error}
+use Rattle.mvsb_tree.proofs.Exits.{exit_error, map_ok}
 use Rattle.mvsb_tree.proofs.Sound.{root_has_level}
+use Rattle.mvsb_tree.proofs.Values.{whole_from}
 use Rattle.mvsb_tree.proofs.value.mv_value.Goals as goal
 
 pub returns-in_err-root-clause-sound : goal.returns-in_err-root-clause-sound
@@ -53,3 +55,12 @@ returns-clause-cost g c = λ points tells s b.
     let same = ap (λ (n : PageMap). root_level n root) c.root_at.ensures.reads.read.map in
     let cost = c.value_from.ensures.cost (c.root_at.ensures.reads.read.tells ∙ tells) (subst (λ (l : ℕ). 1 ≤ l) (sym same) some) in
     omega (arith, directory, low, same, cost, c.root_at.ensures.reads.read.at_most)
+
+pub returns-clause-whole : goal.returns-clause-whole
+returns-clause-whole g c = map_ok c.value_from.result (λ value none tells.
+    let m : PageMap = g.P.Pages.map c.args.pages.now in
+    let root = c.in_ok-root.root in
+    let there = none (c.root_at.ensures.reads.read.tells ∙ tells) in
+    let here = subst (λ (n : PageMap). (page : ℕ) → IsDamagedFromRoot n root c.root_place.result page → ⊥) c.root_at.ensures.reads.read.map there in
+    let placed = subst (λ (q : Place). (page : ℕ) → IsDamagedFromRoot m root q page → ⊥) c.root_place.ensures here in
+    whole_from m c.args.tree.now c.args.key c.args.version root (c.in_ok-root.ensures.root tells) (c.in_ok-root.ensures.whole tells) placed) c.value_from.ensures.whole

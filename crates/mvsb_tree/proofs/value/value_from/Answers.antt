@@ -11,7 +11,7 @@ use Rattle.mvsb_tree.specs.Steps.{root_level, total_below}
 use Rattle.mvsb_tree.specs.Walks.{StepsOn}
 use Rattle.mvsb_tree.proofs.Exits.{exit_error, err_same}
 use Rattle.mvsb_tree.proofs.Sound.{root_undamaged}
-use Rattle.mvsb_tree.proofs.Values.{level_of_root, root_further, root_unfit, told_there, value_alone, value_with}
+use Rattle.mvsb_tree.proofs.Values.{level_of_root, root_further, root_unfit, told_there, value_alone, value_with, whole_root_alone, whole_root_further}
 use Rattle.mvsb_tree.proofs.value.value_from.Goals as goal
 
 pub returns-in_err-node-clause-sound : goal.returns-in_err-node-clause-sound
@@ -42,6 +42,12 @@ returns-in_default-step-clause-value g c = λ tells.
     value_alone m (root_level m c.args.root) c.args.root c.args.place.key c.args.place.version c.in-Some.told.value c.in_ok-node.node (omega (arith, level, spells.rules.low_level))
     spells.typed spells.rules (sym level) (c.in_ok-node.ensures.found tells) c.in-Some.ensures.told.value none
 
+pub returns-in_default-step-clause-whole : goal.returns-in_default-step-clause-whole
+returns-in_default-step-clause-whole g c = λ tells.
+    let spells = c.in_ok-node.ensures.spells in
+    whole_root_alone (g.P.Pages.map c.args.pages.now) c.args.root c.args.place c.in_ok-node.node c.requires spells.typed spells.rules (c.in_ok-node.ensures.found tells) c.in-Some.ensures.fits
+    (subst (λ (o : Option Step). StepsOn c.in_ok-node.node c.args.place o) c.in_default-step.is c.in-Some.ensures.told.step)
+
 pub returns-in_err-below-clause-damaged : goal.returns-in_err-below-clause-damaged
 returns-in_err-below-clause-damaged g c = λ damaged e tells.
     let p = err_from_is_err_and c.from_residual-in_err-below.result c.from_residual-in_err-below.ensures.1 in
@@ -71,3 +77,13 @@ returns-clause-value g c = λ tells.
     let there = told ∙ ap (λ (l : ℕ). total_below (l - 1) m c.in-Some-step.step.child c.args.place.key c.args.place.version % 2 ^ 128) (c.level-level.ensures ∙ sym level) in
     value_with m (root_level m c.args.root) c.args.root c.args.place.key c.args.place.version c.in-Some.told.value c.in_ok-node.node (omega (arith, level, spells.rules.low_level))
     spells.typed spells.rules (sym level) (c.in_ok-node.ensures.found tells) c.in-Some.ensures.told.value c.in-Some-step.step.child c.in_ok-below.below leads.child_is there
+
+pub returns-clause-whole : goal.returns-clause-whole
+returns-clause-whole g c = λ tells.
+    let spells = c.in_ok-node.ensures.spells in
+    let leads : LeadsTo c.args.place c.in_ok-node.node c.in-Some-step.step.child c.in-Some-step.step.place = subst (λ (o : Option Step). StepsOn c.in_ok-node.node c.args.place o) c.in-Some-step.is c.in-Some.ensures.told.step in
+    let here = subst (λ (m : PageMap). (damaged : ℕ) → IsDamagedBelow FitsPlace LeadsTo NothingBeside m (c.level-level.result - 1) c.in-Some-step.step.place c.in-Some-step.step.child damaged → ⊥)
+    c.view_page.ensures.reads.read.map (c.in_ok-below.ensures.whole (search rules)) in
+    let below = subst (λ (l : ℕ). (damaged : ℕ) → IsDamagedBelow FitsPlace LeadsTo NothingBeside (g.P.Pages.map c.args.pages.now) (l - 1) c.in-Some-step.step.place c.in-Some-step.step.child damaged → ⊥) c.level-level.ensures here in
+    whole_root_further (g.P.Pages.map c.args.pages.now) c.args.root c.args.place c.in_ok-node.node c.requires spells.typed spells.rules (c.in_ok-node.ensures.found tells) c.in-Some.ensures.fits
+    c.in-Some-step.step.child c.in-Some-step.step.place leads below

@@ -6,7 +6,7 @@ use Rattle.page_layout.specs.Damage.{IsDamagedBelow, NothingBeside}
 use Rattle.sb_tree.specs.Damage.{FitsPlace, LeadsTo}
 use Rattle.sb_tree.specs.Steps.{total_below}
 use Rattle.sb_tree.proofs.Exits.{exit_error}
-use Rattle.sb_tree.proofs.Values.{leaf_value, index_value, damaged_here, damaged_further, leads_at_cut, some_at_cut}
+use Rattle.sb_tree.proofs.Values.{leaf_value, index_value, damaged_here, damaged_further, leads_at_cut, some_at_cut, whole_further, whole_leaf}
 use Rattle.sb_tree.proofs.value.+value_below.Goals as goal
 
 pub returns-in_err-node-clause-damaged : goal.returns-in_err-node-clause-damaged
@@ -21,6 +21,11 @@ returns-then-level-eq1-clause-value g t c = λ tells.
     leaf_value (g.P.Pages.map c.args.pages.now) c.args.level c.args.page c.args.place.sought c.begun_on-begun.result.count c.begun_on-begun.result.total
     c.in_ok-node.node c.in_ok-node.node.entries.items refl c.if-level-eq1.true
     (c.in_ok-node.ensures.found tells) c.in_ok-node.ensures.node.fits c.begun_on-begun.ensures.cut c.begun_on-begun.ensures.total
+
+pub returns-then-level-eq1-clause-whole : goal.returns-then-level-eq1-clause-whole
+returns-then-level-eq1-clause-whole g t c = λ tells.
+    whole_leaf (g.P.Pages.map c.args.pages.now) c.args.level c.args.page c.args.place c.in_ok-node.node (c.in_ok-node.ensures.found tells) c.in_ok-node.ensures.node
+    (omega (arith, c.if-level-eq1.true))
 
 pub inner_place_on-inner-requires : goal.inner_place_on-inner-requires
 inner_place_on-inner-requires g t c = (
@@ -58,3 +63,13 @@ returns-clause-value g t c = λ tells.
     c.in_ok-node.node c.in_ok-node.node.entries.items refl (omega (arith, c.if-level-eq0.false))
     (c.in_ok-node.ensures.found tells) c.in_ok-node.ensures.node.fits c.begun_on-begun.ensures.cut
     (c.child_on-child.ensures _ c.begun_on-begun.ensures.cut) c.begun_on-begun.ensures.total (total ∙ same_place ∙ same_map)
+
+pub returns-clause-whole : goal.returns-clause-whole
+returns-clause-whole g t c = λ tells.
+    let entries = c.in_ok-node.node.entries.items in
+    let leads = leads_at_cut c.args.place c.inner_place_on-inner.result c.in_ok-node.node entries c.begun_on-begun.result.count c.child_on-child.result refl
+    c.begun_on-begun.ensures.cut (c.child_on-child.ensures _ c.begun_on-begun.ensures.cut) c.inner_place_on-inner.ensures.low c.inner_place_on-inner.ensures.high c.inner_place_on-inner.ensures.sought in
+    let below = subst (λ (m : PageMap). (damaged : ℕ) → IsDamagedBelow FitsPlace LeadsTo NothingBeside m (c.args.level - 1) c.inner_place_on-inner.result c.child_on-child.result damaged → ⊥)
+    c.view_in_place.ensures.reads.read.map (c.in_ok-below.ensures.whole (search rules)) in
+    whole_further (g.P.Pages.map c.args.pages.now) c.args.level c.args.page c.args.place c.in_ok-node.node (c.in_ok-node.ensures.found tells) c.in_ok-node.ensures.node
+    c.child_on-child.result c.inner_place_on-inner.result leads below
