@@ -1,5 +1,5 @@
 -- The points below a page, and the damaged pages on the way to them.
-use Rattle.std.proofs.Common.{◌≡◌, ◌≢◌, ◌⊎◌, ℕ, zero, suc, ◌+◌, ◌-◌, ◌<◌, ◌≤◌, List, ◌∷◌, ◌++◌, length, take, drop, get_or, slice_index_or, map, Bool, IsTrue, Some, None, Contains, inl, inr, refl, sym, ap, ◌∙◌, subst, arith, drop-cons, length-append, append_assoc}
+use Rattle.std.proofs.Common.{◌≡◌, ◌≢◌, ◌⊎◌, ℕ, zero, suc, ◌+◌, ◌-◌, ◌*◌, ◌<◌, ◌≤◌, List, ◌∷◌, ◌++◌, length, take, drop, get_or, slice_index_or, map, Bool, IsTrue, Some, None, Contains, inl, inr, refl, sym, ap, ◌∙◌, subst, arith, drop-cons, length-append, append_assoc}
 use Rattle.std.proofs.Math.ListN.{get_or-map}
 use Rattle.std.specs.List.{flat_map}
 use Rattle.std.proofs.lemmas.List.{take-append-drop, length-map, get_or_default}
@@ -79,7 +79,7 @@ damaged_index zero pages page damaged none one same h = absurd (none refl)
 damaged_index (suc zero) pages page damaged none one same h = absurd (one refl)
 damaged_index (suc (suc level)) pages page damaged none one same h = inl (same, no_index level pages page tt h)
 
-child_of : (es : List BaEntry) (i : ℕ) (d : BaEntry) → i < length es → Contains (map (λ (e : BaEntry). e.child) es) (get_or es i d).child
+pub child_of : (es : List BaEntry) (i : ℕ) (d : BaEntry) → i < length es → Contains (map (λ (e : BaEntry). e.child) es) (get_or es i d).child
 child_of es i d lt =
     let few : i < length (map (λ (e : BaEntry). e.child) es) = omega (arith, lt, length-map es (λ (e : BaEntry). e.child)) in
     (i, few, get_or_default (map (λ (e : BaEntry). e.child) es) i (get_or es i d).child d.child few ∙ get_or-map (λ (e : BaEntry). e.child) es i d)
@@ -103,7 +103,7 @@ damaged_child (suc (suc level)) pages page damaged cuts i d none one found fits 
     ))
 
 -- Where a page stands, no page below it is damaged.
-entry_of : (level : ℕ) (pages : PageMap) (page : ℕ) (place inner : Unit {0}) (node : Node) (bytes : List ℕ) (child : ℕ) → pages page ≡ Some bytes
+pub entry_of : (level : ℕ) (pages : PageMap) (page : ℕ) (place inner : Unit {0}) (node : Node) (bytes : List ℕ) (child : ℕ) → pages page ≡ Some bytes
     → FitsNode (suc (suc level)) place node bytes → LeadsToEach place node child inner
     → (k : ℕ) × (k < length (entries_on pages page)) × ((entry_on pages page k).child ≡ child)
 entry_of level pages page place inner (Leaf leaf) bytes child found fits leads = absurd fits
@@ -182,3 +182,14 @@ read_both g a b old mid new r s = record {
   at_most = omega arith;
   faults = omega (arith, r.faults, s.faults);
 }
+
+one_more_times : (n x : ℕ) → (n + 1) * x ≡ n * x + x
+one_more_times n x = grind arith
+
+-- A page above points takes no more gets than they do one by one, with those below it on one level less.
+pub own_page : (level before after old new : ℕ) → 1 ≤ level → after + (level - 1) * old ≤ before + 1 + (level - 1) * new → old < new → after + level * old ≤ before + level * new
+own_page level before after old new some gets more =
+    let less : level ≡ (level - 1) + 1 = omega (arith, some) in
+    let first : level * old ≡ (level - 1) * old + old = ap (λ (n : ℕ). n * old) less ∙ one_more_times (level - 1) old in
+    let second : level * new ≡ (level - 1) * new + new = ap (λ (n : ℕ). n * new) less ∙ one_more_times (level - 1) new in
+    omega (arith, gets, more, first, second)

@@ -99,6 +99,14 @@ slice_back len items new long same =
     ap (λ (ps : List Point). take len (new ++ ps)) (drop_all (length new) items (omega (arith, same))) ∙ ap (λ (ps : List Point). take len ps) (append-nil new)
     ∙ take_all len new (omega (arith, long, same))
 
+pub in_slice : (all items before new : List Point) (len : ℕ) → items ≡ all → before ≡ items → length before ≡ len → IsPermutation before new
+    → IsPermutation (take len (new ++ drop (length new) items)) all
+in_slice all items before new len whole same long moved =
+    let as_many : length before ≡ length items = ap (λ (ps : List Point). length ps) same in
+    let kept : IsPermutation new all = subst (λ (ps : List Point). IsPermutation new ps) (same ∙ whole) (IsPermutation-sym before new moved) in
+    subst (λ (ps : List Point). IsPermutation ps all)
+    (sym (slice_back len items new (omega (arith, long, as_many)) (omega (arith, length_permutation before new moved, as_many)))) kept
+
 pub kept_in_slice : (dims : ℕ) (pages : PageMap) (tree : Tree) (points items before new : List Point) (len : ℕ) → 2 ≤ dims → (trees_over dims).stands pages tree points
     → items ≡ points_below tree.levels pages tree.root → before ≡ items → length before ≡ len → IsPermutation before new
     → IsPermutation (take len (new ++ drop (length new) items)) points

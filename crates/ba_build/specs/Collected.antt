@@ -27,7 +27,7 @@ IsDamagedForCollect dims pages tree damaged =
 
 -- A call that only reads, and may find no memory: it changes no page, is refused for the disk only where the count of faults
 -- rose, and never for the limit.
-pub record OnlyCollects {P T : Type 0} (g : Ghosts P) (old new : P) (result : Result T StageFault) : Type 0 where
+pub record ReadsAndAllocates {P T : Type 0} (g : Ghosts P) (old new : P) (result : Result T StageFault) : Type 0 where
   pub read : WasRead g (g.gets new) old new
   pub disk : result ≡ Err Disk → Rose (g.faults old) (g.faults new)
   pub no_limit : (n : ℕ) → result ≡ Err (PageLimit n) → ⊥

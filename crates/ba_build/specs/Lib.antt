@@ -1,2 +1,6 @@
+pub mod AsBuilt
 pub mod Built
 pub mod Collected
+pub mod Parts
+pub mod Dropped
+pub mod Laws

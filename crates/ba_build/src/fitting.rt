@@ -7,8 +7,9 @@ ghost use Rattle.ba_build.specs.Built.{IsPointBelow, MayBeBuilt};
 
 use bw_types::Point;
 
-/// Whether a tree over two or three dimensions may be built of the points. It may put them in another order.
-pub(crate) fn may_be_built(points: &mut [Point], dims: u8) -> bool
+/// Whether a tree over so many dimensions may be built of the points, that is whether they meet the conditions of `build`. It
+/// may put them in another order.
+pub fn may_be_built(points: &mut [Point], dims: u8) -> bool
     requires { dims ≤ 3 }
     ensures permutation { IsPermutation points.old points.new }
     ensures built { IsTrue result → MayBeBuilt dims points.new }

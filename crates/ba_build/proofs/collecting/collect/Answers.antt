@@ -7,7 +7,7 @@ use Rattle.page_ports.specs.declared.page.StageFault.TheVariants.{Damaged}
 use Rattle.sb_tree.proofs.Exits.{exit_error, same_damaged}
 use Rattle.ba_trees.specs.Stands.{points_below}
 use Rattle.ba_build.specs.Built.{MayBeBuilt}
-use Rattle.ba_build.proofs.Whole.{gathered_all, gathered_damaged, kept_in_slice, none_built, nothing_damaged, wrong_count}
+use Rattle.ba_build.proofs.Whole.{gathered_all, gathered_damaged, in_slice, kept_in_slice, none_built, nothing_damaged, wrong_count}
 use Rattle.ba_build.proofs.collecting.collect.Goals as goal
 
 pub returns-in_err-gather-clause-sound : goal.returns-in_err-gather-clause-sound
@@ -44,3 +44,11 @@ returns-clause-points g c = λ tells points stands.
     (c.in_ok-gather.ensures.points tells) in
     kept_in_slice c.args.dims m c.args.tree.now points c.gather.new.points.items c.as_mut_slice.result.now c.may_be_built.new.points c.gather.new.points.len
     c.requires.dims.0 stands all c.as_mut_slice.ensures.value c.as_mut_slice.ensures.len c.may_be_built.ensures.permutation
+
+pub returns-clause-read : goal.returns-clause-read
+returns-clause-read g c = λ tells.
+    let m : PageMap = g.P.Pages.map c.args.pages.now in
+    let all = gathered_all (points_below c.args.tree.now.levels m c.args.tree.now.root) c.new-points.result.items c.gather.new.points.items c.new-points.ensures.items
+    (c.in_ok-gather.ensures.points tells) in
+    in_slice (points_below c.args.tree.now.levels m c.args.tree.now.root) c.gather.new.points.items c.as_mut_slice.result.now c.may_be_built.new.points c.gather.new.points.len
+    all c.as_mut_slice.ensures.value c.as_mut_slice.ensures.len c.may_be_built.ensures.permutation

@@ -1,0 +1,86 @@
+//! A stage of which one call fails.
+ghost use Rattle.std.specs.Prelude.{◌≡◌, ◌+◌, IsTrue};
+
+use counts::raised;
+use page_ports::{Page, PageFault, Pages, Stage, StageFault};
+
+/// A stage that fails once, after so many calls: an allotment for want of memory, each other call for
+/// the disk.
+#[derive(Drop)]
+pub(crate) struct Failing<S: Stage + Drop> {
+    pub(crate) stage: S,
+    pub(crate) calls_left: u64,
+    pub(crate) faults: u64,
+}
+
+fn fails(calls_left: &mut u64) -> bool {
+    if *calls_left == 0 {
+        *calls_left = u64::MAX;
+        return true;
+    }
+    *calls_left -= 1;
+    false
+}
+
+impl<S: Stage + Drop> Pages for Failing<S> {
+    ghost tells = { λ f. S.tells f.stage };
+
+    ghost map = { λ f. S.map f.stage };
+
+    ghost gets = { λ f. S.gets f.stage };
+
+    ghost faults = { λ f. S.faults f.stage + f.faults };
+
+    ghost allotted = { λ f. S.allotted f.stage };
+
+    ghost limit = { λ f. S.limit f.stage };
+
+    ghost chain = { λ f. S.chain f.stage };
+
+    ghost free_in_order = { λ f. S.free_in_order f.stage };
+
+    ghost Base = { S.Base };
+
+    ghost base = { λ f. S.base f.stage };
+
+    fn get(&mut self, page: u64, buf: &mut Page) -> Result<(), PageFault> {
+        if fails(&mut self.calls_left) {
+            self.faults = raised(self.faults);
+            return Err(PageFault::Disk);
+        }
+        self.stage.get(page, buf)
+    }
+}
+
+impl<S: Stage + Drop> Stage for Failing<S> {
+    ghost below_allotted = { λ f page bytes told there. S.below_allotted f.stage page bytes told there };
+
+    ghost from_three = { λ f page bytes told there. S.from_three f.stage page bytes told there };
+
+    ghost within_limit = { λ f. S.within_limit f.stage };
+
+    ghost limit_fits = { λ f. S.limit_fits f.stage };
+
+    fn allot(&mut self) -> Result<u64, StageFault> {
+        if fails(&mut self.calls_left) {
+            return Err(StageFault::NoMemory);
+        }
+        self.stage.allot()
+    }
+
+    fn put(&mut self, page: u64, buf: &Page) -> Result<(), StageFault> {
+        if fails(&mut self.calls_left) {
+            self.faults = raised(self.faults);
+            return Err(StageFault::Disk);
+        }
+        self.stage.put(page, buf)
+    }
+
+    fn free(&mut self, page: u64) -> Result<(), StageFault> {
+        if fails(&mut self.calls_left) {
+            self.faults = raised(self.faults);
+            return Err(StageFault::Disk);
+        }
+        self.stage.free(page)
+    }
+}
