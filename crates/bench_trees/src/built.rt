@@ -1,0 +1,203 @@
+//! Trees that are built of points: their sums beside plain sums over the points, and what building costs.
+ghost use Rattle.std.specs.Prelude.{◌≤◌, ◌<◌, ◌-◌, ◌^◌};
+
+use crate::draws::Draws;
+use crate::measured::rate;
+use anyhow::{Result, bail};
+use ba_build::{build, collect, drop_tree, may_be_built};
+use ba_query::dom_sum;
+use bw_types::{Point, Tree};
+use kdb_pages::KEY_END;
+use page_ports::{MemStage, PageFault, Pages, blank_page};
+use std::alloc::{AllocError, Global};
+use std::time::Instant;
+
+const POINTS: u32 = 5000;
+
+const PLACES: u32 = 1000;
+
+// How points lie.
+#[derive(Clone, Copy)]
+enum Kind {
+    Random,
+    Line,
+    Cluster,
+}
+
+fn name_of(kind: Kind) -> &'static str {
+    match kind {
+        Kind::Random => "random points",
+        Kind::Line => "points on a line",
+        Kind::Cluster => "points in a cluster",
+    }
+}
+
+// The key of the point of this number in a dimension. Up to 1,048,576 points have different keys there, and in a cluster up to
+// 5,003, which is a prime number.
+fn key_of(kind: Kind, draws: &mut Draws, number: u32, dimension: usize) -> u64 {
+    let number = u64::from(number);
+    match kind {
+        Kind::Random => u64::from(draws.draw()) * 1048576 + number % 1048576,
+        Kind::Line => number * 1000 + dimension.min(2) as u64,
+        Kind::Cluster => 1000000000 + number * [1753, 2749, 3571][dimension.min(2)] % 5003,
+    }
+}
+
+// Points of this kind at any versions. The sums of their weights go past `2^128`.
+fn points_of(alloc: Global, kind: Kind, dims: u8, count: u32) -> Result<Vec<Point>, AllocError> {
+    let mut draws = Draws::new(5);
+    let mut points = Vec::new(alloc);
+    for number in 0..count {
+        let mut keys = [0; 3];
+        for dimension in 0..usize::from(dims.min(3)) {
+            keys[dimension] = key_of(kind, &mut draws, number, dimension);
+        }
+        points.push(Point {
+            keys,
+            version: draws.draw() % (count / 4).saturating_add(1),
+            weight: u128::MAX / 9 + u128::from(draws.draw()),
+        })?;
+    }
+    Ok(points)
+}
+
+// A tree of the points, once they have passed the test that one may be built of them.
+fn build_all(alloc: Global, stage: &mut MemStage, dims: u8, points: &mut [Point]) -> Result<Tree>
+    requires { (2 ≤ dims) × (dims ≤ 3) }
+{
+    if !may_be_built(points, dims) {
+        bail!("points that share a key");
+    }
+    Ok(build(alloc, stage, dims, points)?)
+}
+
+// The key of any of the points, or the one before or after it.
+fn key_near(draws: &mut Draws, points: &[Point], dimension: usize) -> u64
+    ensures { result < 2 ^ 64 - 2 ^ 32 }
+{
+    let place = draws.draw() as usize % points.len().max(1);
+    let aside = u64::from(draws.draw() % 3);
+    match points.get(place) {
+        Some(point) => (point.keys[dimension.min(2)].saturating_add(aside))
+            .saturating_sub(1)
+            .min(KEY_END - 1),
+        None => 0,
+    }
+}
+
+// The sum of the points at or below the keys and at or before the version, one by one.
+fn plain_sum(points: &[Point], dims: u8, keys: &[u64; 3], version: u32) -> u128 {
+    let mut total = 0_u128;
+    for point in points {
+        if point.keys[0] <= keys[0]
+            && point.keys[1] <= keys[1]
+            && (dims < 3 || point.keys[2] <= keys[2])
+            && point.version <= version
+        {
+            total = total.wrapping_add(point.weight);
+        }
+    }
+    total
+}
+
+// Whether the tree has the plain sum at 1,000 keys and versions.
+fn sums_agree(stage: &mut MemStage, tree: &Tree, dims: u8, points: &[Point]) -> bool
+    requires { dims ≤ 3 }
+{
+    let mut draws = Draws::new(6);
+    for _ in 0..PLACES {
+        let keys = [
+            key_near(&mut draws, points, 0),
+            key_near(&mut draws, points, 1),
+            key_near(&mut draws, points, 2),
+        ];
+        let version = draws.draw() % (POINTS / 4 + 1);
+        let sum = plain_sum(points, dims, &keys, version);
+        if dom_sum(stage, dims, tree, &keys, version) != Ok(sum) {
+            return false;
+        }
+    }
+    true
+}
+
+// Whether the tree has the points, each once.
+fn are_collected(
+    alloc: Global,
+    stage: &mut MemStage,
+    tree: &Tree,
+    dims: u8,
+    points: &mut [Point],
+) -> Result<bool>
+    requires { (2 ≤ dims) × (dims ≤ 3) }
+{
+    let mut collected = collect(alloc, stage, dims, tree)?;
+    collected.sort_unstable_by_key(|point| point.keys[0]);
+    points.sort_unstable_by_key(|point| point.keys[0]);
+    Ok(collected.as_slice() == points)
+}
+
+fn holds_no_page(stage: &mut MemStage) -> bool {
+    let mut bytes = blank_page();
+    for page in 3..stage.allotted() {
+        if stage.get(page, &mut bytes) != Err(PageFault::Damaged(page)) {
+            return false;
+        }
+    }
+    true
+}
+
+// Prints whether the tree of 5,000 points has the plain sums and the points, and whether no page is left once it is dropped.
+fn compare_kind(rt: &HostRuntime, kind: Kind, dims: u8) -> Result<()>
+    requires { (2 ≤ dims) × (dims ≤ 3) }
+{
+    let mut points = points_of(rt.alloc(), kind, dims, POINTS)?;
+    let mut stage = MemStage::new(rt.alloc(), 4294967295);
+    let tree = build_all(rt.alloc(), &mut stage, dims, points.as_mut_slice())?;
+    let agree = sums_agree(&mut stage, &tree, dims, points.as_slice());
+    let collected = are_collected(rt.alloc(), &mut stage, &tree, dims, points.as_mut_slice())?;
+    drop_tree(&mut stage, dims, &tree)?;
+    let empty = holds_no_page(&mut stage);
+    println!(rt;
+        "{POINTS} {}, {dims} dimensions: {}, {}, {}",
+        name_of(kind),
+        if agree { "sums agree" } else { "sums differ" },
+        if collected {
+            "collected"
+        } else {
+            "not collected"
+        },
+        if empty { "no page left" } else { "pages left" }
+    )?;
+    Ok(())
+}
+
+/// Prints of each kind of points, in two and in three dimensions, whether their tree has the plain sums and the points, and
+/// whether no page is left of it.
+pub fn compare_built(rt: &HostRuntime) -> Result<()> {
+    for dims in 2..4u8 {
+        for kind in [Kind::Random, Kind::Line, Kind::Cluster] {
+            compare_kind(rt, kind, dims)?;
+        }
+    }
+    Ok(())
+}
+
+/// Prints how many of so many random points are built a second, and how many pages each takes.
+pub fn measure_build(rt: &HostRuntime, count: u32, dims: u8) -> Result<()>
+    requires { (2 ≤ dims) × (dims ≤ 3) }
+{
+    let mut points = points_of(rt.alloc(), Kind::Random, dims, count)?;
+    let mut stage = MemStage::new(rt.alloc(), 4294967295);
+    let start = Instant::now(rt)?;
+    let tree = build_all(rt.alloc(), &mut stage, dims, points.as_mut_slice())?;
+    let took = start.elapsed(rt)?.as_nanos();
+    let pages = (stage.allotted() - 3).saturating_mul(100) / u64::from(count.max(1));
+    println!(rt;
+        "{count} points, {dims} dimensions: {} points built a second, {}.{:02} pages a point, {} levels",
+        rate(count, took),
+        pages / 100,
+        pages % 100,
+        tree.levels
+    )?;
+    Ok(())
+}
