@@ -9,9 +9,9 @@ use std::alloc::Global;
 use std::test::Fail;
 
 // Two boxes that touch at 5.
-const TOUCHING: &str = "add,1,1,2,5,10\nadd,1,2,5,9,7\ncommit,1\nsum,1,5,5\n";
+pub(crate) const TOUCHING: &str = "add,1,1,2,5,10\nadd,1,2,5,9,7\ncommit,1\nsum,1,5,5\n";
 
-const STEPS: [Step; 29] = [
+const STEPS: [Step; 35] = [
     // Boxes that touch, and a withdrawal that leaves past versions.
     Step {
         words: "create 1",
@@ -164,6 +164,39 @@ const STEPS: [Step; 29] = [
         input: "\"add\",1,\"501\",100,149,200,259,1,7\r\n\"commit\",1\r\n\"integral\",now,120,139,190,209\r\nsum,now,120,139,190,209",
         text: "version,1\nintegral,1,43092\nsum,1,1\n",
     },
+    // Boxes in three dimensions, of which a query meets both, one, and none.
+    Step {
+        words: "create 3",
+        input: "",
+        text: "",
+    },
+    Step {
+        words: "run",
+        input: "add,1,1,0,2,0,2,0,2,4\nadd,1,2,2,4,2,4,2,4,5\ncommit,1\nsum,now,2,2,2,2,2,2\nsum,now,3,9,0,9,0,9\ncount,now,0,1,0,1,3,9\n",
+        text: "version,1\nsum,1,9\nsum,1,5\ncount,1,0\n",
+    },
+    // The ends of signed coordinates.
+    Step {
+        words: "create 1 --signed 1",
+        input: "",
+        text: "",
+    },
+    Step {
+        words: "run",
+        input: "add,1,1,-2147483647,2147483646,1\nadd,1,2,-2147483648,0,1\nadd,1,3,0,2147483647,1\ncommit,1\nsum,now,-2147483647,-2147483647\nsum,now,2147483646,2147483646\n",
+        text: "bad,2\nbad,3\nversion,1\nsum,1,1\nsum,1,1\n",
+    },
+    // A move is two events.
+    Step {
+        words: "create 1 --events 4",
+        input: "",
+        text: "",
+    },
+    Step {
+        words: "run",
+        input: "add,1,1,0,1,1\ncommit,1\nmove,1,1,5,6,1\ncommit,1\n",
+        text: "version,1\nrefused,0,events\n",
+    },
 ];
 
 #[test]
@@ -173,7 +206,7 @@ fn runs_on_a_disk(rt: HostRuntime) -> Result<(), Fail> {
 }
 
 // Adds of so many boxes, all alike, a commit, and a count of them.
-fn many_adds(alloc: Global, count: u32) -> Result<String, Fail> {
+pub(crate) fn many_adds(alloc: Global, count: u32) -> Result<String, Fail> {
     let mut input = String::new(alloc);
     for id in 0..count {
         input.push_str(format!(in alloc; "add,1,{id},5,5,5,5,1\n")?.as_str())?;
@@ -261,7 +294,7 @@ fn the_ports_of_a_run_fail(rt: HostRuntime) -> Result<(), Fail> {
 }
 
 // What a run on the disk answers that a stopped run leaves: whether the batch is there.
-fn has_batch(alloc: Global, disk: MemDisk) -> Result<Option<bool>, Fail> {
+pub(crate) fn has_batch(alloc: Global, disk: MemDisk) -> Result<Option<bool>, Fail> {
     let (ran, sink) = run_over(alloc, "run", b"sum,now,5,5", disk)?;
     if ran.status != Status::Fine {
         return Ok(None);
@@ -284,7 +317,13 @@ fn a_commit_that_is_stopped(rt: HostRuntime) -> Result<(), Fail> {
     let after = ran.disk.calls();
     assert!(rt; before < after && after < 1000);
     let all = after - before;
-    for torn in [Torn::Lost, Torn::Landed, Torn::Filled(0), Torn::Filled(1)] {
+    for torn in [
+        Torn::Lost,
+        Torn::Landed,
+        Torn::Filled(0),
+        Torn::Filled(1),
+        Torn::Filled(255),
+    ] {
         let mut was_there = false;
         for calls in 0..all + 1 {
             let mut disk = new_warehouse(alloc)?;

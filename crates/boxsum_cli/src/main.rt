@@ -7,6 +7,8 @@
 
 #[cfg(test)]
 mod disk_tests;
+#[cfg(test)]
+mod hostile_tests;
 mod index;
 mod run;
 mod status;
