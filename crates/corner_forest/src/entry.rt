@@ -22,6 +22,7 @@ use bw_types::{Object, Params, Tree};
 use dom_index::DomIndex;
 use page_ports::{Stage, StageFault};
 use poly_moments::{BoxPowers, box_powers};
+use std::alloc::Global;
 
 /// Adds the object's corner points to every tree, with the opposite weights where `minus`.
 ///
@@ -32,6 +33,7 @@ use poly_moments::{BoxPowers, box_powers};
 /// are given out as the limit allows; `Damaged` never comes where the forest stands, its trees are balanced, the entry
 /// is the next one and the free pages are in order.
 pub fn enter<X: DomIndex, S: Stage>(
+    alloc: Global,
     stage: &mut S,
     forest: &mut Forest,
     object: &Object,
@@ -95,6 +97,7 @@ pub fn enter<X: DomIndex, S: Stage>(
         minus,
     };
     let roots = enter_all::<X, S>(
+        alloc,
         stage,
         &forest.params,
         forest.roots.as_slice(),
@@ -107,6 +110,7 @@ pub fn enter<X: DomIndex, S: Stage>(
 
 // Adds the entry's points in each tree.
 fn enter_all<X: DomIndex, S: Stage>(
+    alloc: Global,
     stage: &mut S,
     params: &Params,
     old: &[Tree],
@@ -161,6 +165,7 @@ fn enter_all<X: DomIndex, S: Stage>(
     for place in 0..count {
         let mut root = old[place];
         enter_root::<X, S>(
+            alloc,
             stage,
             params,
             &powers,
@@ -176,6 +181,7 @@ fn enter_all<X: DomIndex, S: Stage>(
 
 // Adds the entry's points in one tree.
 fn enter_root<X: DomIndex, S: Stage>(
+    alloc: Global,
     stage: &mut S,
     params: &Params,
     powers: &BoxPowers,
@@ -221,7 +227,7 @@ fn enter_root<X: DomIndex, S: Stage>(
     let count = point_count(params, place);
     for i in 0..count {
         let point = entry_point(params, powers, object, stamp, place, count - 1 - i);
-        X::add(stage, params.dims, root, &point)?;
+        X::add(alloc, stage, params.dims, root, &point)?;
     }
     Ok(())
 }

@@ -61,6 +61,7 @@ pub fn object_of(low: [u32; 3], high: [u32; 3], weight: i64) -> Object {
 // A forest in memory. Events count from 0.
 #[derive(Drop)]
 pub struct Entered {
+    alloc: Global,
     stage: MemStage,
     forest: Forest,
     event: u32,
@@ -70,6 +71,7 @@ pub fn empty(alloc: Global, params: &Params) -> Entered
     requires { IsInRange params.now }
 {
     Entered {
+        alloc,
         stage: MemStage::new(alloc, 4294967295),
         forest: Forest::new(params),
         event: 0,
@@ -86,6 +88,7 @@ pub fn put(entered: &mut Entered, object: &Object, minus: bool, version: u32) ->
     }
     entered.event = event + 1;
     enter::<PointList, MemStage>(
+        entered.alloc,
         &mut entered.stage,
         &mut entered.forest,
         object,

@@ -15,6 +15,7 @@ ghost use Rattle.dom_index.specs.Points.{AreKeysBelow, IsNewPoint, HasRoom};
 
 use bw_types::{Point, Tree};
 use page_ports::{PageFault, Pages, Stage, StageFault};
+use std::alloc::Global;
 
 /// Keeps weighted points in the pages of trees, over 1 to `DIMS` dimensions.
 ///
@@ -82,6 +83,7 @@ pub trait DomIndex {
     /// faults rose, `PageLimit` only where as many pages are given out as the limit allows. `Damaged` never
     /// comes where the tree stands and is balanced, the point is new and the free pages are in order.
     fn add<S: Stage>(
+        alloc: Global,
         stage: &mut S,
         dims: u8,
         tree: &mut Tree,

@@ -10,6 +10,7 @@ use crate::index::DomIndex;
 use crate::putting::put_first;
 use bw_types::{Point, Tree};
 use page_ports::{PageFault, Pages, Stage, StageFault};
+use std::alloc::Global;
 
 /// A chain of pages of up to 64 points, over 1 to 3 dimensions.
 ///
@@ -50,6 +51,7 @@ impl DomIndex for PointList {
     }
 
     fn add<S: Stage>(
+        alloc: Global,
         stage: &mut S,
         dims: u8,
         tree: &mut Tree,

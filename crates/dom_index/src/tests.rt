@@ -45,7 +45,7 @@ fn sixty_five_points(rt: HostRuntime) -> Result<(), Fail> {
     let mut tree = Tree::default();
     for number in 0..65u16 {
         let point = point_at(number, number, number, 2);
-        PointList::add(&mut stage, 2, &mut tree, &point)?;
+        PointList::add(rt.alloc(), &mut stage, 2, &mut tree, &point)?;
         assert_eq!(rt; stage.allotted(), if number < 64 { 4 } else { 5 });
         assert_eq!(rt; tree.levels, 1);
     }
@@ -63,8 +63,9 @@ fn sixty_five_points(rt: HostRuntime) -> Result<(), Fail> {
 fn weights_cancel(rt: HostRuntime) -> Result<(), Fail> {
     let mut stage = MemStage::new(rt.alloc(), 100);
     let mut tree = Tree::default();
-    PointList::add(&mut stage, 2, &mut tree, &point_at(3, 4, 1, 7))?;
+    PointList::add(rt.alloc(), &mut stage, 2, &mut tree, &point_at(3, 4, 1, 7))?;
     PointList::add(
+        rt.alloc(),
         &mut stage,
         2,
         &mut tree,
@@ -92,14 +93,14 @@ fn damage_is_named(rt: HostRuntime) -> Result<(), Fail> {
         Err(PageFault::Damaged(50))
     );
     assert_eq!(rt;
-        PointList::add(&mut stage, 2, &mut tree, &point),
+        PointList::add(rt.alloc(), &mut stage, 2, &mut tree, &point),
         Err(StageFault::Damaged(50))
     );
     assert_eq!(rt; tree.count, 3);
     let mut full = Tree::default();
     full.count = 2147483648;
     assert_eq!(rt;
-        PointList::add(&mut stage, 2, &mut full, &point),
+        PointList::add(rt.alloc(), &mut stage, 2, &mut full, &point),
         Err(StageFault::Damaged(0))
     );
     Ok(())
@@ -110,7 +111,7 @@ fn the_limit_is_told(rt: HostRuntime) -> Result<(), Fail> {
     let mut stage = MemStage::new(rt.alloc(), 3);
     let mut tree = Tree::default();
     assert_eq!(rt;
-        PointList::add(&mut stage, 2, &mut tree, &point_at(1, 1, 1, 1)),
+        PointList::add(rt.alloc(), &mut stage, 2, &mut tree, &point_at(1, 1, 1, 1)),
         Err(StageFault::PageLimit(3))
     );
     assert_eq!(rt; tree, Tree::default());

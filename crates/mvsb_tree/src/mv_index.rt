@@ -13,6 +13,7 @@ use crate::value::mv_value;
 use bw_types::{Point, Tree};
 use dom_index::DomIndex;
 use page_ports::{PageFault, Pages, Stage, StageFault};
+use std::alloc::Global;
 
 /// A multiversion tree as an index, over one dimension.
 ///
@@ -52,6 +53,7 @@ impl DomIndex for MvIndex {
     }
 
     fn add<S: Stage>(
+        alloc: Global,
         stage: &mut S,
         dims: u8,
         tree: &mut Tree,

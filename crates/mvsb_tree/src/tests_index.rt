@@ -28,9 +28,9 @@ fn sum_at(stage: &mut MemStage, tree: &Tree, key: u16, version: u32) -> Result<u
 fn three_points(rt: HostRuntime) -> Result<(), Fail> {
     let mut stage = MemStage::new(rt.alloc(), 20);
     let mut tree = Tree::default();
-    MvIndex::add(&mut stage, 1, &mut tree, &point_at(10, 1, 5))?;
-    MvIndex::add(&mut stage, 1, &mut tree, &point_at(20, 1, 7))?;
-    MvIndex::add(&mut stage, 1, &mut tree, &point_at(5, 2, 1))?;
+    MvIndex::add(rt.alloc(), &mut stage, 1, &mut tree, &point_at(10, 1, 5))?;
+    MvIndex::add(rt.alloc(), &mut stage, 1, &mut tree, &point_at(20, 1, 7))?;
+    MvIndex::add(rt.alloc(), &mut stage, 1, &mut tree, &point_at(5, 2, 1))?;
     assert_eq!(rt; sum_at(&mut stage, &tree, 25, 0), Ok(0));
     assert_eq!(rt; sum_at(&mut stage, &tree, 9, 1), Ok(0));
     assert_eq!(rt; sum_at(&mut stage, &tree, 25, 1), Ok(12));

@@ -230,7 +230,7 @@ impl<D: Disk, X: DomIndex> Warehouse<D, X> {
         );
         let mut roots = Roots { table, forest };
         let mut stage = space.begin();
-        if let Err(fault) = draft::<D, X>(&mut stage, &mut roots, by_ids, before, rows) {
+        if let Err(fault) = draft::<D, X>(alloc, &mut stage, &mut roots, by_ids, before, rows) {
             return Warehouse::given_back(alloc, stage.abandon(), fault);
         }
         match stage.commit() {

@@ -26,6 +26,7 @@ use page_disk::Disk;
 use page_layout::Meta;
 use page_ports::{Pages, StageFault};
 use page_space::Staged;
+use std::alloc::Global;
 
 /// What the meta page counts of a history: its versions, events, adds and withdrawals, and its mass.
 #[derive(Clone, Copy)]
@@ -38,6 +39,7 @@ pub(crate) struct Counts {
 
 /// Enters the rows, in a table of the earlier form where `by_ids`, and sets the meta page.
 pub(crate) fn draft<D: Disk, X: DomIndex>(
+    alloc: Global,
     stage: &mut Staged<D>,
     roots: &mut Roots,
     by_ids: bool,
@@ -70,6 +72,7 @@ pub(crate) fn draft<D: Disk, X: DomIndex>(
 {
     let mass = mass_with(&roots.forest.params, rows, before.mass);
     let end = enter_batch::<X, Staged<D>>(
+        alloc,
         stage,
         roots,
         by_ids,

@@ -27,6 +27,7 @@ use history_entries::entries_are_changes;
 use object_table::{enter, find, last_life_laws, mark_withdrawn, table_laws};
 use page_layout::footprint_laws;
 use page_ports::{Stage, StageFault, changes_compose};
+use std::alloc::Global;
 
 // The number of the life that comes after the last one of an id; `None` where there are no more numbers.
 fn life_after(last: Option<Dated>) -> Option<u32>
@@ -73,6 +74,7 @@ fn fitting(params: &Params, last: Option<Dated>) -> Option<Dated>
 
 /// Adds the object, as the next change of a batch: a life of its id in the table, and an entry in the trees.
 pub(crate) fn add_object<X: DomIndex, S: Stage>(
+    alloc: Global,
     stage: &mut S,
     roots: &mut Roots,
     object: &Object,
@@ -111,12 +113,21 @@ pub(crate) fn add_object<X: DomIndex, S: Stage>(
     };
     let dated = begun(&roots.forest.params, object, life, event, version);
     enter(stage, &mut roots.table, &dated)?;
-    enter_forest::<X, S>(stage, &mut roots.forest, object, false, event, version)
+    enter_forest::<X, S>(
+        alloc,
+        stage,
+        &mut roots.forest,
+        object,
+        false,
+        event,
+        version,
+    )
 }
 
 /// Withdraws the id, as the next change of a batch: its last life ends, and what that entered in the trees is entered
 /// once more with the opposite sign.
 pub(crate) fn withdraw_id<X: DomIndex, S: Stage>(
+    alloc: Global,
     stage: &mut S,
     roots: &mut Roots,
     id: u64,
@@ -153,11 +164,20 @@ pub(crate) fn withdraw_id<X: DomIndex, S: Stage>(
         return Err(StageFault::Damaged(roots.table.root));
     };
     mark_withdrawn(stage, &roots.table, id, version, event)?;
-    enter_forest::<X, S>(stage, &mut roots.forest, &last.object, true, event, version)
+    enter_forest::<X, S>(
+        alloc,
+        stage,
+        &mut roots.forest,
+        &last.object,
+        true,
+        event,
+        version,
+    )
 }
 
 /// Enters a row as the next changes of a batch, a move being two.
 pub(crate) fn enter_row<X: DomIndex, S: Stage>(
+    alloc: Global,
     stage: &mut S,
     roots: &mut Roots,
     row: &Row,
@@ -186,16 +206,16 @@ pub(crate) fn enter_row<X: DomIndex, S: Stage>(
     forest_laws::<X>();
     match row {
         Row::Add(object) => {
-            add_object::<X, S>(stage, roots, object, event, version)?;
+            add_object::<X, S>(alloc, stage, roots, object, event, version)?;
             Ok(event + 1)
         }
         Row::Withdraw(id) => {
-            withdraw_id::<X, S>(stage, roots, *id, event, version)?;
+            withdraw_id::<X, S>(alloc, stage, roots, *id, event, version)?;
             Ok(event + 1)
         }
         Row::Move(object) => {
-            withdraw_id::<X, S>(stage, roots, object.id, event, version)?;
-            add_object::<X, S>(stage, roots, object, event + 1, version)?;
+            withdraw_id::<X, S>(alloc, stage, roots, object.id, event, version)?;
+            add_object::<X, S>(alloc, stage, roots, object, event + 1, version)?;
             Ok(event + 2)
         }
     }
@@ -203,6 +223,7 @@ pub(crate) fn enter_row<X: DomIndex, S: Stage>(
 
 /// Enters the rows of a batch, the first change of which has this event number; answers the number after the last.
 pub(crate) fn enter_rows<X: DomIndex, S: Stage>(
+    alloc: Global,
     stage: &mut S,
     roots: &mut Roots,
     rows: &[Row],
@@ -231,7 +252,7 @@ pub(crate) fn enter_rows<X: DomIndex, S: Stage>(
     forest_laws::<X>();
     let mut event = event;
     for row in rows {
-        event = enter_row::<X, S>(stage, roots, row, event, version)?;
+        event = enter_row::<X, S>(alloc, stage, roots, row, event, version)?;
     }
     Ok(event)
 }

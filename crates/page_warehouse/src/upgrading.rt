@@ -19,6 +19,7 @@ use dom_index::DomIndex;
 use object_table::table_laws;
 use page_layout::footprint_laws;
 use page_ports::{Stage, StageFault, changes_compose};
+use std::alloc::Global;
 use table_upgrade::renew;
 
 // Writes the table anew by lives.
@@ -42,6 +43,7 @@ fn renew_table<X: DomIndex, S: Stage>(stage: &mut S, roots: &mut Roots) -> Resul
 /// Enters the rows of a batch, the first change of which has this event number, in a table of the earlier form where
 /// `by_ids`; answers the number after the last change.
 pub(crate) fn enter_batch<X: DomIndex, S: Stage>(
+    alloc: Global,
     stage: &mut S,
     roots: &mut Roots,
     by_ids: bool,
@@ -68,8 +70,8 @@ pub(crate) fn enter_batch<X: DomIndex, S: Stage>(
     ensures changes { Changes S.Pages (S.allotted stage.new + 1) stage.old stage.new result }
 {
     if !by_ids {
-        return enter_rows::<X, S>(stage, roots, rows, event, version);
+        return enter_rows::<X, S>(alloc, stage, roots, rows, event, version);
     }
     renew_table::<X, S>(stage, roots)?;
-    enter_rows::<X, S>(stage, roots, rows, event, version)
+    enter_rows::<X, S>(alloc, stage, roots, rows, event, version)
 }
