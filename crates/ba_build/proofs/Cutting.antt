@@ -135,7 +135,7 @@ may_last dims n points le may = record {
 }
 
 -- The points before the median lie below the cut, and the others above it.
-below_median : (dims d k n : ℕ) (region : Region) (points : List Point) → n ≤ length points → All (λ p. IsTrue (lies_in dims p.keys region)) points → IsMedian d points n k
+pub below_median : (dims d k n : ℕ) (region : Region) (points : List Point) → n ≤ length points → All (λ p. IsTrue (lies_in dims p.keys region)) points → IsMedian d points n k
     → All (λ p. IsTrue (lies_in dims p.keys (below_cut region d k))) (take n points)
 below_median dims d k n region points le lie median = λ i none lt.
     let below : i < n = omega (arith, lt, length-take-le n points le) in
@@ -151,7 +151,7 @@ from_median d k n i points none lt median = elim (cases_eq i 0) [
   | inr later ↦ omega (arith, median.after (n + i) none (omega (arith, later)) lt)
 ]
 
-above_median : (dims d k n : ℕ) (region : Region) (points : List Point) → n ≤ length points → All (λ p. IsTrue (lies_in dims p.keys region)) points → IsMedian d points n k
+pub above_median : (dims d k n : ℕ) (region : Region) (points : List Point) → n ≤ length points → All (λ p. IsTrue (lies_in dims p.keys region)) points → IsMedian d points n k
     → All (λ p. IsTrue (lies_in dims p.keys (above_cut region d k))) (drop n points)
 above_median dims d k n region points le lie median = λ i none lt.
     let below : n + i < length points = omega (arith, lt, length-drop n points, le) in

@@ -277,7 +277,7 @@ module _ (dims : ℕ) (borders : TreeKind) (of_borders : KeepsLaws borders) (F :
     | inr le ↦ ([], subst (λ (t : Tree). borders.stands m t []) (sym (s.unused i le few)) (of_borders.empty m).0)
   ]
 
-  outside_undamaged : (region : Region) (points : List Point) (outside : Outside) → IsOutsideTyped outside → OutsideStands dims version_trees borders m region points outside
+  pub outside_undamaged : (region : Region) (points : List Point) (outside : Outside) → IsOutsideTyped outside → OutsideStands dims version_trees borders m region points outside
       → IsDamagedOutside F m outside p → ⊥
   outside_undamaged region points (Pocket page count) typed s d =
       d.1 (leaf_on m page) (point_leaf_page (leaf_on m page)) s.pocket.spelled

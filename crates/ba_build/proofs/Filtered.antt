@@ -73,12 +73,12 @@ same_is_out (Border i) Below o s = absurd (no_true false s refl)
 pub outside_again : (dims : ℕ) (region : Region) (points : List Point) → points_outside dims region (points_outside dims region points) ≡ points_outside dims region points
 outside_again dims region points = filter_again (λ (p : Point). is_outside (class_of dims p.keys region)) (λ (p : Point). is_outside (class_of dims p.keys region)) (λ x h. h) points
 
-class_again : (dims : ℕ) (region : Region) (class : Class) (points : List Point) → is_outside class ≡ true
+pub class_again : (dims : ℕ) (region : Region) (class : Class) (points : List Point) → is_outside class ≡ true
     → points_of_class dims region class (points_outside dims region points) ≡ points_of_class dims region class points
 class_again dims region class points o = filter_again (λ (p : Point). is_same_class class (class_of dims p.keys region)) (λ (p : Point). is_outside (class_of dims p.keys region))
     (λ x same. same_is_out class (class_of dims x.keys region) o same) points
 
-border_again : (dims : ℕ) (region : Region) (dimension : ℕ) (points : List Point) → border_points dims region dimension (points_outside dims region points) ≡ border_points dims region dimension points
+pub border_again : (dims : ℕ) (region : Region) (dimension : ℕ) (points : List Point) → border_points dims region dimension (points_outside dims region points) ≡ border_points dims region dimension points
 border_again dims region dimension points = ap (λ (ps : List Point). map (without_dimension dimension) ps) (class_again dims region (Border dimension) points refl)
 
 -- The points outside may be built.

@@ -98,12 +98,12 @@ child_built dims height rounds points region m0 m1 e child is some none before =
       at_first P p (suc i) lt = absurd (omega (arith, lt))
 
 -- The region of an entry of the low side of a cut, and of the high side.
-part_low : (d k : ℕ) (low high : Cuts) (region : Region) (i : ℕ) → i < entry_count low → region_at (Cut d k low high) region i ≡ region_at low (below_cut region d k) i
+pub part_low : (d k : ℕ) (low high : Cuts) (region : Region) (i : ℕ) → i < entry_count low → region_at (Cut d k low high) region i ≡ region_at low (below_cut region d k) i
 part_low d k low high region i lt =
     let few : i < length (regions_of low (below_cut region d k)) = omega (arith, lt, regions_counted low (below_cut region d k)) in
     region_low d k low high region region i lt ∙ get_or_default (regions_of low (below_cut region d k)) i region (below_cut region d k) few
 
-part_high : (d k : ℕ) (low high : Cuts) (region : Region) (i : ℕ) → entry_count low ≤ i → i - entry_count low < entry_count high
+pub part_high : (d k : ℕ) (low high : Cuts) (region : Region) (i : ℕ) → entry_count low ≤ i → i - entry_count low < entry_count high
     → region_at (Cut d k low high) region i ≡ region_at high (above_cut region d k) (i - entry_count low)
 part_high d k low high region i le lt =
     let few : i - entry_count low < length (regions_of high (above_cut region d k)) = omega (arith, lt, regions_counted high (above_cut region d k)) in

@@ -68,7 +68,7 @@ page_made page before after none others = record {
 }
 
 -- Lists that name each page as often name the same pages, and none twice where the other does not.
-same_names : (xs ys : List ℕ) → ((p : ℕ) → times_named ys p ≡ times_named xs p) → (p : ℕ) → names_page ys p ≡ names_page xs p
+pub same_names : (xs ys : List ℕ) → ((p : ℕ) → times_named ys p ≡ times_named xs p) → (p : ℕ) → names_page ys p ≡ names_page xs p
 same_names xs ys same p = elim (cases_Bool (names_page xs p)) [
   | inl here ↦ elim (cases_Bool (names_page ys p)) [
     | inl there ↦ there ∙ sym here
@@ -80,7 +80,7 @@ same_names xs ys same p = elim (cases_Bool (names_page xs p)) [
   ]
 ]
 
-same_once : (xs ys : List ℕ) → ((p : ℕ) → times_named ys p ≡ times_named xs p) → NamesNoneTwice xs → NamesNoneTwice ys
+pub same_once : (xs ys : List ℕ) → ((p : ℕ) → times_named ys p ≡ times_named xs p) → NamesNoneTwice xs → NamesNoneTwice ys
 same_once xs ys same once = once_each ys (λ p. omega (arith, same p, not_twice xs p once))
 
 -- What two functions give of each element, one after the other, is named as often as all that the one gives and then all that the other does.

@@ -17,7 +17,7 @@ use Rattle.ba_build.proofs.Found.{leaf_found}
 use Rattle.ba_build.proofs.Paging.{page_made}
 
 -- A page that spells points, and no next page.
-points_made : (pages : PageMap) (page : ℕ) (leaf : PointLeaf) → pages page ≡ Some (point_leaf_page leaf) → IsPointLeaf leaf → IsTyped leaf → leaf.next ≡ 0 → PointsStand pages page
+pub points_made : (pages : PageMap) (page : ℕ) (leaf : PointLeaf) → pages page ≡ Some (point_leaf_page leaf) → IsPointLeaf leaf → IsTyped leaf → leaf.next ≡ 0 → PointsStand pages page
 points_made pages page leaf there rules typed alone =
     let same : leaf_on pages page ≡ leaf = leaf_found pages page leaf there typed rules in
     record {

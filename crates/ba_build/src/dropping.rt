@@ -92,9 +92,11 @@ fn free_page<S: Stage>(stage: &mut S, dims: u8, page: u64, level: u8) -> Result<
     Ok(())
 }
 
-// Frees the pages of what an entry keeps outside its region.
+/// Frees the pages of what an entry keeps outside its region, in a map that may have lost others before.
+///
+/// After a refusal the stage is to be abandoned; it comes for the causes of [`drop_tree`].
 #[cycle(drops)]
-fn free_outside<S: Stage>(stage: &mut S, dims: u8, outside: &Outside) -> Result<(), StageFault>
+pub fn free_outside<S: Stage>(stage: &mut S, dims: u8, outside: &Outside) -> Result<(), StageFault>
     requires dims { (2 ≤ dims) × (dims ≤ 3) }
     ensures dropped { OnOk result (IsTrue (S.tells stage.old)
         → AreDropped (λ pages. outside_pages dims version_trees (trees_over (dims - 1)) pages outside.now) (S.map stage.old) (S.map stage.new)) }

@@ -13,11 +13,11 @@ use page_access::{read_level, read_page};
 use page_layout::{CutPage, PointLeaf};
 use page_ports::{Pages, StageFault};
 
-/// Pushes the points below a page of this level of the tree.
+/// Pushes the points below a page of this level of the tree, in the order of its leaves.
 ///
 /// It ends with the first leaf past the tree's count: then `Damaged` carries the root. Each page that it reads has points below
 /// it, so it reads no more pages on a level than the tree counts points, and one.
-pub(crate) fn gather<P: Pages>(
+pub fn gather<P: Pages>(
     pages: &mut P,
     tree: &Tree,
     page: u64,

@@ -7,8 +7,8 @@ use arrayvec::ArrayVec;
 use bw_types::Point;
 use page_layout::PointLeaf;
 
-/// A leaf of the points.
-pub(crate) fn leaf_of(points: &[Point]) -> PointLeaf
+/// A leaf of at most 64 points.
+pub fn leaf_of(points: &[Point]) -> PointLeaf
     requires few { length points.now ≤ 64 }
     ensures points { result.points.items ≡ points.now }
     ensures alone { result.next ≡ 0 }

@@ -30,7 +30,10 @@ mod tests_dropping;
 
 pub use building::build;
 pub use collecting::collect;
-pub use dropping::drop_tree;
+pub use dropping::{drop_tree, free_outside};
 pub use fitting::may_be_built;
+pub use gathering::gather;
 pub use height::built_height;
 pub use laws::{built_laws, dropped_laws};
+pub use leaf::leaf_of;
+pub use outside::build_outside;

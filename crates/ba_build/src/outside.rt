@@ -57,9 +57,13 @@ pub(crate) fn build_outsides<S: Stage>(
     Ok(())
 }
 
-/// Builds what an entry of this region keeps outside it: a pocket of few points, or trees.
+/// Builds what an entry of this region keeps outside it, of the page's points: a pocket exactly where 1 to 60 of them are
+/// outside the region and may count inside it, and else trees.
+///
+/// The points are such as a tree may be built of. For each of them no more pages are given out than building a tree over one
+/// dimension less takes. After a refusal the stage is to be abandoned; it comes for the causes of [`build`].
 #[cycle(builds)]
-fn build_outside<S: Stage>(
+pub fn build_outside<S: Stage>(
     alloc: Global,
     stage: &mut S,
     dims: u8,

@@ -47,10 +47,10 @@ part_three (Cut d k low high) region i three lt = elim (cases_lt i (entry_count 
 ]
 
 -- Past the dimensions no cut fits into the region.
-abbrev IsFlat : ℕ → Region → Type 0
+abbrev pub IsFlat : ℕ → Region → Type 0
 IsFlat dims region = (dimension : ℕ) → dims ≤ dimension → dimension < 3 → get_or region.high dimension 0 ≤ 1
 
-cut_within : (dims : ℕ) (region : Region) (d k : ℕ) → IsFlat dims region → d < 3 → IsInside region d k → d < dims
+pub cut_within : (dims : ℕ) (region : Region) (d k : ℕ) → IsFlat dims region → d < 3 → IsInside region d k → d < dims
 cut_within dims region d k flat few inside = elim (cases_lt d dims) [
   | inl lt ↦ lt
   | inr le ↦ absurd (omega (arith, flat d le few, inside.after_low, inside.before_high))
@@ -82,14 +82,14 @@ only_place dims (Cut d k low high) region keys i cut three flat proper lt h =
     ]
 
 -- a point with three keys, which lies in the region
-abbrev IsKeptIn : ℕ → Region → Point → Type 0
+abbrev pub IsKeptIn : ℕ → Region → Point → Type 0
 IsKeptIn dims region p = (length p.keys ≡ 3) × IsTrue (lies_in dims p.keys region)
 
 held : (dims : ℕ) (region : Region) (p : Point) → dims ≤ 3 → IsInThree region → IsKeptIn dims region p → Holds dims region p.keys
 held dims region p few three kept =
     (lies_in_holds dims p.keys region (omega (arith, few, kept.0)) (omega (arith, few, three.lows)) (omega (arith, few, three.highs))).0 kept.1
 
-lies_wider : (dims : ℕ) (part region : Region) (p : Point) → dims ≤ 3 → IsInThree part → IsInThree region → LiesIn 3 part region → IsKeptIn dims part p → IsTrue (lies_in dims p.keys region)
+pub lies_wider : (dims : ℕ) (part region : Region) (p : Point) → dims ≤ 3 → IsInThree part → IsInThree region → LiesIn 3 part region → IsKeptIn dims part p → IsTrue (lies_in dims p.keys region)
 lies_wider dims part region p few three whole lies kept =
     let inner = held dims part p few three kept in
     let outer : Holds dims region p.keys = record {

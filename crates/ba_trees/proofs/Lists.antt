@@ -42,11 +42,11 @@ module _ {E : Type 0} where
 
 module _ {X : Type 0} where
   -- a filter that passes all, and one that passes none
-  filter_keeps : (test : X → Bool) (xs : List X) → All (λ x. test x ≡ true) xs → filter test xs ≡ xs
+  pub filter_keeps : (test : X → Bool) (xs : List X) → All (λ x. test x ≡ true) xs → filter test xs ≡ xs
   filter_keeps test [] h = refl
   filter_keeps test (x ∷ xs) h = rw (h 0 x (omega arith)) (ap (λ (ys : List X). x ∷ ys) (filter_keeps test xs (λ k d lt. h (suc k) d (omega (arith, lt)))))
 
-  filter_drops : (test : X → Bool) (xs : List X) → All (λ x. test x ≡ false) xs → filter test xs ≡ []
+  pub filter_drops : (test : X → Bool) (xs : List X) → All (λ x. test x ≡ false) xs → filter test xs ≡ []
   filter_drops test [] h = refl
   filter_drops test (x ∷ xs) h = rw (h 0 x (omega arith)) (filter_drops test xs (λ k d lt. h (suc k) d (omega (arith, lt))))
 
