@@ -1,0 +1,13 @@
+pub mod Parts
+pub mod Widths
+pub mod Widest
+pub mod Sound
+pub mod Leaves
+pub mod Entries
+pub mod PagePut
+pub mod AtCut
+pub mod TwoSides
+pub mod SoFar
+pub mod Stages
+pub mod Splitting
+pub mod Own
