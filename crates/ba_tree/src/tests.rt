@@ -1,0 +1,250 @@
+//! Trees that take points one by one: the shapes that they come to have, and their sums beside plain sums.
+use crate::BaIndex;
+use ba_build::{built_height, drop_tree};
+use bw_types::{BaEntry, Outside, Point, Tree, point_key};
+use dom_index::DomIndex;
+use page_access::{read_level, read_page};
+use page_layout::{CutPage, PointLeaf};
+use page_ports::{MemStage, PageFault, Pages, StageFault, blank_page};
+use std::alloc::Global;
+use std::test::Fail;
+
+/// The greatest keys of a sum.
+const GREATEST: u64 = 18446744069414584319;
+
+/// A point of both coordinates, of this number.
+fn twice(coordinate: u32, number: u32, weight: u128) -> Point {
+    let key = point_key(coordinate.min(4294967294), number.min(268435455));
+    Point {
+        keys: [key, key, 0],
+        version: 1,
+        weight,
+    }
+}
+
+fn add(
+    alloc: Global,
+    stage: &mut MemStage,
+    tree: &mut Tree,
+    point: &Point,
+) -> Result<(), StageFault> {
+    let below = point.keys[0] <= GREATEST && point.keys[1] <= GREATEST;
+    if !below || point.version >= u32::MAX {
+        return Err(StageFault::Damaged(0));
+    }
+    BaIndex::add(alloc, stage, 2, tree, point)
+}
+
+fn total(stage: &mut MemStage, tree: &Tree) -> Result<u128, PageFault> {
+    BaIndex::sum(stage, 2, tree, &[GREATEST, GREATEST, 0], u32::MAX)
+}
+
+/// How many points the leaf on the page has.
+fn leaf_points(stage: &mut MemStage, page: u64) -> Result<usize, PageFault> {
+    let leaf: PointLeaf = read_page(stage, page)?;
+    Ok(leaf.points.len())
+}
+
+/// The two entries of the tree's root.
+fn two_entries(stage: &mut MemStage, tree: &Tree) -> Result<[BaEntry; 2], PageFault> {
+    let root: CutPage = read_level(stage, tree.root, 2)?;
+    match root.entries.as_slice() {
+        [low, high] => Ok([*low, *high]),
+        _ => Err(PageFault::Damaged(tree.root)),
+    }
+}
+
+/// A tree of 65 points of the coordinates 5, of weight 1.
+fn sixty_five(alloc: Global, stage: &mut MemStage) -> Result<Tree, StageFault> {
+    let mut tree = Tree::default();
+    for number in 0..65u32 {
+        add(alloc, stage, &mut tree, &twice(5, number, 1))?;
+    }
+    Ok(tree)
+}
+
+#[test]
+fn a_leaf_is_split(rt: HostRuntime) -> Result<(), Fail> {
+    let mut stage = MemStage::new(rt.alloc(), 100);
+    let mut tree = Tree::default();
+    for number in 0..64u32 {
+        add(rt.alloc(), &mut stage, &mut tree, &twice(5, number, 1))?;
+        assert_eq!(rt; (tree.levels, stage.allotted()), (1, 4));
+    }
+    add(rt.alloc(), &mut stage, &mut tree, &twice(5, 64, 1))?;
+    assert_eq!(rt; (tree.levels, tree.count), (2, 65));
+    let [low, high] = two_entries(&mut stage, &tree)?;
+    assert_eq!(rt; leaf_points(&mut stage, low.child), Ok(32));
+    assert_eq!(rt; leaf_points(&mut stage, high.child), Ok(33));
+    // Nothing is outside the low entry, and the points of the low leaf are outside the high one.
+    assert_eq!(rt; low.outside, Outside::default());
+    match high.outside {
+        Outside::Pocket { page, count } => {
+            assert_eq!(rt; count, 32);
+            assert_eq!(rt; leaf_points(&mut stage, page), Ok(32));
+        }
+        Outside::Trees {
+            subtotal: _,
+            borders: _,
+        } => assert!(rt; false),
+    }
+    assert_eq!(rt; total(&mut stage, &tree), Ok(65));
+    Ok(())
+}
+
+#[test]
+fn a_pocket_is_filled_and_dissolved(rt: HostRuntime) -> Result<(), Fail> {
+    let mut stage = MemStage::new(rt.alloc(), 100);
+    let mut tree = sixty_five(rt.alloc(), &mut stage)?;
+    for number in 65..93u32 {
+        add(rt.alloc(), &mut stage, &mut tree, &twice(0, number, 1))?;
+    }
+    let [_, high] = two_entries(&mut stage, &tree)?;
+    let Outside::Pocket { page, count } = high.outside else {
+        return Err(Fail::from(StageFault::Damaged(tree.root)));
+    };
+    assert_eq!(rt; count, 60);
+    add(rt.alloc(), &mut stage, &mut tree, &twice(0, 93, 1))?;
+    let [_, high] = two_entries(&mut stage, &tree)?;
+    let Outside::Trees { subtotal, borders } = high.outside else {
+        return Err(Fail::from(StageFault::Damaged(tree.root)));
+    };
+    assert_eq!(rt; subtotal, Tree::default());
+    assert_eq!(rt;
+        (borders[0].count, borders[1].count, borders[2].count),
+        (61, 0, 0)
+    );
+    assert_eq!(rt; total(&mut stage, &tree), Ok(94));
+    // The pocket's page is given out again.
+    assert!(rt; leaf_points(&mut stage, page) != Ok(60));
+    Ok(())
+}
+
+#[test]
+fn ascending_points_keep_the_tree_low(rt: HostRuntime) -> Result<(), Fail> {
+    let mut stage = MemStage::new(rt.alloc(), 1000000);
+    let mut tree = Tree::default();
+    for number in 1..2001u32 {
+        add(rt.alloc(), &mut stage, &mut tree, &twice(number, number, 3))?;
+        assert_eq!(rt; tree.count, number);
+        assert!(rt; tree.levels.saturating_sub(1) <= built_height(tree.count).saturating_add(1));
+        assert_eq!(rt; total(&mut stage, &tree), Ok(u128::from(number) * 3));
+    }
+    drop_tree(&mut stage, 2, &tree)?;
+    let mut bytes = blank_page();
+    for page in 3..stage.allotted() {
+        assert_eq!(rt; stage.get(page, &mut bytes), Err(PageFault::Damaged(page)));
+    }
+    Ok(())
+}
+
+/// The next of numbers that look random.
+fn draw(state: &mut u64) -> u32 {
+    *state = state
+        .wrapping_mul(6364136223846793005)
+        .wrapping_add(1442695040888963407);
+    (*state >> 32) as u32
+}
+
+/// A point with coordinates up to 99, at the version of a third of its number.
+fn drawn_point(state: &mut u64, number: u32) -> Point {
+    let number = number.min(268435455);
+    Point {
+        keys: [
+            point_key(draw(state) % 100, number),
+            point_key(draw(state) % 100, number),
+            0,
+        ],
+        version: number / 3,
+        weight: u128::from(draw(state)).wrapping_neg(),
+    }
+}
+
+/// The sum of the weights of the points at or below the keys and the version.
+fn plain_sum(points: &[Point], keys: &[u64; 3], version: u32) -> u128 {
+    let mut sum = 0_u128;
+    for point in points {
+        if point.keys[0] <= keys[0] && point.keys[1] <= keys[1] && point.version <= version {
+            sum = sum.wrapping_add(point.weight);
+        }
+    }
+    sum
+}
+
+/// Whether the tree has the plain sum at keys and versions that are drawn.
+fn sums_agree(stage: &mut MemStage, tree: &Tree, points: &[Point]) -> bool {
+    let mut state = 5;
+    for _ in 0..200 {
+        let first = point_key(draw(&mut state) % 100, 268435455);
+        let second = point_key(draw(&mut state) % 100, 268435455);
+        if first > GREATEST || second > GREATEST {
+            return false;
+        }
+        let keys = [first, second, 0];
+        let version = draw(&mut state) % 400;
+        let plain = plain_sum(points, &keys, version);
+        if BaIndex::sum(stage, 2, tree, &keys, version) != Ok(plain) {
+            return false;
+        }
+    }
+    true
+}
+
+#[test]
+fn sums_of_drawn_points(rt: HostRuntime) -> Result<(), Fail> {
+    let mut stage = MemStage::new(rt.alloc(), 1000000);
+    let mut tree = Tree::default();
+    let mut points = Vec::new(rt.alloc());
+    let mut state = 17;
+    for number in 0..1000u32 {
+        let point = drawn_point(&mut state, number);
+        add(rt.alloc(), &mut stage, &mut tree, &point)?;
+        points.push(point)?;
+        if number % 200 == 199 {
+            assert!(rt; sums_agree(&mut stage, &tree, points.as_slice()));
+        }
+    }
+    drop_tree(&mut stage, 2, &tree)?;
+    let mut bytes = blank_page();
+    for page in 3..stage.allotted() {
+        assert_eq!(rt; stage.get(page, &mut bytes), Err(PageFault::Damaged(page)));
+    }
+    Ok(())
+}
+
+// Two points of one key, and an earlier version.
+#[test]
+fn points_that_are_not_new(rt: HostRuntime) -> Result<(), Fail> {
+    let mut stage = MemStage::new(rt.alloc(), 100);
+    let mut tree = Tree::default();
+    for number in 0..64u32 {
+        add(rt.alloc(), &mut stage, &mut tree, &twice(5, number, 1))?;
+    }
+    let before = tree;
+    assert_eq!(rt;
+        add(rt.alloc(), &mut stage, &mut tree, &twice(5, 63, 1)),
+        Err(StageFault::Damaged(tree.root))
+    );
+    assert_eq!(rt; tree, before);
+    tree.count = 2147483648;
+    assert_eq!(rt;
+        add(rt.alloc(), &mut stage, &mut tree, &twice(5, 64, 1)),
+        Err(StageFault::Damaged(tree.root))
+    );
+    Ok(())
+}
+
+#[test]
+fn a_limit_that_is_met(rt: HostRuntime) -> Result<(), Fail> {
+    for limit in 3..7u64 {
+        let mut stage = MemStage::new(rt.alloc(), limit);
+        assert_eq!(rt;
+            sixty_five(rt.alloc(), &mut stage),
+            Err(StageFault::PageLimit(limit))
+        );
+    }
+    // Two leaves, the root and the pocket.
+    let mut stage = MemStage::new(rt.alloc(), 7);
+    assert!(rt; sixty_five(rt.alloc(), &mut stage).is_ok());
+    Ok(())
+}
