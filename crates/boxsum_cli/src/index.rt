@@ -1,6 +1,6 @@
 //! The index over which this program keeps its points.
 
-use dom_index::PointList;
+use ba_tree::BaIndex;
 
 /// The index of every warehouse that this program makes and opens. It serves one to three dimensions.
-pub type Index = PointList;
+pub type Index = BaIndex;
