@@ -2,4 +2,5 @@ pub mod Asked
 pub mod Endings
 pub mod Opened
 pub mod Reading
+pub mod Sampling
 pub mod Scratch

@@ -193,18 +193,21 @@ need_within need params s all served begins rest cut =
     (sum_within _ params 1 s (served ++ begins) rest)
 
 -- the commit that comes next
-pub lacks_next : (params : Params) (h : History) (input : List ℕ) (x : Image) (told told' : Bool) (written written' : List ℕ) (allotted : ℕ) (served begins rest : List (List ℕ)) (sure : History)
+pub lacks_next : {X : Type 0} (i : IndexGhosts X) (params : Params) (h : History) (input : List ℕ) (x : Image) (told told' : Bool) (written written' : List ℕ) (allotted : ℕ) (served begins rest : List (List ℕ)) (sure : History)
     → lines input ≡ served ++ (begins ++ rest) → (IsTrue told → IsTrue told' → written' ≡ written ++ replies params 1 (begun h) served)
-    → NextIsVersion params (1 + length served) (state_by params h served) begins → sure ≡ history_by params h served → allotted ≡ params.pages
-    → LacksPages x params sure (next_rows params (state_by params h served) begins) → LacksPagesNext params h input x told told' written written' allotted
-lacks_next params h input x told told' written written' allotted served [] rest sure cut wrote accepted is limit lacks = absurd accepted
-lacks_next params h input x told told' written written' allotted served (line ∷ more) rest sure cut wrote accepted is limit lacks = record {
-  replied = served;
-  line = line;
-  rest = more ++ rest;
-  cut = cut;
+    → NextIsVersion params (1 + length served) (state_by params h served) begins → sure ≡ history_by params h served → Holds i x params sure → allotted ≡ params.pages
+    → LacksPages x params sure (next_rows params (state_by params h served) begins) → LacksPagesNext i params h input x told told' written written' allotted
+lacks_next i params h input x told told' written written' allotted served [] rest sure cut wrote accepted is holds limit lacks = absurd accepted
+lacks_next i params h input x told told' written written' allotted served (line ∷ more) rest sure cut wrote accepted is holds limit lacks = record {
+  amid = record {
+    served = served;
+    line = line;
+    rest = more ++ rest;
+    cut = cut;
+    accepted = accepted;
+    kept = subst (λ (k : History). Holds i x params k) is holds;
+    limit = limit;
+    lacks = subst (λ (k : History). LacksPages x params k (rows_committed (state_by params h served) (input_of params line))) is lacks;
+  };
   wrote = wrote;
-  accepted = accepted;
-  limit = limit;
-  lacks = subst (λ (k : History). LacksPages x params k (rows_committed (state_by params h served) (input_of params line))) is lacks;
 }

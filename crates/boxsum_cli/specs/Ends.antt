@@ -1,9 +1,9 @@
 -- With which statuses each command may end.
 use Rattle.std.specs.Prelude.{Bool, true, false, Option, Some, None}
 use Rattle.command_words.specs.declared.command.Command.{Command}
-use Rattle.command_words.specs.declared.command.Command.TheVariants.{Create, Run, Scratch}
+use Rattle.command_words.specs.declared.command.Command.TheVariants.{Create, Run, Scratch, Sample}
 use Rattle.boxsum_cli.specs.declared.status.Status.{Status}
-use Rattle.boxsum_cli.specs.declared.status.Status.TheVariants.{Fine, Usage, AlreadyThere, ReadFault, WriteFault, DiskFault, NoMemory, InputLimit}
+use Rattle.boxsum_cli.specs.declared.status.Status.TheVariants.{Fine, Usage, AlreadyThere, ReadFault, WriteFault, DiskFault, NoMemory, Damaged, InputLimit, PageLimit}
 
 abbrev pub ends_create : Status → Bool
 ends_create Fine = true
@@ -25,6 +25,16 @@ ends_scratch NoMemory = true
 ends_scratch (InputLimit taken) = true
 ends_scratch _ = false
 
+abbrev pub ends_sample : Status → Bool
+ends_sample Fine = true
+ends_sample AlreadyThere = true
+ends_sample WriteFault = true
+ends_sample DiskFault = true
+ends_sample NoMemory = true
+ends_sample (Damaged area page) = true
+ends_sample (PageLimit allotted) = true
+ends_sample _ = false
+
 abbrev pub ends_nothing : Status → Bool
 ends_nothing Usage = true
 ends_nothing NoMemory = true
@@ -36,4 +46,5 @@ may_end None status = ends_nothing status
 may_end (Some (Create params)) status = ends_create status
 may_end (Some Run) status = ends_run status
 may_end (Some (Scratch params)) status = ends_scratch status
+may_end (Some (Sample start count)) status = ends_sample status
 may_end (Some _) status = ends_nothing status

@@ -47,6 +47,22 @@ module _ {X : Type 0} (i : IndexGhosts X) where
   abbrev pub IsEmptyOrHolds : Params → History → Image → Type 0
   IsEmptyOrHolds params h x = (is_empty x ≡ true) ⊎ Holds i x params h
 
+  -- no warehouse is there, or one with a first part of this history
+  abbrev pub IsEmptyOrPart : Params → History → Image → Type 0
+  IsEmptyOrPart params whole x = (is_empty x ≡ true) ⊎ HoldsBetween params [] whole x
+
+  -- From the one list of moments to the other a warehouse was made, as far as to the moments amid, and then it was loaded: a crash
+  -- before these leaves what it might have left, no warehouse, or a new one, and later one with a first part of this history.
+  pub record Loads (params : Params) (whole : History) (old new : List Moment) : Type 0 where
+    pub amid : List Moment
+    pub made : LeavesOnly (IsEmptyOrHolds params []) old amid
+    pub there : LeavesEach (λ x. Holds i x params []) amid
+    pub loaded : LeavesOnly (HoldsBetween params [] whole) amid new
+
+  -- It was made and loaded, or it was at most made.
+  abbrev pub MakesAndLoads : Params → History → List Moment → List Moment → Type 0
+  MakesAndLoads params whole old new = LeavesOnly (IsEmptyOrHolds params []) old new ⊎ Loads params whole old new
+
 module _ {D : Type 0} (g : Ghosts D) where
   -- Nothing was written: the disk reads as before, and a crash leaves no more than what it might have left, or that.
   pub record StaysAsRead (old new : D) : Type 0 where

@@ -7,6 +7,8 @@ use Rattle.line_reader.specs.Lines.{lines, whole_part}
 use Rattle.csv_rows.specs.Input.{input as input_of}
 use Rattle.csv_rows.specs.Machine.{State, begun, replies, state_after, step, text}
 use Rattle.page_disk.specs.Image.{Image}
+use Rattle.dom_index.specs.declared.index.DomIndex.{Ghosts as IndexGhosts}
+use Rattle.page_warehouse.specs.Holds.{Holds}
 use Rattle.page_warehouse.specs.Needs.{LacksPages}
 use Rattle.row_machine.specs.Housed.{IsVersion, rows_committed}
 use Rattle.row_machine.specs.Serving.{lines_cost}
@@ -50,13 +52,19 @@ pub record ReadsForLines (cost : Params → History → Query → ℕ) (params :
   pub wrote : status ≢ WriteFault → status ≢ DiskFault → IsTrue told → IsTrue told' → after ≡ before ++ replies params 1 (begun h) replied
   pub most : last ≤ first + lines_cost cost params 1 (begun h) (replied ++ begins)
 
--- A commit that comes next, and that no rule refuses, lacks pages: some lines were replied, and the next one is that commit.
-pub record LacksPagesNext (params : Params) (h : History) (input : List ℕ) (x : Image) (told told' : Bool) (before after : List ℕ) (allotted : ℕ) : Type 0 where
-  pub replied : List (List ℕ)
-  pub line : List ℕ
-  pub rest : List (List ℕ)
-  pub cut : lines input ≡ replied ++ line ∷ rest
-  pub wrote : IsTrue told → IsTrue told' → after ≡ before ++ replies params 1 (begun h) replied
-  pub accepted : IsVersion (step params (1 + length replied) (state_by params h replied) line).reply
-  pub limit : allotted ≡ params.pages
-  pub lacks : LacksPages x params (history_by params h replied) (rows_committed (state_by params h replied) (input_of params line))
+module _ {X : Type 0} (i : IndexGhosts X) where
+  -- A commit of the input that no rule refuses lacks pages on this disk, which still holds the history before it.
+  pub record LacksPagesAmid (params : Params) (h : History) (input : List ℕ) (x : Image) (allotted : ℕ) : Type 0 where
+    pub served : List (List ℕ)
+    pub line : List ℕ
+    pub rest : List (List ℕ)
+    pub cut : lines input ≡ served ++ line ∷ rest
+    pub accepted : IsVersion (step params (1 + length served) (state_by params h served) line).reply
+    pub kept : Holds i x params (history_by params h served)
+    pub limit : allotted ≡ params.pages
+    pub lacks : LacksPages x params (history_by params h served) (rows_committed (state_by params h served) (input_of params line))
+
+  -- Such a commit comes next: the lines before it were replied.
+  pub record LacksPagesNext (params : Params) (h : History) (input : List ℕ) (x : Image) (told told' : Bool) (before after : List ℕ) (allotted : ℕ) : Type 0 where
+    pub amid : LacksPagesAmid params h input x allotted
+    pub wrote : IsTrue told → IsTrue told' → after ≡ before ++ replies params 1 (begun h) amid.served

@@ -27,6 +27,17 @@ status_of_fault (fault.Damaged page) = Damaged Pages page
 status_of_fault fault.NoMemory = NoMemory
 status_of_fault (fault.BadJournal page) = Damaged Journal page
 
+-- the status of a sample, by that of the run that loads it: a disk that shows no warehouse where one was just made is damaged, and
+-- what the run lacks for its input and its output, which lie in memory, is memory
+abbrev pub status_amid : Status → Status
+status_amid NoWarehouse = Damaged Pages 0
+status_amid ReadFault = NoMemory
+status_amid WriteFault = NoMemory
+status_amid (InputLimit taken) = NoMemory
+status_amid Usage = NoMemory
+status_amid AlreadyThere = NoMemory
+status_amid status = status
+
 -- the exit status
 abbrev pub exit_code : Status → ℕ
 exit_code Fine = 0
@@ -44,7 +55,7 @@ exit_code (PageLimit allotted) = 11
 -- what is printed to standard error after the program's name
 abbrev pub status_text : Status → List ℕ
 status_text Fine = []
-status_text Usage = codes "usage: boxsum create D [--degree G] [--events N] [--pages N] [--signed S], run, scratch D [--degree G] [--events N] [--signed S]"
+status_text Usage = codes "usage: boxsum create D [--degree G] [--events N] [--pages N] [--signed S], run, scratch D [--degree G] [--events N] [--signed S], sample START COUNT"
 status_text NoWarehouse = codes "no warehouse here"
 status_text AlreadyThere = codes "there is a warehouse already"
 status_text ReadFault = codes "input failed"

@@ -44,6 +44,15 @@ fn many_boxes(alloc: Global) -> Result<MemDisk, Fail> {
     Ok(ran.disk)
 }
 
+// Whether a count of the boxes of `many_boxes` was answered rightly, or was not answered since a page is damaged.
+fn is_right_or_damaged(status: Status, written: &[u8]) -> bool {
+    match status {
+        Status::Fine => written == b"count,1,65\n".as_slice(),
+        Status::Damaged { area: _, page: _ } => written.is_empty(),
+        _ => false,
+    }
+}
+
 #[test]
 fn pages_of_noise(rt: HostRuntime) -> Result<(), Fail> {
     let alloc = rt.alloc();
@@ -57,14 +66,54 @@ fn pages_of_noise(rt: HostRuntime) -> Result<(), Fail> {
             noise.fill(byte);
             let disk = with_page(alloc, pages.as_slice(), journal.as_slice(), place, &noise)?;
             let (ran, sink) = run_over(alloc, "run", b"count,now,5,5,5,5", disk)?;
-            let right = ran.status == Status::Fine && sink.bytes() == b"count,1,65\n".as_slice();
-            let damaged = match ran.status {
-                Status::Damaged { area: _, page: _ } => sink.bytes().is_empty(),
-                _ => false,
-            };
-            assert!(rt; right || damaged, "page {place}, byte {byte}");
+            let fits = is_right_or_damaged(ran.status, sink.bytes());
+            assert!(rt; fits, "page {place}, byte {byte}");
         }
     }
+    Ok(())
+}
+
+// A page of cuts with this page as the child of its first entry.
+fn with_first_child(page: &Page, child: u64) -> Page {
+    let mut page = *page;
+    let count = usize::from(page[2])
+        .saturating_mul(256)
+        .saturating_add(usize::from(page[3]));
+    // The entries stand behind `2 * count - 1` nodes.
+    let nodes = count.saturating_mul(2).saturating_sub(1);
+    let start = nodes.saturating_mul(16).saturating_add(16);
+    for (i, byte) in child.to_be_bytes().iter().enumerate() {
+        if let Some(to) = page.get_mut(start.saturating_add(i)) {
+            *to = *byte;
+        }
+    }
+    page
+}
+
+#[test]
+fn pages_that_name_themselves(rt: HostRuntime) -> Result<(), Fail> {
+    let alloc = rt.alloc();
+    let mut disk = many_boxes(alloc)?;
+    let pages = pages_of(alloc, &mut disk, Area::Pages)?;
+    let journal = pages_of(alloc, &mut disk, Area::Journal)?;
+    let mut times: u64 = 0;
+    let mut refused: u64 = 0;
+    for (place, page) in pages.iter().enumerate() {
+        if page[0] == 4 {
+            times = times.saturating_add(1);
+            let page = with_first_child(page, place as u64);
+            let disk = with_page(alloc, pages.as_slice(), journal.as_slice(), place, &page)?;
+            let (ran, sink) = run_over(alloc, "run", b"count,now,5,5,5,5", disk)?;
+            let fits = is_right_or_damaged(ran.status, sink.bytes());
+            assert!(rt; fits, "page {place}");
+            if ran.status != Status::Fine {
+                refused = refused.saturating_add(1);
+            }
+        }
+    }
+    assert!(rt; times > 0);
+    // Some of them are on the way of the query.
+    assert!(rt; refused > 0, "of {times} pages");
     Ok(())
 }
 

@@ -13,6 +13,9 @@ mod great_tests;
 mod hostile_tests;
 mod index;
 mod run;
+mod sample;
+#[cfg(test)]
+mod sample_tests;
 mod status;
 #[cfg(test)]
 mod tests;

@@ -13,16 +13,20 @@ ghost use Rattle.redo_journal.specs.Gates.{is_empty};
 ghost use Rattle.redo_journal.specs.Settled.{SettlesTo};
 ghost use Rattle.page_space.specs.Settling.{replay_reads};
 ghost use Rattle.page_warehouse.specs.Costs.{query_cost};
+ghost use Rattle.page_warehouse.specs.Created.{IsNew};
 ghost use Rattle.page_warehouse.specs.Needs.{batch_need};
 ghost use Rattle.page_warehouse.specs.Shown.{HoldsHistory};
 ghost use Rattle.row_machine.specs.Runs.{WritesPart};
 ghost use Rattle.row_machine.specs.Serving.{lines_need};
-ghost use Rattle.boxsum_cli.specs.Built.{built_command};
+ghost use Rattle.sample_rows.specs.Generator.{rows};
+ghost use Rattle.sample_rows.specs.Summary.{WritesSummary, sample_history, sample_params, summary};
+ghost use Rattle.boxsum_cli.specs.Built.{built_command, makes};
 ghost use Rattle.boxsum_cli.specs.Ends.{ends_run, ends_scratch, may_end};
-ghost use Rattle.boxsum_cli.specs.Held.{BeginsWith, CommitsNothing, HoldsBetween, HoldsFrom, HoldsSurely, IsEmptyOrHolds, LeavesEach, StaysAsRead, charge_in};
-ghost use Rattle.boxsum_cli.specs.Runs.{AreReplied, IsInputStatus, LacksPagesNext, ReadsForLines, WritesWholeLines, history_by};
+ghost use Rattle.boxsum_cli.specs.Held.{BeginsWith, CommitsNothing, HoldsBetween, HoldsFrom, HoldsSurely, IsEmptyOrHolds, IsEmptyOrPart, LeavesEach, MakesAndLoads, StaysAsRead, charge_in};
+ghost use Rattle.boxsum_cli.specs.Runs.{AreReplied, IsInputStatus, LacksPagesAmid, LacksPagesNext, ReadsForLines, WritesWholeLines, history_by};
 
 use crate::index::Index;
+use crate::sample::sample_on;
 use crate::status::{Ran, Status};
 use bw_types::Params;
 use byte_ports::{Sink, Source};
@@ -38,9 +42,9 @@ use warehouse::ListHouse;
 /// Carries out the command that the words ask for, on the disk, over the source and the sink.
 ///
 /// `create` makes an empty warehouse on the disk. `run` opens the warehouse there and answers the rows of the
-/// source; `scratch` answers them over a history in memory, which begins empty. What is written is the text that the
-/// definitions give for all the bytes that the source has left, cut in whatever pieces; where the run ends early it is
-/// a part of that text, from its beginning. The disk goes in by value, and comes back at every end.
+/// source; `scratch` answers them over a history in memory, which begins empty. `sample` makes a warehouse, loads rows that are
+/// drawn, and writes a summary. What `run` and `scratch` write is the text that the definitions give for all the bytes that the
+/// source has left, cut in whatever pieces; where the run ends early it is a part of that text, from its beginning. The disk goes in by value, and comes back at every end.
 pub fn run<D: Disk + Drop, S: Source, K: Sink>(
     alloc: Global,
     words: &[String],
@@ -67,10 +71,47 @@ pub fn run<D: Disk + Drop, S: Source, K: Sink>(
     ensures creating { (params : Params) → built_command (map string_bytes words.now) ≡ Some (Command.Create params) →
         IsTrue (D.tells disk) → is_empty (D.image disk) ≡ true →
         LeavesOnly (IsEmptyOrHolds ⟦<Index as DomIndex>⟧ params []) (D.moments disk) (D.moments result.disk) }
-    ensures there { (params : Params) → built_command (map string_bytes words.now) ≡ Some (Command.Create params) →
-        IsTrue (D.tells disk) → is_empty (D.image disk) ≡ false → StaysAsRead D.Disk disk result.disk
+    ensures there { IsTrue (makes (built_command (map string_bytes words.now))) →
+        IsTrue (D.tells disk) → is_empty (D.image disk) ≡ false → StaysAsRead D.Disk disk result.disk × (sink.new ≡ sink.old)
         × ((result.status ≡ Status.AlreadyThere) ⊎ ((result.status ≡ Status.DiskFault) ⊎ (result.status ≡ Status.NoMemory))) }
     ensures there_only { result.status ≡ Status.AlreadyThere → IsTrue (D.tells disk) → is_empty (D.image disk) ≡ false }
+
+    // A sample is loaded into a warehouse that is made for it, and its summary is written.
+    ensures sample_source { (start count : ℕ) → built_command (map string_bytes words.now) ≡ Some (Command.Sample start count) → source.new ≡ source.old }
+    ensures sample_fine { (start count : ℕ) → built_command (map string_bytes words.now) ≡ Some (Command.Sample start count) →
+        result.status ≡ Status.Fine → IsTrue (D.tells disk) → IsTrue (K.tells sink.old) →
+        IsTrue (K.tells sink.new) × (K.written sink.new ≡ K.written sink.old ++ summary start count) }
+    ensures sample_kept { (start count : ℕ) → built_command (map string_bytes words.now) ≡ Some (Command.Sample start count) →
+        result.status ≡ Status.Fine → IsTrue (D.tells disk) →
+        (is_empty (D.image disk) ≡ true) × HoldsSurely D.Disk ⟦<Index as DomIndex>⟧ sample_params (sample_history start count) result.disk }
+    ensures sample_part { (start count : ℕ) → built_command (map string_bytes words.now) ≡ Some (Command.Sample start count) →
+        IsTrue (D.tells disk) → IsTrue (K.tells sink.old) → IsTrue (K.tells sink.new) →
+        WritesPart (K.written sink.old) (K.written sink.new) (summary start count) }
+    // Whatever the disk tells: nothing, or the summary with some total, or a part of it.
+    ensures sample_silent { (start count : ℕ) → built_command (map string_bytes words.now) ≡ Some (Command.Sample start count) →
+        result.status ≢ Status.Fine → result.status ≢ Status.WriteFault → sink.new ≡ sink.old }
+    ensures sample_form { (start count : ℕ) → built_command (map string_bytes words.now) ≡ Some (Command.Sample start count) →
+        IsTrue (K.tells sink.old) → IsTrue (K.tells sink.new) → WritesSummary count (K.written sink.old) (K.written sink.new) }
+    // A stop while the warehouse is made leaves what might have been left before, no warehouse or a new one, and later one with a part
+    // of the sample.
+    ensures sampling { (start count : ℕ) → built_command (map string_bytes words.now) ≡ Some (Command.Sample start count) →
+        IsTrue (D.tells disk) → is_empty (D.image disk) ≡ true →
+        MakesAndLoads ⟦<Index as DomIndex>⟧ sample_params (sample_history start count) (D.moments disk) (D.moments result.disk) }
+    ensures sample_stays { (start count : ℕ) → built_command (map string_bytes words.now) ≡ Some (Command.Sample start count) →
+        IsTrue (D.tells disk) → is_empty (D.image disk) ≡ true → result.status ≢ Status.DiskFault →
+        IsTrue (D.tells result.disk) × IsEmptyOrPart ⟦<Index as DomIndex>⟧ sample_params (sample_history start count) (D.image result.disk) }
+    ensures sample_damaged { (start count : ℕ) (area : AreaName) (page : ℕ) → built_command (map string_bytes words.now) ≡ Some (Command.Sample start count) →
+        IsTrue (D.tells disk) → result.status ≢ Status.Damaged area page }
+    ensures sample_limit { (start count allotted : ℕ) → built_command (map string_bytes words.now) ≡ Some (Command.Sample start count) →
+        IsTrue (D.tells disk) → result.status ≡ Status.PageLimit allotted →
+        LacksPagesAmid ⟦<Index as DomIndex>⟧ sample_params [] (rows start count) (D.image result.disk) allotted }
+    ensures sample_enough { (start count allotted : ℕ) → built_command (map string_bytes words.now) ≡ Some (Command.Sample start count) →
+        IsTrue (D.tells disk) → 3 + lines_need batch_need sample_params 1 (begun []) (lines (rows start count)) ≤ sample_params.pages →
+        result.status ≢ Status.PageLimit allotted }
+    ensures complete_sample { (start count : ℕ) → built_command (map string_bytes words.now) ≡ Some (Command.Sample start count) →
+        IsTrue (D.tells disk) → is_empty (D.image disk) ≡ true → (Rose (K.faults sink.old) (K.faults sink.new) → ⊥) →
+        result.status ≢ Status.DiskFault → ((allotted : ℕ) → result.status ≢ Status.PageLimit allotted) →
+        (result.status ≡ Status.Fine) ⊎ (result.status ≡ Status.NoMemory) }
 
     // Without a warehouse nothing is run.
     ensures none { built_command (map string_bytes words.now) ≡ Some Command.Run →
@@ -85,7 +126,7 @@ pub fn run<D: Disk + Drop, S: Source, K: Sink>(
         BeginsWith D.Disk ⟦<Index as DomIndex>⟧ (built_command (map string_bytes words.now)) disk (S.tells source.old) (S.left source.old) params h →
         result.status ≡ Status.Fine → IsTrue (S.tells source.old) → IsTrue (K.tells sink.old) →
         IsTrue (K.tells sink.new) × (K.written sink.new ≡ K.written sink.old ++ text params h (S.left source.old)) }
-    ensures at_end { ((params : Params) → built_command (map string_bytes words.now) ≢ Some (Command.Create params)) →
+    ensures at_end { makes (built_command (map string_bytes words.now)) ≡ false →
         result.status ≡ Status.Fine → IsTrue (S.tells source.old) →
         (S.left source.new ≡ []) × (length (S.left source.old) < 2 ^ 40) }
     ensures kept { (params : Params) (h : History) → built_command (map string_bytes words.now) ≡ Some Command.Run →
@@ -155,7 +196,7 @@ pub fn run<D: Disk + Drop, S: Source, K: Sink>(
     ensures page_limit { (params : Params) (h : History) (allotted : ℕ) → built_command (map string_bytes words.now) ≡ Some Command.Run →
         HoldsHistory D.Disk ⟦<Index as DomIndex>⟧ true disk params h →
         result.status ≡ Status.PageLimit allotted → IsTrue (S.tells source.old) →
-        LacksPagesNext params h (S.left source.old) (D.image result.disk) (K.tells sink.old) (K.tells sink.new) (K.written sink.old) (K.written sink.new) allotted }
+        LacksPagesNext ⟦<Index as DomIndex>⟧ params h (S.left source.old) (D.image result.disk) (K.tells sink.old) (K.tells sink.new) (K.written sink.old) (K.written sink.new) allotted }
     ensures reading_limit { (params : Params) (h : History) (allotted : ℕ) → built_command (map string_bytes words.now) ≡ Some Command.Run →
         HoldsHistory D.Disk ⟦<Index as DomIndex>⟧ false disk params h →
         IsTrue (S.tells source.old) → CommitsNothing params (S.left source.old) → result.status ≢ Status.PageLimit allotted }
@@ -185,6 +226,9 @@ pub fn run<D: Disk + Drop, S: Source, K: Sink>(
             status: scratch(alloc, &params, source, sink),
             disk,
         },
+        Ok(Command::Sample { start, count }) => {
+            sample_on::<Index, D, K>(alloc, disk, start, count, sink)
+        }
         Ok(_) | Err(WordsFault::Usage) => Ran {
             status: Status::Usage,
             disk,
@@ -197,7 +241,7 @@ pub fn run<D: Disk + Drop, S: Source, K: Sink>(
 }
 
 // Makes an empty warehouse on a disk that has none.
-fn create_on<X: DomIndex, D: Disk + Drop>(disk: D, params: &Params) -> Ran<D>
+pub(crate) fn create_on<X: DomIndex, D: Disk + Drop>(disk: D, params: &Params) -> Ran<D>
     requires range { IsInRange params.now }
     requires dims { params.now.dims ≤ X.DIMS }
     ensures created { result.status ≡ Status.Fine → IsTrue (D.tells disk) →
@@ -207,6 +251,9 @@ fn create_on<X: DomIndex, D: Disk + Drop>(disk: D, params: &Params) -> Ran<D>
     ensures there { IsTrue (D.tells disk) → is_empty (D.image disk) ≡ false → StaysAsRead D.Disk disk result.disk
         × ((result.status ≡ Status.AlreadyThere) ⊎ (result.status ≡ Status.DiskFault)) }
     ensures there_only { result.status ≡ Status.AlreadyThere → IsTrue (D.tells disk) → is_empty (D.image disk) ≡ false }
+    ensures fresh { result.status ≡ Status.Fine → IsTrue (D.tells disk) → IsNew params.now (D.image result.disk) }
+    ensures tells { D.tells result.disk ≡ D.tells disk }
+    ensures faults { D.faults disk ≤ D.faults result.disk }
     ensures disk_fault { result.status ≡ Status.DiskFault → Rose (D.faults disk) (D.faults result.disk) }
     ensures may_end { (result.status ≡ Status.Fine) ⊎ ((result.status ≡ Status.AlreadyThere) ⊎ (result.status ≡ Status.DiskFault)) }
 {
@@ -228,7 +275,7 @@ fn create_on<X: DomIndex, D: Disk + Drop>(disk: D, params: &Params) -> Ran<D>
 }
 
 // Opens the warehouse on the disk and answers the rows of the source.
-fn run_on<X: DomIndex + Drop, D: Disk + Drop, S: Source, K: Sink>(
+pub(crate) fn run_on<X: DomIndex + Drop, D: Disk + Drop, S: Source, K: Sink>(
     alloc: Global,
     disk: D,
     source: &mut S,
@@ -301,7 +348,7 @@ fn run_on<X: DomIndex + Drop, D: Disk + Drop, S: Source, K: Sink>(
     ensures page_limit { (params : Params) (h : History) (allotted : ℕ) →
         HoldsHistory D.Disk X.DomIndex true disk params h →
         result.status ≡ Status.PageLimit allotted → IsTrue (S.tells source.old) →
-        LacksPagesNext params h (S.left source.old) (D.image result.disk) (K.tells sink.old) (K.tells sink.new) (K.written sink.old) (K.written sink.new) allotted }
+        LacksPagesNext X.DomIndex params h (S.left source.old) (D.image result.disk) (K.tells sink.old) (K.tells sink.new) (K.written sink.old) (K.written sink.new) allotted }
     ensures reading_limit { (params : Params) (h : History) (allotted : ℕ) →
         HoldsHistory D.Disk X.DomIndex false disk params h →
         IsTrue (S.tells source.old) → CommitsNothing params (S.left source.old) → result.status ≢ Status.PageLimit allotted }

@@ -184,7 +184,7 @@ const CASES: [Case; 27] = [
 ];
 
 // Words that are refused: none, unknown ones, values out of range, and commands that are not built.
-const REFUSED_WORDS: [&str; 16] = [
+const REFUSED_WORDS: [&str; 19] = [
     "",
     "--help",
     "scratch",
@@ -200,7 +200,10 @@ const REFUSED_WORDS: [&str; 16] = [
     "run x",
     "run --degree 1",
     "check",
-    "sample 0 0",
+    "sample",
+    "sample 0",
+    "sample 0 20001",
+    "sample 0 0 0",
 ];
 
 // The words of a command line.
@@ -437,7 +440,7 @@ fn many_objects_at_one_point(rt: HostRuntime) -> Result<(), Fail> {
 #[test]
 fn texts_of_statuses(rt: HostRuntime) -> Result<(), Fail> {
     let usage =
-        "usage: boxsum create D [--degree G] [--events N] [--pages N] [--signed S], run, scratch D [--degree G] [--events N] [--signed S]";
+        "usage: boxsum create D [--degree G] [--events N] [--pages N] [--signed S], run, scratch D [--degree G] [--events N] [--signed S], sample START COUNT";
     let texts = [
         (Status::Usage, 2, usage),
         (Status::NoWarehouse, 3, "no warehouse here"),

@@ -5,7 +5,9 @@ use Rattle.csv_rows.specs.Machine.{after, text}
 use Rattle.row_machine.specs.Runs.{WritesPart}
 use Rattle.boxsum_cli.specs.Runs.{WritesWholeLines, history_by}
 use Rattle.boxsum_cli.proofs.Asked.{begins_run, begins_scratch, from_nothing}
-use Rattle.boxsum_cli.proofs.Opened.{between_by, between_here, nothing_replied}
+use Rattle.sample_rows.specs.Summary.{summary}
+use Rattle.boxsum_cli.proofs.Opened.{between_by, between_here, nothing_replied, writes_nothing}
+use Rattle.boxsum_cli.proofs.Sampling.{no_summary}
 use Rattle.boxsum_cli.proofs.run.run.Goals as goal
 
 pub returns-in-Ok-Run-clause-fine : goal.returns-in-Ok-Run-clause-fine
@@ -111,3 +113,15 @@ returns-in-Err-NoMemory-clause-reads g c = λ params h asked held told may.
 pub returns-in-Ok-Run-clause-reading_limit : goal.returns-in-Ok-Run-clause-reading_limit
 returns-in-Ok-Run-clause-reading_limit g c = λ params h allotted asked.
     c.run_on.ensures.reading_limit params h allotted
+
+pub returns-in-Ok-Run-clause-page_limit : goal.returns-in-Ok-Run-clause-page_limit
+returns-in-Ok-Run-clause-page_limit g c = λ params h allotted asked.
+    c.run_on.ensures.page_limit params h allotted
+
+pub returns-in-Err-NoMemory-clause-sample_part : goal.returns-in-Err-NoMemory-clause-sample_part
+returns-in-Err-NoMemory-clause-sample_part g c = λ start count asked told tells still.
+    writes_nothing (g.K.Sink.written c.args.sink.now) (summary start count)
+
+pub returns-in-Err-NoMemory-clause-sample_form : goal.returns-in-Err-NoMemory-clause-sample_form
+returns-in-Err-NoMemory-clause-sample_form g c = λ start count asked tells still.
+    no_summary count (g.K.Sink.written c.args.sink.now)

@@ -243,8 +243,9 @@ returns-clause-page_limit g c = λ params h allotted held so told.
     (c.new-desk.ensures.params ∙ o.0) c.new-desk.ensures.house c.new-desk.ensures.sessions (c.serve-ran.ensures.ends told true h) (c.machine_laws.ensures.may params (lines (g.S.Source.left c.args.source.now))) o.1 in
     let ended = ending_of c.serve-ran.result.ending (ending.PageLimit allotted) c.from-2.result (status.PageLimit allotted) c.from-2.ensures so refl in
     let p = e.page_limit allotted ended in
-    lacks_next params h (g.S.Source.left c.args.source.now) (g.D.Disk.image c.serve-ran.result.device) (g.K.Sink.tells c.args.sink.now) (g.K.Sink.tells c.serve-ran.new.sink) (g.K.Sink.written c.args.sink.now) (g.K.Sink.written c.serve-ran.new.sink) allotted
-    e.served e.begun e.rest e.sure e.cut (e.flushed (subst (λ (x : Ending). IsFlushed x) (sym ended) tt)) p.0 p.1 p.2 p.3
+    lacks_next g.X.DomIndex params h (g.S.Source.left c.args.source.now) (g.D.Disk.image c.serve-ran.result.device) (g.K.Sink.tells c.args.sink.now) (g.K.Sink.tells c.serve-ran.new.sink) (g.K.Sink.written c.args.sink.now) (g.K.Sink.written c.serve-ran.new.sink) allotted
+    e.served e.begun e.rest e.sure e.cut (e.flushed (subst (λ (x : Ending). IsFlushed x) (sym ended) tt)) p.0 p.1
+    (e.stands (λ so. let no : ending.DiskFault ≡ ending.PageLimit allotted = sym so ∙ ended in cc)).1 p.2 p.3
 
 pub returns-clause-at_limit : goal.returns-clause-at_limit
 returns-clause-at_limit g c = λ params h allotted held so.
