@@ -1,0 +1,14 @@
+//! The history that a table of lives tells.
+ghost use Rattle.told_history.specs.Telling.{OneHistoryIsTold, TableTellsHistory};
+
+use history_laws::{lives_are_alone, staging_changes_no_refusal};
+
+/// The lives of a lawful history, in any order, tell that history, up to its last version. So no two lawful
+/// histories with the same last version have the same lives.
+pub fn table_tells_history()
+    ensures told { TableTellsHistory }
+    ensures one { OneHistoryIsTold }
+{
+    lives_are_alone();
+    staging_changes_no_refusal();
+}
