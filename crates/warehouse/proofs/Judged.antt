@@ -1,12 +1,10 @@
--- A batch that has no refusal may be put last.
-use Rattle.std.proofs.Common.{◌≡◌, ℕ, ◌+◌, ◌<◌, Bool, true, false, ◌&&◌, ◌==◌, not, nat_lt, nat_le, List, [], ◌∷◌, ◌++◌, Option, Some, None, length, refl, sym, ◌∙◌, ap, subst, arith, inl, inr, if◌then◌else◌, append_assoc}
+-- What holds of a batch that has no refusal.
+use Rattle.std.proofs.Common.{◌≡◌, ℕ, ◌+◌, ◌<◌, ◌≤◌, Bool, true, false, ◌&&◌, ◌==◌, not, nat_lt, nat_le, List, [], ◌∷◌, ◌++◌, Option, Some, None, length, refl, sym, ◌∙◌, ap, subst, arith, inl, inr, if◌then◌else◌, append_assoc}
 use Rattle.std.proofs.lemmas.Bool.{and_parts, and_from, or_from, not_from_false, ltb-false, leb-false, cases_eq, eq-eqb, ne_eqb, not-false}
 use Rattle.std.proofs.lemmas.List.{append-nil}
-use Rattle.std.proofs.lemmas.List.Folds.{list_all-append}
-use Rattle.std.proofs.lemmas.List.Sums.{sum_by-append, sum_by-cons}
-use Rattle.std.specs.List.{list_all, list_any, filter}
+use Rattle.std.proofs.lemmas.List.Sums.{sum_by-cons}
+use Rattle.std.specs.List.{list_any, filter}
 use Rattle.std.specs.Option.{option_or, option_map}
-use Rattle.bw_types.specs.Fits.{row_fits}
 use Rattle.bw_types.specs.History.{History, flat, flat_row, changes, event_count, live_of}
 use Rattle.bw_types.specs.Mass.{mass, mass_limit}
 use Rattle.bw_types.specs.Refusals.{is_live, was_added, added_mass, total_mass, mass_refusal, withdrawal_refusal, row_refusal, refused_at, first_refused_row, first_refusal}
@@ -17,9 +15,9 @@ use Rattle.bw_types.specs.declared.change.Change.TheVariants as change
 use Rattle.bw_types.specs.declared.row.Row.{Row}
 use Rattle.bw_types.specs.declared.row.Row.TheVariants as row
 use Rattle.bw_types.specs.declared.refusal.Reason.TheVariants.{Used, Unknown, Fresh, Gone, Mass, Events}
-use Rattle.warehouse.specs.Accepted.{change_fits, MayBePut}
 use Rattle.warehouse.specs.Kept.{may_follow, may_all_follow}
 use Rattle.warehouse.proofs.LiveOf.{live_of-withdraw}
+use Rattle.warehouse.proofs.Rows.{mass_more}
 
 follow-append : (cs xs ys : List Change) → may_all_follow cs xs ≡ true → may_all_follow (cs ++ xs) ys ≡ true → may_all_follow cs (xs ++ ys) ≡ true
 follow-append cs [] ys h g = subst (λ (zs : List Change). may_all_follow zs ys ≡ true) (append-nil cs) g
@@ -69,9 +67,6 @@ none_left id (o ∷ os) =
 withdrawn_not_live : (cs : List Change) (id : ℕ) → is_live id (cs ++ change.Withdraw id ∷ []) ≡ false
 withdrawn_not_live cs id = ap (list_any (λ o. o.id == id)) (live_of-withdraw cs id) ∙ none_left id (live_of cs)
 
-pub mass_more : (params : Params) (cs xs : List Change) → total_mass params (cs ++ xs) ≡ total_mass params cs + total_mass params xs
-mass_more params cs xs = sum_by-append (added_mass params) cs xs
-
 -- a row that is not refused
 abbrev pub GoesOn : Params → List Change → List Change → Type 0
 GoesOn params cs xs = (may_all_follow cs xs ≡ true) × (total_mass params cs < mass_limit → total_mass params (cs ++ xs) < mass_limit)
@@ -106,29 +101,18 @@ rows_go_on params past batch place (r ∷ rows) h =
       λ limit. subst (λ (zs : List Change). total_mass params zs < mass_limit) (append_assoc (past ++ batch) (flat_row r) (flat rows)) (rest_at.1 (first.1 limit)),
     )
 
-flat_row_fits : (params : Params) (r : Row) → row_fits params r ≡ true → list_all (change_fits params) (flat_row r) ≡ true
-flat_row_fits params (row.Add o) h = and_from _ _ h refl
-flat_row_fits params (row.Withdraw id) h = refl
-flat_row_fits params (row.Move o) h = and_from _ _ h refl
+-- what holds of rows that have no refusal on a history
+pub record IsAccepted (params : Params) (h : History) (rows : List Row) : Type 0 where
+  pub follow : may_all_follow (changes h) (flat rows) ≡ true
+  pub mass : total_mass params (changes h ++ flat rows) < mass_limit
+  pub events : event_count h + length (flat rows) + 1 ≤ params.events
 
-flat_fits : (params : Params) (rows : List Row) → list_all (row_fits params) rows ≡ true → list_all (change_fits params) (flat rows) ≡ true
-flat_fits params [] h = refl
-flat_fits params (r ∷ rows) h =
-    let both = and_parts _ _ h in
-    list_all-append (change_fits params) (flat_row r) (flat rows) ∙ and_from _ _ (flat_row_fits params r both.0) (flat_fits params rows both.1)
-
-pub may_be_put : (params : Params) (h : History) (rows : List Row) → list_all (row_fits params) rows ≡ true → total_mass params (changes h) < mass_limit
-    → first_refusal params h rows ≡ None → MayBePut params h (flat rows)
-may_be_put params h rows fit limit none =
+pub accepted : (params : Params) (h : History) (rows : List Row) → total_mass params (changes h) < mass_limit → first_refusal params h rows ≡ None → IsAccepted params h rows
+accepted params h rows limit none =
     let parts = none_if (nat_lt params.events (event_count h + length (flat rows) + 1)) (refused_at 0 Events) (first_refused_row params (changes h) [] 1 rows) none in
     let goes = subst (λ (zs : List Change). GoesOn params zs (flat rows)) (append-nil (changes h)) (rows_go_on params (changes h) [] 1 rows parts.1) in
     record {
-      fit = flat_fits params rows fit;
       follow = goes.0;
       mass = goes.1 limit;
       events = ltb-false params.events (event_count h + length (flat rows) + 1) parts.0;
     }
-
-pub none_from : {X : Type 0} (o : Option X) → ((x : X) → o ≡ Some x → ⊥) → o ≡ None
-none_from None h = refl
-none_from (Some x) h = absurd (h x refl)

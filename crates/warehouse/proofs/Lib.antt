@@ -6,6 +6,8 @@ pub mod Sums
 pub mod StandingLemmas
 pub mod LiveOf
 pub mod Ledger
+pub mod Rows
+pub mod Named
 pub mod Entered
 pub mod Judged
 pub mod ToldLemmas

@@ -1,5 +1,5 @@
 -- What the kept lives and states of ids say of the changes that were made.
-use Rattle.std.specs.Prelude.{◌≡◌, ℕ, ◌<◌, Bool, true, false, ◌&&◌, ◌||◌, ◌==◌, not, nat_lt, nat_le, List, [], ◌∷◌, ◌++◌, Some, is_some, unwrap_or, if◌then◌else◌}
+use Rattle.std.specs.Prelude.{◌≡◌, ⊤, ℕ, ◌<◌, Bool, true, false, ◌&&◌, ◌||◌, ◌==◌, not, nat_lt, nat_le, List, [], ◌∷◌, ◌++◌, Some, is_some, unwrap_or, if◌then◌else◌}
 use Rattle.std.specs.List.{flat_map, list_all, slice_get}
 use Rattle.std.specs.Ordering.{nat_cmp}
 use Rattle.std.specs.BTreeMap.{BTreeMap, get}
@@ -8,6 +8,8 @@ use Rattle.bw_types.specs.Refusals.{was_added, is_live}
 use Rattle.bw_types.specs.declared.object.Object.{Object}
 use Rattle.bw_types.specs.declared.change.Change.{Change}
 use Rattle.bw_types.specs.declared.change.Change.TheVariants as change
+use Rattle.bw_types.specs.declared.row.Row.{Row}
+use Rattle.bw_types.specs.declared.row.Row.TheVariants as row
 use Rattle.warehouse.specs.declared.life.Life.{Life}
 use Rattle.warehouse.specs.declared.life.State.{State}
 use Rattle.warehouse.specs.declared.life.State.TheVariants.{Never, Live, Withdrawn}
@@ -28,9 +30,15 @@ objects_at version lives = flat_map (object_at version) lives
 abbrev pub state_in : BTreeMap ℕ State → ℕ → State
 state_in states id = unwrap_or (get nat_cmp states id) Never
 
--- the map has the id of each object that these changes add
-abbrev pub HasAdded : BTreeMap ℕ State → List Change → Type 0
-HasAdded states cs = (k : ℕ) (o : Object) → slice_get cs k ≡ Some (change.Add o) → is_some (get nat_cmp states o.id) ≡ true
+-- the map has the id of the object that the row adds, if it adds one
+abbrev pub Knows : BTreeMap ℕ State → Row → Type 0
+Knows states (row.Add o) = is_some (get nat_cmp states o.id) ≡ true
+Knows states (row.Withdraw id) = ⊤
+Knows states (row.Move o) = is_some (get nat_cmp states o.id) ≡ true
+
+-- the map has the id of each object that these rows add
+abbrev pub KnowsAll : BTreeMap ℕ State → List Row → Type 0
+KnowsAll states rows = (k : ℕ) (r : Row) → slice_get rows k ≡ Some r → Knows states r
 
 -- each life is begun and ended by this version
 abbrev pub are_dated : ℕ → List Life → Bool

@@ -1,9 +1,9 @@
 pub mod ListState
 pub mod Kept
+pub mod Events
 pub mod Standing
 pub mod Causes
 pub mod Parts
 pub mod Told
-pub mod Accepted
 pub mod Committed
 pub mod Crashes

@@ -36,6 +36,9 @@ pub trait House: Drop {
     /// The device stands for this history: whole, or (false) as far as queries read.
     ghost stands: { Bool → Self.Device → Params → History → Type 0 };
 
+    /// What reads of the device give.
+    ghost image: { Self.Device → Image };
+
     ghost moments: { Self.Device → Moments };
 
     /// The clock never falls, and rises wherever a call changes what a crash may leave.
@@ -58,6 +61,9 @@ pub trait House: Drop {
     /// On a device that stands for the history a commit of these rows may find no page: the number of
     /// pages that it may ask for passes the limit.
     ghost lacks_pages: { Self.Device → Params → History → List Row → Type 0 };
+
+    /// The device keeps its history in the form that this program writes, not in an earlier one that it reads.
+    ghost is_current: { Self.Device → Type 0 };
 
     /// The pages that count against the limit. A batch that is put last raises them by what it needs, and nothing
     /// else changes them.
@@ -88,6 +94,7 @@ pub trait House: Drop {
             Answers (params self.old) h version query.now result }
         ensures stands { (whole : Bool) (h : History) → stands whole (device self.old) (params self.old) h →
             stands whole (device self.new) (params self.old) h }
+        ensures image { image (device self.new) ≡ image (device self.old) }
         ensures moments { moments (device self.new) ≡ moments (device self.old) }
         ensures params { params self.new ≡ params self.old }
         ensures charge { charge (device self.new) ≡ charge (device self.old) }
@@ -107,6 +114,8 @@ pub trait House: Drop {
             (version ≡ last_version h + 1) × stands true (device house) (params self) (with_batch h rows.now)) }
         ensures kept { (whole : Bool) (h : History) → stands whole (device self) (params self) h → IfKept result (λ house.
             stands whole (device house) (params self) h) }
+        // A device that kept its history in an earlier form is written anew with the first batch that is put last.
+        ensures current { IfDone result (λ house version. is_current (device house)) }
         ensures params_done { IfDone result (λ house version. params house ≡ params self) }
         ensures params_kept { IfKept result (λ house. params house ≡ params self) }
 
@@ -130,6 +139,7 @@ pub trait House: Drop {
         ensures rises { (h : History) → stands true (device self) (params self) h → IfDone result (λ house version.
             rises_within (device self) (params self) h rows.now (device house)) }
         ensures charge_kept { IfKept result (λ house. charge (device house) ≡ charge (device self)) }
+        ensures image_kept { IfKept result (λ house. image (device house) ≡ image (device self)) }
         ensures moments_kept { IfKept result (λ house. moments (device house) ≡ moments (device self)) }
 
         ensures disk { IfDisk result (Rose (faults (device self)) (faults (device_out device result))) }

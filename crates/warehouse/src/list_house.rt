@@ -1,11 +1,12 @@
 use crate::apply::enter_all;
+use crate::event::Event;
 use crate::life::{Life, State};
 use crate::masses::mass_after;
-use crate::prepare::{flat, prepare};
+use crate::prepare::{change_count, prepare};
 use crate::seen::SeenStates;
 use crate::totals::{count_total, integral_total, weight_total};
 use crate::{Committed, House, ListFault, NoVersion, QueryFault};
-use bw_types::{Change, Kind, Params, Query, Refusal, Row};
+use bw_types::{Kind, Params, Query, Refusal, Row};
 use history_laws::answers_are_bounded;
 use session_book::first_refusal;
 use std::alloc::Global;
@@ -18,8 +19,8 @@ pub struct ListHouse {
     alloc: Global,
     params: Params,
     // The history.
-    batches: Vec<Vec<Change>>,
-    // All lives of all ids, in order of adding.
+    batches: Vec<Vec<Event>>,
+    // All lives of all ids, in order of adding. Each object is kept here alone.
     lives: Vec<Life>,
     // An id that is not in the map was never added.
     states: BTreeMap<u64, State>,
@@ -48,7 +49,6 @@ impl ListHouse {
     ghost use Rattle.bw_types.specs.Fits.{IsInRange, row_fits, query_fits};
     ghost use Rattle.bw_types.specs.History.{flat, last_version};
     ghost use Rattle.bw_types.specs.Refusals.{first_refusal};
-    ghost use Rattle.warehouse.specs.Accepted.{MayBePut};
     ghost use Rattle.warehouse.specs.Causes.{IsCausedBy};
 
     /// An empty warehouse for these params. It takes no memory.
@@ -89,8 +89,7 @@ impl ListHouse {
         if let Some(refusal) = self.first_refusal(rows)? {
             return Err(ListFault::Refused(refusal));
         }
-        let batch = flat(self.alloc, rows)?;
-        self.put(batch)
+        self.put(rows)
     }
 
     /// What the query answers at the version, or `NoVersion` exactly where that is above the last one.
@@ -136,21 +135,30 @@ impl ListHouse {
         }
     }
 
-    // Puts a batch last that no rule refuses. All memory is taken first, so that it is put whole or
-    // not at all.
-    fn put(&mut self, batch: Vec<Change>) -> Result<u32, ListFault>
-        requires { MayBePut self.old.params self.old.history batch.items }
+    // Puts a batch last that has no refusal. All memory is taken first, so that it is put whole or not
+    // at all.
+    fn put(&mut self, rows: &[Row]) -> Result<u32, ListFault>
+        requires fit { IsTrue (list_all (row_fits self.old.params) rows.now) }
+        requires accepted { first_refusal self.old.params self.old.history rows.now ≡ None }
         ensures ok { IfOk result (λ version. (version ≡ last_version self.old.history + 1)
-            × (self.new ≡ record { params = self.old.params; history = self.old.history ++ batch.items ∷ [] })) }
+            × (self.new ≡ record { params = self.old.params; history = self.old.history ++ flat rows.now ∷ [] })) }
         ensures err { IfErr result (λ e. e ≡ ListFault.NoMemory) }
         ensures unchanged { OnErr result (self.new ≡ self.old) }
     {
-        prepare(&mut self.batches, &mut self.lives, &mut self.states, &batch)?;
         let version = self.batches.len() as u32 + 1;
-        self.mass = mass_after(self.mass, &self.params, &batch);
-        self.events += batch.len() as u32 + 1;
-        enter_all(&mut self.lives, &mut self.states, &batch, version);
-        let _ = self.batches.push(batch);
+        let count = change_count(rows);
+        let mut events = Vec::with_capacity(self.alloc, count)?;
+        prepare(&mut self.batches, &mut self.lives, &mut self.states, rows)?;
+        self.mass = mass_after(self.mass, &self.params, rows);
+        self.events += count as u32 + 1;
+        enter_all(
+            &mut self.lives,
+            &mut self.states,
+            &mut events,
+            rows,
+            version,
+        );
+        let _ = self.batches.push(events);
         Ok(version)
     }
 }
@@ -171,6 +179,8 @@ impl House for ListHouse {
 
     ghost stands = { λ whole house params h. house.history ≡ h };
 
+    ghost image = { λ house. tt };
+
     ghost moments = { λ house. tt };
 
     ghost clock = { λ moments. 0 };
@@ -186,6 +196,8 @@ impl House for ListHouse {
     ghost faults = { λ house. 0 };
 
     ghost lacks_pages = { λ house params h rows. ⊥ };
+
+    ghost is_current = { λ house. ⊤ };
 
     ghost charge = { λ house. 0 };
 

@@ -1,66 +1,63 @@
 //! Before a batch is entered all memory is taken that this needs; what the warehouse means stays.
-ghost use Rattle.std.specs.Prelude.{◌≡◌, ℕ, ◌+◌, ◌<◌, ◌≤◌, ◌++◌, true, is_some, length, vec_len, vec_capacity, OnOk, IfOk};
+ghost use Rattle.std.specs.Prelude.{◌≡◌, ℕ, ◌+◌, ◌^◌, ◌<◌, ◌≤◌, true, is_some, length, vec_len, vec_capacity, OnOk};
 ghost use Rattle.std.specs.Ordering.{nat_cmp};
 ghost use Rattle.std.specs.BTreeMap.{get};
 ghost use Rattle.bw_types.specs.History.{flat, flat_row};
-ghost use Rattle.warehouse.specs.Kept.{state_in, HasAdded};
+ghost use Rattle.warehouse.specs.Kept.{state_in, KnowsAll};
 
+use crate::event::Event;
 use crate::life::{Life, State};
-use bw_types::{Change, Row};
-use std::alloc::{AllocError, Global};
+use bw_types::Row;
+use std::alloc::AllocError;
 use std::collections::BTreeMap;
 
-/// The rows as a history has them: a move is a withdrawal and then an add.
-pub fn flat(alloc: Global, rows: &[Row]) -> Result<Vec<Change>, AllocError>
-    ensures { IfOk result (λ batch. batch.items ≡ flat rows.now) }
+/// How many changes the rows are in a history: a move is two of them.
+pub fn change_count(rows: &[Row]) -> usize
+    requires { length (flat rows.now) < 2 ^ 32 }
+    ensures { result ≡ length (flat rows.now) }
 {
-    let mut batch = Vec::new(alloc);
+    let mut count = 0;
     for row in rows {
-        push_row(&mut batch, row)?;
+        count += changes_in(row);
     }
-    Ok(batch)
+    count
 }
 
-fn push_row(batch: &mut Vec<Change>, row: &Row) -> Result<(), AllocError>
-    ensures { OnOk result (batch.new.items ≡ batch.old.items ++ flat_row row.now) }
+fn changes_in(row: &Row) -> usize
+    ensures { result ≡ length (flat_row row.now) }
 {
     match row {
-        Row::Add(object) => batch.push(Change::Add(*object))?,
-        Row::Withdraw(id) => batch.push(Change::Withdraw(*id))?,
-        Row::Move(object) => {
-            batch.push(Change::Withdraw(object.id))?;
-            batch.push(Change::Add(*object))?;
-        }
+        Row::Add(_) | Row::Withdraw(_) => 1,
+        Row::Move(_) => 2,
     }
-    Ok(())
 }
 
-/// Makes room for one batch more, for a life for each of its changes, and for the id of each object
-/// that it adds.
+/// Makes room for one batch more, for a life for each of its rows, and for the id of each object that it
+/// adds.
 pub fn prepare(
-    batches: &mut Vec<Vec<Change>>,
+    batches: &mut Vec<Vec<Event>>,
     lives: &mut Vec<Life>,
     states: &mut BTreeMap<u64, State>,
-    batch: &[Change],
+    rows: &[Row],
 ) -> Result<(), AllocError>
     ensures batches { batches.new.items ≡ batches.old.items }
     ensures lives { lives.new.items ≡ lives.old.items }
     ensures states { (q : ℕ) → state_in states.new q ≡ state_in states.old q }
     ensures batches_room { OnOk result (vec_len batches.new < vec_capacity batches.new) }
-    ensures lives_room { OnOk result (vec_len lives.new + length batch.now ≤ vec_capacity lives.new) }
-    ensures known { OnOk result (HasAdded states.new batch.now) }
+    ensures lives_room { OnOk result (vec_len lives.new + length rows.now ≤ vec_capacity lives.new) }
+    ensures known { OnOk result (KnowsAll states.new rows.now) }
 {
     batches.reserve(1)?;
-    lives.reserve(batch.len())?;
-    name_added(states, batch)
+    lives.reserve(rows.len())?;
+    name_added(states, rows)
 }
 
-fn name_added(states: &mut BTreeMap<u64, State>, batch: &[Change]) -> Result<(), AllocError>
+fn name_added(states: &mut BTreeMap<u64, State>, rows: &[Row]) -> Result<(), AllocError>
     ensures states { (q : ℕ) → state_in states.new q ≡ state_in states.old q }
-    ensures known { OnOk result (HasAdded states.new batch.now) }
+    ensures known { OnOk result (KnowsAll states.new rows.now) }
 {
-    for change in batch {
-        if let Change::Add(object) = change {
+    for row in rows {
+        if let Row::Add(object) | Row::Move(object) = row {
             name(states, object.id)?;
         }
     }

@@ -1,4 +1,4 @@
-use Rattle.std.proofs.Common.{refl, ◌∙◌, ap}
+use Rattle.std.proofs.Common.{◌∙◌, ap}
 use Rattle.bw_types.specs.Refusals.{first_refusal}
 use Rattle.warehouse.specs.ListState.{ListState}
 use Rattle.warehouse.specs.Standing.{history_in}
