@@ -1,7 +1,7 @@
 -- The points of an entry added to a tree one after another.
-use Rattle.std.proofs.Common.{◌≡◌, ℕ, suc, ◌+◌, ◌-◌, ◌*◌, ◌<◌, ◌≤◌, inl, inr, List, ◌∷◌, ◌++◌, length, sym, ap, ◌∙◌, subst, arith, length-append}
+use Rattle.std.proofs.Common.{◌≡◌, ℕ, suc, ◌+◌, ◌-◌, ◌*◌, ◌<◌, ◌≤◌, ◌&&◌, nat_le, nat_lt, inl, inr, List, ◌∷◌, ◌++◌, length, refl, sym, ap, ◌∙◌, subst, arith, length-append}
 use Rattle.std.proofs.Math.Nat.{mul-le-mul_right}
-use Rattle.std.proofs.lemmas.Bool.{cases_lt}
+use Rattle.std.proofs.lemmas.Bool.{and_parts, cases_Bool, cases_eq, cases_lt, eq-eqb, leb-true, ltb-true, ne_eqb}
 use Rattle.std.proofs.lemmas.List.{length-map}
 use Rattle.std.proofs.lemmas.List.FromFn.{length-range_with_len}
 use Rattle.std.specs.List.{range_with_len}
@@ -17,7 +17,15 @@ use Rattle.poly_moments.specs.PlaneSums.{Entered}
 use Rattle.dom_index.specs.Points.{HasRoom, IsNewPoint}
 use Rattle.dom_index.specs.declared.index.DomIndex.{Ghosts}
 use Rattle.corner_forest.specs.Entries.{entry_point, point_count}
-use Rattle.corner_forest.specs.Enters.{AreNewPoints, TreeEnters, points_from}
+use Rattle.corner_forest.specs.Enters.{AreNewPoints, TreeEnters, points_from, stays_one_page, step_growth}
+
+-- So many levels a tree has behind so many additions: while it stays one page, one behind the first.
+pub record IsNear (dims levels earlier : ℕ) (tree : Tree) : Type 0 where
+  pub first : earlier ≡ 0 → levels ≡ tree.levels
+  pub one : 2 ≤ dims → tree.levels ≤ 1 → tree.count + earlier ≤ 64 → (levels ≤ 1) × (1 ≤ earlier → levels ≡ 1)
+
+pub near_first : (dims : ℕ) (tree : Tree) → IsNear dims tree.levels 0 tree
+near_first dims tree = record { first = λ none. refl; one = λ two low few. (low, λ some. absurd (omega (arith, some))) }
 
 -- one point more, before those of the later corners
 pub next_points : (params : Params) (e : Entered) (root n i corner : ℕ) → i < n → corner ≡ n - 1 - i
@@ -75,11 +83,44 @@ module _ {X : Type 0} (g : Ghosts X) where
         omega (arith, is, part)
   ]
 
+  -- an addition behind others gives out what is said of it
+  pub step_within : (dims levels count earlier : ℕ) (tree : Tree) → ((dims count : ℕ) → 2 ≤ dims → dims ≤ g.DIMS → g.growth dims 0 count ≤ 1)
+      → ((dims count : ℕ) → 2 ≤ dims → dims ≤ g.DIMS → count < 64 → g.growth dims 1 count ≡ 0) → g.growth dims levels count ≤ added_pages dims count
+      → dims ≤ g.DIMS → count ≡ tree.count + earlier → IsNear dims levels earlier tree → g.growth dims levels count ≤ step_growth dims tree earlier
+  step_within dims levels count earlier tree first room law most is near = elim (cases_Bool (stays_one_page dims tree earlier)) [
+    | inl stays ↦
+        let two = and_parts (nat_le 2 dims) (nat_le tree.levels 1 && nat_lt (tree.count + earlier) 64) stays in
+        let both = and_parts (nat_le tree.levels 1) (nat_lt (tree.count + earlier) 64) two.1 in
+        let many : 2 ≤ dims = leb-true 2 dims two.0 in
+        let few : tree.count + earlier < 64 = ltb-true (tree.count + earlier) 64 both.1 in
+        let low : tree.levels ≤ 1 = leb-true tree.levels 1 both.0 in
+        let at = near.one many low (omega (arith, few)) in
+        let at_first = near.first in
+        let at_one = at.1 in
+        let within = first_within dims levels count first room many most at.0 (omega (arith, is, few)) in
+        rw stays (elim (cases_eq earlier 0) [
+          | inl none ↦ let same : levels ≡ tree.levels = at_first none in rw (eq-eqb earlier 0 none) (omega (arith, within, same))
+          | inr some ↦ let one : levels ≡ 1 = at_one (omega (arith, some)) in rw (ne_eqb earlier 0 some) (omega (arith, within, one))
+        ])
+    | inr grows ↦ rw grows (subst (λ (n : ℕ). g.growth dims levels count ≤ added_pages dims n) is law)
+  ]
+
 pub has_room : (tree : Tree) → tree.levels ≤ 1 → tree.count < 64 → HasRoom tree
 has_room tree le few = elim (cases_lt tree.levels 1) [
   | inl none ↦ inl (omega (arith, none))
   | inr one ↦ inr (omega (arith, one, le), few)
 ]
+
+-- behind one addition more
+pub near_next : (dims earlier : ℕ) (tree now next : Tree) → now.count ≡ tree.count + earlier → IsNear dims now.levels earlier tree
+    → (2 ≤ dims → HasRoom now → next.levels ≡ 1) → IsNear dims next.levels (earlier + 1) tree
+near_next dims earlier tree now next count near low = record {
+  first = λ none. absurd (omega (arith, none));
+  one = λ two flat few.
+      let at = near.one two flat (omega (arith, few)) in
+      let one = low two (has_room now at.0 (omega (arith, count, few))) in
+      (omega (arith, one), λ some. one);
+}
 
 pub added_length : (params : Params) (e : Entered) (root from n : ℕ) (points : List Point) → length (points_from params e root from n ++ points) ≡ n + length points
 added_length params e root from n points =

@@ -1,5 +1,5 @@
 -- One entry more in a forest.
-use Rattle.std.specs.Prelude.{ℕ, zero, suc, ◌+◌, ◌-◌, ◌*◌, ◌<◌, ◌≤◌, Bool, nat_lt, if◌then◌else◌, List, ◌∷◌, ◌++◌, map, get_or}
+use Rattle.std.specs.Prelude.{ℕ, zero, suc, ◌+◌, ◌-◌, ◌*◌, ◌<◌, ◌≤◌, ◌==◌, ◌&&◌, Bool, nat_le, nat_lt, if◌then◌else◌, List, ◌∷◌, ◌++◌, map, get_or}
 use Rattle.std.specs.List.{range_with_len}
 use Rattle.bw_types.specs.Empty.{empty_tree}
 use Rattle.bw_types.specs.Heights.{added_pages}
@@ -70,6 +70,28 @@ first_page roots root = 1 - (get_or roots root empty_tree).levels
 -- how many trees have no page yet
 abbrev pub first_pages : Params → List Tree → ℕ
 first_pages params roots = sum_below (root_count params) (first_page roots)
+
+-- Behind so many additions the tree is one page at most, with room for a point more, over two or three dimensions.
+abbrev pub stays_one_page : ℕ → Tree → ℕ → Bool
+stays_one_page dims tree earlier = nat_le 2 dims && (nat_le tree.levels 1 && nat_lt (tree.count + earlier) 64)
+
+-- the most page numbers that the addition to a tree behind so many others gives out: a first page, or none, while it stays one page,
+-- and else what an addition may take at the count that the tree has then
+abbrev pub step_growth : ℕ → Tree → ℕ → ℕ
+step_growth dims tree earlier =
+    if stays_one_page dims tree earlier then (if earlier == 0 then 1 - tree.levels else 0) else added_pages dims (tree.count + earlier)
+
+-- those of so many additions together
+abbrev pub tree_growth : ℕ → Tree → ℕ → ℕ
+tree_growth dims tree n = sum_below n (step_growth dims tree)
+
+-- those of the additions of an entry to one of these trees
+abbrev pub additions_at : Params → List Tree → ℕ → ℕ
+additions_at params roots root = tree_growth params.dims (get_or roots root empty_tree) (point_count params root)
+
+-- those of all additions of an entry to these trees, one after another
+abbrev pub additions_growth : Params → List Tree → ℕ
+additions_growth params roots = sum_below (root_count params) (additions_at params roots)
 
 -- The forest stood for the entries, and stands for one more.
 pub record ForestEnters {X : Type 0} (g : Ghosts X) (params : Params) (before after : PageMap) (old new : List Tree) (entries : List Entered) (e : Entered) : Type 0 where

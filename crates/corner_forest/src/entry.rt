@@ -9,7 +9,7 @@ ghost use Rattle.page_layout.specs.TreeValue.{IsTreeTyped, tree_fits};
 ghost use Rattle.poly_moments.specs.PlaneSums.{Entered};
 ghost use Rattle.poly_moments.specs.Powers.{ArePowersOf};
 ghost use Rattle.corner_forest.specs.EntryDamage.{AdditionsMayLeave, IsDamagedForEntry, IsDamagedForPoints};
-ghost use Rattle.corner_forest.specs.Enters.{AreNewPoints, EntryHasRoom, ForestEnters, TakesMore, TreeEnters, entered, entry_of, entry_growth, first_pages};
+ghost use Rattle.corner_forest.specs.Enters.{AreNewPoints, EntryHasRoom, ForestEnters, TakesMore, TreeEnters, additions_growth, entered, entry_of, entry_growth, first_pages, tree_growth};
 ghost use Rattle.bw_types.specs.Heights.{added_pages};
 ghost use Rattle.corner_forest.specs.Entries.{IsNextEntry, entry_points, point_count as count_of_points, root_count, corner_count};
 ghost use Rattle.corner_forest.specs.Stands.{AreBalanced, ForestStands, forest_pages};
@@ -75,6 +75,13 @@ pub fn enter<X: DomIndex, S: Stage>(
         → IsNextEntry forest.old.params entries (entry_of object.now minus event version)
         → AreBalanced X.DomIndex (S.map stage.old) forest.old.params forest.old.roots.items
         → Changes S.Pages (entry_growth forest.old.params (length entries)) stage.old stage.new result }
+    // Addition by addition, each at the tree as it is then.
+    ensures by_additions { IsTrue (S.tells stage.old) → (entries : List Entered)
+        → ForestStands X.DomIndex (S.map stage.old) forest.old.params forest.old.roots.items entries
+        → NamesNoneTwice (forest_pages X.DomIndex (S.map stage.old) forest.old.params forest.old.roots.items)
+        → IsNextEntry forest.old.params entries (entry_of object.now minus event version)
+        → AreBalanced X.DomIndex (S.map stage.old) forest.old.params forest.old.roots.items
+        → Changes S.Pages (additions_growth forest.old.params forest.old.roots.items) stage.old stage.new result }
     // In two and three dimensions trees of one page at most take a page each at their first point, and then none as
     // long as there is room on it.
     ensures small_growth { IsTrue (S.tells stage.old) → (entries : List Entered)
@@ -145,6 +152,12 @@ fn enter_all<X: DomIndex, S: Stage>(
         → IsNextEntry params.now entries (entered object.now stamp)
         → AreBalanced X.DomIndex (S.map stage.old) params.now old.now
         → Changes S.Pages (entry_growth params.now (length entries)) stage.old stage.new result }
+    ensures by_additions { IsTrue (S.tells stage.old) → (entries : List Entered)
+        → ForestStands X.DomIndex (S.map stage.old) params.now old.now entries
+        → NamesNoneTwice (forest_pages X.DomIndex (S.map stage.old) params.now old.now)
+        → IsNextEntry params.now entries (entered object.now stamp)
+        → AreBalanced X.DomIndex (S.map stage.old) params.now old.now
+        → Changes S.Pages (additions_growth params.now old.now) stage.old stage.new result }
     ensures small_growth { IsTrue (S.tells stage.old) → (entries : List Entered)
         → ForestStands X.DomIndex (S.map stage.old) params.now old.now entries
         → NamesNoneTwice (forest_pages X.DomIndex (S.map stage.old) params.now old.now)
@@ -214,6 +227,10 @@ fn enter_root<X: DomIndex, S: Stage>(
         → X.stands (S.map stage.old) params.now.dims root.old points → AreNewPoints params.now (entered object.now stamp) place points
         → X.balanced (S.map stage.old) params.now.dims root.old
         → Changes S.Pages (count_of_points params.now place * added_pages params.now.dims (length points + count_of_points params.now place)) stage.old stage.new result }
+    ensures by_additions { IsTrue (S.tells stage.old) → (points : List Point)
+        → X.stands (S.map stage.old) params.now.dims root.old points → AreNewPoints params.now (entered object.now stamp) place points
+        → X.balanced (S.map stage.old) params.now.dims root.old
+        → Changes S.Pages (tree_growth params.now.dims root.old (count_of_points params.now place)) stage.old stage.new result }
     ensures small_growth { IsTrue (S.tells stage.old) → (points : List Point)
         → X.stands (S.map stage.old) params.now.dims root.old points → AreNewPoints params.now (entered object.now stamp) place points
         → X.balanced (S.map stage.old) params.now.dims root.old

@@ -34,6 +34,17 @@ fn drawn_box(state: &mut u64, dims: usize) -> ([u32; 3], [u32; 3]) {
     (low, high)
 }
 
+// The same far ends, or the greatest coordinate, at which the terms of the planes pass 128 bits and cancel.
+fn far_ends(high: [u32; 3], dims: usize, is_far: bool) -> [u32; 3] {
+    let mut ends = high;
+    for i in 0..3 {
+        if i < dims && is_far {
+            ends[i] = 4294967294;
+        }
+    }
+    ends
+}
+
 fn drawn_life(state: &mut u64, params: &Params, version: u32) -> Life
     requires { IsInRange params.now }
 {
@@ -166,7 +177,8 @@ fn agrees(
             _ if params.degree.is_some() => Kind::Integral,
             _ => Kind::Sum,
         };
-        let query = query_of(kind, low, high);
+        let ends = far_ends(high, usize::from(params.dims), round % 4 >= 2);
+        let query = query_of(kind, low, ends);
         let version = draw(&mut state, objects);
         let plain = plain_answer(lives.as_slice(), &query, &params, version);
         if ask(&mut entered, &query, version) != Some(plain) {

@@ -7,7 +7,7 @@ use Rattle.bw_types.specs.Heights.{added_pages}
 use Rattle.bw_types.specs.declared.tree.Tree.{Tree}
 use Rattle.page_ports.specs.declared.page.StageFault.TheVariants.{Damaged}
 use Rattle.page_layout.specs.TreeValue.{tree_fits}
-use Rattle.corner_forest.specs.Enters.{IsEntering, entered, first_page, root_growth, sum_below}
+use Rattle.corner_forest.specs.Enters.{IsEntering, additions_at, entered, first_page, root_growth, sum_below, tree_growth}
 use Rattle.corner_forest.specs.EntryDamage.{TreesMayLeave}
 use Rattle.corner_forest.specs.Entries.{point_count, root_count, root_points}
 use Rattle.corner_forest.proofs.Entering.{begins, ends, goes_on, next_tree}
@@ -28,6 +28,7 @@ loop-place-init g c = record {
   reached = search rules;
   rules = search rules;
   growth = search rules;
+  by_additions = search rules;
   small_growth = search rules;
   one_page = search rules;
 }
@@ -82,6 +83,31 @@ returns-in_err-enter_root-clause-growth g c = λ tells entries stands once next 
     let part = point_count params k * added_pages params.dims (length (root_points params entries k) + point_count params k) in
     let is_part : part ≡ f k = growth_here params entries k in
     let inside : k < root_count params = omega (arith, lt, c.requires.roots) in
+    let most = sum_grows f k (root_count params) inside in
+    refused g.S.Pages (sum_below (root_count params) f) c.args.stage.now c.enter_root.new.stage c.from_residual.result c.in_err-enter_root.field-0.0 p
+    (changes_then g.S.Pages (sum_below k f) part (sum_below (root_count params) f) c.args.stage.now c.loop-place.stage c.enter_root.new.stage (Err c.in_err-enter_root.field-0.0) so_far adds
+    (omega (arith, most, is_part)))
+
+pub returns-in_err-enter_root-clause-by_additions : goal.returns-in_err-enter_root-clause-by_additions
+returns-in_err-enter_root-clause-by_additions g c = λ tells entries stands once next low.
+    let p = err_from_is_err_and c.from_residual.result c.from_residual.ensures.1 in
+    let params = c.args.params.now in
+    let e = entered c.args.object.now c.args.stamp in
+    let old = c.args.old.now in
+    let k = c.loop-place.place in
+    let items = c.loop-place.roots.items in
+    let before = g.S.Pages.map c.args.stage.now in
+    let mid = g.S.Pages.map c.loop-place.stage in
+    let lt : k < length old = omega (arith, c.loop-place-test.true, c.root_count-count.ensures.count, c.requires.roots) in
+    let inside : k < root_count params = omega (arith, lt, c.requires.roots) in
+    let now = subst (λ (l : List Tree). IsEntering g.X.DomIndex params before mid old l entries e k) (list_next items old k empty_tree lt) (c.loop-place.invariant.enters tells entries stands once next) in
+    let tree = next_tree g.X.DomIndex c.index_laws.ensures.by_its_pages c.index_laws.ensures.balance c.index_laws.ensures.in_map c.index_laws.ensures.once params before mid old items (get_or old k empty_tree) (drop (k + 1) old) entries e k c.loop-place.invariant.len now in
+    let new = next_is_new params entries e k c.requires.in_range.dims stands.fits c.requires.event next in
+    let adds = c.in_err-enter_root.ensures.by_additions (search rules) (root_points params entries k) tree.0 new (tree.1 low) in
+    let so_far = c.loop-place.invariant.by_additions tells entries stands once next low in
+    let f = additions_at params old in
+    let part = tree_growth params.dims (get_or old k empty_tree) (point_count params k) in
+    let is_part : part ≡ f k = refl in
     let most = sum_grows f k (root_count params) inside in
     refused g.S.Pages (sum_below (root_count params) f) c.args.stage.now c.enter_root.new.stage c.from_residual.result c.in_err-enter_root.field-0.0 p
     (changes_then g.S.Pages (sum_below k f) part (sum_below (root_count params) f) c.args.stage.now c.loop-place.stage c.enter_root.new.stage (Err c.in_err-enter_root.field-0.0) so_far adds
@@ -149,6 +175,19 @@ loop-place-preserved g c =
           let f = root_growth params (length entries) in
           let part = point_count params k * added_pages params.dims (length (root_points params entries k) + point_count params k) in
           let is_part : part ≡ f k = growth_here params entries k in
+          let first = so_far.at_most in
+          let second = adds.went_on.at_most in
+          let whole = sum_next f k in
+          went_then g.S.Pages (sum_below k f) part (sum_below (k + 1) f) c.args.stage.now c.loop-place.stage c.enter_root.new.stage so_far adds.went_on (omega (arith, first, second, whole, is_part));
+      by_additions = λ tells entries stands once next low.
+          let now = subst (λ (l : List Tree). IsEntering g.X.DomIndex params before mid old l entries e k) (list_next items old k empty_tree lt) (c.loop-place.invariant.enters tells entries stands once next) in
+          let tree = next_tree g.X.DomIndex c.index_laws.ensures.by_its_pages c.index_laws.ensures.balance c.index_laws.ensures.in_map c.index_laws.ensures.once params before mid old items (get_or old k empty_tree) (drop (k + 1) old) entries e k c.loop-place.invariant.len now in
+          let new = next_is_new params entries e k c.requires.in_range.dims stands.fits c.requires.event next in
+          let adds = c.in_ok-enter_root.ensures.by_additions (search rules) (root_points params entries k) tree.0 new (tree.1 low) in
+          let so_far = c.loop-place.invariant.by_additions tells entries stands once next low in
+          let f = additions_at params old in
+          let part = tree_growth params.dims (get_or old k empty_tree) (point_count params k) in
+          let is_part : part ≡ f k = refl in
           let first = so_far.at_most in
           let second = adds.went_on.at_most in
           let whole = sum_next f k in

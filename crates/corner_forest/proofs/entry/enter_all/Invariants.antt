@@ -4,7 +4,7 @@ use Rattle.page_ports.specs.Calls.{WentOn}
 use Rattle.page_layout.specs.Footprint.{NamesNoneTwice}
 use Rattle.page_layout.specs.TreeValue.{tree_fits}
 use Rattle.poly_moments.specs.PlaneSums.{Entered}
-use Rattle.corner_forest.specs.Enters.{EntryHasRoom, IsEntering, entered, first_page, root_growth, sum_below}
+use Rattle.corner_forest.specs.Enters.{EntryHasRoom, IsEntering, additions_at, entered, first_page, root_growth, sum_below}
 use Rattle.corner_forest.specs.EntryDamage.{TreesMayLeave}
 use Rattle.corner_forest.specs.Entries.{IsNextEntry}
 use Rattle.corner_forest.specs.Stands.{AreBalanced, ForestStands, forest_pages}
@@ -27,6 +27,9 @@ invariant-loop-place g l =
       growth : IsTrue (pages.tells l.fn.stage) → (entries : List Entered) → ForestStands index before params l.fn.old entries → NamesNoneTwice (forest_pages index before params l.fn.old)
           → IsNextEntry params entries e → AreBalanced index before params l.fn.old
           → WentOn pages (sum_below l.place (root_growth params (length entries))) l.fn.stage l.stage;
+      by_additions : IsTrue (pages.tells l.fn.stage) → (entries : List Entered) → ForestStands index before params l.fn.old entries → NamesNoneTwice (forest_pages index before params l.fn.old)
+          → IsNextEntry params entries e → AreBalanced index before params l.fn.old
+          → WentOn pages (sum_below l.place (additions_at params l.fn.old)) l.fn.stage l.stage;
       small_growth : IsTrue (pages.tells l.fn.stage) → (entries : List Entered) → ForestStands index before params l.fn.old entries → NamesNoneTwice (forest_pages index before params l.fn.old)
           → IsNextEntry params entries e → AreBalanced index before params l.fn.old → 2 ≤ params.dims → EntryHasRoom params l.fn.old
           → WentOn pages (sum_below l.place (first_page l.fn.old)) l.fn.stage l.stage;

@@ -7,9 +7,10 @@ use Rattle.page_ports.specs.declared.page.StageFault.TheVariants.{Damaged}
 use Rattle.dom_index.specs.Points.{IsNewPoint}
 use Rattle.corner_forest.specs.EntryDamage.{AdditionsMayLeave}
 use Rattle.corner_forest.specs.Entries.{entry_point, point_count}
-use Rattle.corner_forest.specs.Enters.{TakesMore, TreeEnters, entered, points_from}
-use Rattle.corner_forest.proofs.Adding.{added_length, first_within, growth_within, has_room, more_pages, most_pages, new_next, next_points, one_added}
+use Rattle.corner_forest.specs.Enters.{TakesMore, TreeEnters, entered, points_from, step_growth, sum_below, tree_growth}
+use Rattle.corner_forest.proofs.Adding.{added_length, first_within, growth_within, has_room, more_pages, most_pages, near_next, new_next, next_points, one_added, step_within}
 use Rattle.corner_forest.proofs.Exits.{exit_error}
+use Rattle.corner_forest.proofs.Lists.{sum_grows, sum_next}
 use Rattle.corner_forest.proofs.Stages.{changes_end, changes_then, refused, went_then}
 use Rattle.corner_forest.proofs.entry.enter_root.Goals as goal
 
@@ -86,6 +87,38 @@ returns-in_err-add-clause-growth g c = λ tells points stands new low.
     (refused g.S.Pages (n * most) c.args.stage.now c.add.new.stage c.from_residual.result c.in_err-add.field-0.0 p
     (changes_then g.S.Pages (i * most) (g.X.DomIndex.growth dims c.loop-i.root.levels c.loop-i.root.count) (n * most) c.args.stage.now c.loop-i.stage c.add.new.stage (Err c.in_err-add.field-0.0)
     so_far adds (most_pages i n most (g.X.DomIndex.growth dims c.loop-i.root.levels c.loop-i.root.count) lt within)))
+
+pub returns-in_err-add-clause-by_additions : goal.returns-in_err-add-clause-by_additions
+returns-in_err-add-clause-by_additions g c = λ tells points stands new low.
+    let p = err_from_is_err_and c.from_residual.result c.from_residual.ensures.1 in
+    let params = c.args.params.now in
+    let dims = params.dims in
+    let e = entered c.args.object.now c.args.stamp in
+    let n = c.point_count-count.result in
+    let i = c.loop-i.i in
+    let before = g.S.Pages.map c.args.stage.now in
+    let mid = g.S.Pages.map c.loop-i.stage in
+    let added = points_from params e c.args.place (n - i) i in
+    let lt : i < n = c.loop-i-test.true in
+    let entered_so_far = c.loop-i.invariant.enters tells points stands new in
+    let is_new = subst (λ (q : Point). IsNewPoint dims (added ++ points) q) (sym c.entry_point-point.ensures.point)
+    (new_next params e c.args.place n i (n - 1 - i) points c.point_count-count.ensures.count lt refl new) in
+    let counted = c.index_laws.ensures.counted mid dims c.loop-i.root (added ++ points) entered_so_far.stands in
+    let counted_before = c.index_laws.ensures.counted before dims c.args.root.now points stands in
+    let length_now : c.loop-i.root.count ≡ i + length points = counted.0 ∙ added_length params e c.args.place (n - i) i points in
+    let count_before = counted_before.0 in
+    let count : c.loop-i.root.count ≡ c.args.root.now.count + i = omega (arith, length_now, count_before) in
+    let part = g.X.DomIndex.growth dims c.loop-i.root.levels c.loop-i.root.count in
+    let within = step_within g.X.DomIndex dims c.loop-i.root.levels c.loop-i.root.count i c.args.root.now c.index_laws.ensures.first c.index_laws.ensures.room
+    (c.index_laws.ensures.growth dims c.loop-i.root.levels c.loop-i.root.count c.requires.in_range.some_dims c.requires.dims) c.requires.dims count (c.loop-i.invariant.near tells points stands new) in
+    let adds = c.in_err-add.ensures.growth (search rules) (added ++ points) entered_so_far.stands is_new (entered_so_far.balanced low) in
+    let so_far = c.loop-i.invariant.by_additions tells points stands new low in
+    let f = step_growth dims c.args.root.now in
+    let most = sum_grows f i n lt in
+    subst (λ (m : ℕ). Changes g.S.Pages (sum_below m f) c.args.stage.now c.add.new.stage c.from_residual.result) c.point_count-count.ensures.count
+    (refused g.S.Pages (sum_below n f) c.args.stage.now c.add.new.stage c.from_residual.result c.in_err-add.field-0.0 p
+    (changes_then g.S.Pages (sum_below i f) part (sum_below n f) c.args.stage.now c.loop-i.stage c.add.new.stage (Err c.in_err-add.field-0.0)
+    so_far adds (omega (arith, within, most))))
 
 pub returns-in_err-add-clause-small_growth : goal.returns-in_err-add-clause-small_growth
 returns-in_err-add-clause-small_growth g c = λ tells points stands new low two takes.
@@ -166,6 +199,36 @@ loop-i-preserved g c =
           let whole = more_pages i most in
           went_then g.S.Pages (i * most) (g.X.DomIndex.growth dims c.loop-i.root.levels c.loop-i.root.count) ((i + 1) * most) c.args.stage.now c.loop-i.stage c.add.new.stage so_far adds.went_on
           (omega (arith, first, second, within, whole));
+      near = λ tells points stands new.
+          let entered_so_far = c.loop-i.invariant.enters tells points stands new in
+          let is_new = subst (λ (q : Point). IsNewPoint dims (added ++ points) q) (sym c.entry_point-point.ensures.point)
+          (new_next params e c.args.place n i (n - 1 - i) points c.point_count-count.ensures.count lt refl new) in
+          let counted = c.index_laws.ensures.counted mid dims c.loop-i.root (added ++ points) entered_so_far.stands in
+          let counted_before = c.index_laws.ensures.counted before dims c.args.root.now points stands in
+          let length_now : c.loop-i.root.count ≡ i + length points = counted.0 ∙ added_length params e c.args.place (n - i) i points in
+          let count_before = counted_before.0 in
+          let count : c.loop-i.root.count ≡ c.args.root.now.count + i = omega (arith, length_now, count_before) in
+          near_next dims i c.args.root.now c.loop-i.root c.add.new.tree count (c.loop-i.invariant.near tells points stands new)
+          (λ two room. c.in_ok-add.ensures.low (search rules) (added ++ points) entered_so_far.stands is_new two room);
+      by_additions = λ tells points stands new low.
+          let entered_so_far = c.loop-i.invariant.enters tells points stands new in
+          let is_new = subst (λ (q : Point). IsNewPoint dims (added ++ points) q) (sym c.entry_point-point.ensures.point)
+          (new_next params e c.args.place n i (n - 1 - i) points c.point_count-count.ensures.count lt refl new) in
+          let counted = c.index_laws.ensures.counted mid dims c.loop-i.root (added ++ points) entered_so_far.stands in
+          let counted_before = c.index_laws.ensures.counted before dims c.args.root.now points stands in
+          let length_now : c.loop-i.root.count ≡ i + length points = counted.0 ∙ added_length params e c.args.place (n - i) i points in
+          let count_before = counted_before.0 in
+          let count : c.loop-i.root.count ≡ c.args.root.now.count + i = omega (arith, length_now, count_before) in
+          let part = g.X.DomIndex.growth dims c.loop-i.root.levels c.loop-i.root.count in
+          let within = step_within g.X.DomIndex dims c.loop-i.root.levels c.loop-i.root.count i c.args.root.now c.index_laws.ensures.first c.index_laws.ensures.room
+          (c.index_laws.ensures.growth dims c.loop-i.root.levels c.loop-i.root.count c.requires.in_range.some_dims c.requires.dims) c.requires.dims count (c.loop-i.invariant.near tells points stands new) in
+          let adds = c.in_ok-add.ensures.growth (search rules) (added ++ points) entered_so_far.stands is_new (entered_so_far.balanced low) in
+          let so_far = c.loop-i.invariant.by_additions tells points stands new low in
+          let f = step_growth dims c.args.root.now in
+          let first = so_far.at_most in
+          let second = adds.went_on.at_most in
+          let whole = sum_next f i in
+          went_then g.S.Pages (sum_below i f) part (sum_below (i + 1) f) c.args.stage.now c.loop-i.stage c.add.new.stage so_far adds.went_on (omega (arith, first, second, within, whole));
       one_page = λ tells points stands new two more.
           let entered_so_far = c.loop-i.invariant.enters tells points stands new in
           let is_new = subst (λ (q : Point). IsNewPoint dims (added ++ points) q) (sym c.entry_point-point.ensures.point)
@@ -241,3 +304,10 @@ returns-clause-reached g c = λ tells.
     let done : c.loop-i.i ≡ n = omega (arith, c.loop-i-test.false, c.loop-i.auto.i-end) in
     subst (λ (m : ℕ). AdditionsMayLeave g.X.DomIndex c.args.params.now.dims m (g.S.Pages.map c.args.stage.now) c.args.root.now (g.S.Pages.map c.loop-i.stage) c.loop-i.root)
     (done ∙ c.point_count-count.ensures.count) (c.loop-i.invariant.reached tells)
+
+pub returns-clause-by_additions : goal.returns-clause-by_additions
+returns-clause-by_additions g c = λ tells points stands new low.
+    let done : c.loop-i.i ≡ c.point_count-count.result = omega (arith, c.loop-i-test.false, c.loop-i.auto.i-end) in
+    let all = c.loop-i.invariant.by_additions tells points stands new low in
+    changes_end g.S.Pages (tree_growth c.args.params.now.dims c.args.root.now (point_count c.args.params.now c.args.place)) c.args.stage.now c.loop-i.stage _
+    (subst (λ (m : ℕ). WentOn g.S.Pages (tree_growth c.args.params.now.dims c.args.root.now m) c.args.stage.now c.loop-i.stage) (done ∙ c.point_count-count.ensures.count) all)
