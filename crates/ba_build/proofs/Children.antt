@@ -18,6 +18,7 @@ use Rattle.page_layout.specs.Regions.{region_at}
 use Rattle.page_layout.specs.TreePage.{FitsLevel, HoldsNoLevel}
 use Rattle.page_layout.specs.declared.cut_page.CutPage.{CutPage}
 use Rattle.dom_index.specs.Chain.{leaf_on}
+use Rattle.ba_trees.specs.Kinds.{trees_over, version_trees}
 use Rattle.ba_trees.specs.Nodes.{FitsNode, HoldsNoPoints, Index, Leaf, Node}
 use Rattle.ba_trees.specs.Pages.{cut_pages, cuts_on, entries_on, entry_on, no_entry, points_on, regions_on}
 use Rattle.ba_trees.specs.Stands.{StandsBelow, TreeKind, points_below}
@@ -134,6 +135,24 @@ undamaged dims subtotals borders (suc (suc level)) pages region page damaged s (
     let part : Region = region_at (regions_on pages page) region e.0 in
     undamaged dims subtotals borders (suc level) pages part d.2 damaged
     (subst (λ (c : ℕ). StandsBelow dims subtotals borders (suc level) pages part c) e.2 (s.1 e.0 e.1).0) d.7
+
+-- What a call finds damaged that goes down from a page, or where the points are more than a count.
+abbrev pub IsDamagedOrPast : PageMap → (level page root count before damaged : ℕ) → Type 0
+IsDamagedOrPast pages level page root count before damaged =
+    IsDamagedFrom pages level page damaged ⊎ ((damaged ≡ root) × (count < before + length (points_below level pages page)))
+
+-- Where a page stands, and the points are no more than the count, that is nothing.
+pub none_past : (dims level : ℕ) (pages : PageMap) (region : Region) (page root count before damaged : ℕ) → StandsBelow dims version_trees (trees_over (dims - 1)) level pages region page
+    → before + length (points_below level pages page) ≤ count → IsDamagedOrPast pages level page root count before damaged → ⊥
+none_past dims level pages region page root count before damaged s few (inl d) = undamaged dims version_trees (trees_over (dims - 1)) level pages region page damaged s d
+none_past dims level pages region page root count before damaged s few (inr past) = absurd (omega (arith, past.1, few))
+
+-- What is found damaged at a leaf.
+pub leaf_or_past : (level : ℕ) (pages : PageMap) (page root count before damaged : ℕ) → level ≡ 1
+    → ((damaged ≡ page) × HoldsNoPoints pages None page) ⊎ ((damaged ≡ root) × (count < before + length (points_on pages page))) → IsDamagedOrPast pages level page root count before damaged
+leaf_or_past level pages page root count before damaged one (inl d) = inl (damaged_leaf level pages page damaged one d.0 d.1)
+leaf_or_past level pages page root count before damaged one (inr past) =
+    inr (past.0, omega (arith, past.1, ap (λ (ps : List Point). length ps) (leaf_points level pages page one)))
 
 -- What is found damaged at a child's page, after the points of the children before it.
 pub damage_below : (level : ℕ) (m mi : PageMap) (page damaged root count : ℕ) (cuts : CutPage) (es : List BaEntry) (i : ℕ) (d : BaEntry) (old now : List Point) → level ≢ 0 → level ≢ 1

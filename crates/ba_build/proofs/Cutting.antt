@@ -4,7 +4,7 @@ use Rattle.std.specs.Prelude.{IsPermutation, nat_le}
 use Rattle.std.specs.List.{All, AllPairs}
 use Rattle.std.proofs.Math.Nat.{mod-lt, mul_assoc, mul_comm, mul-le-mul, one-le-pow, pow-succ'}
 use Rattle.std.proofs.lemmas.Bool.{and_from, and_parts, cases_eq, le-leb, lt-ltb}
-use Rattle.std.proofs.lemmas.List.{get_or-drop, get_or-take, length-take-le}
+use Rattle.std.proofs.lemmas.List.{get_or_default, get_or-drop, get_or-take, length-take-le}
 use Rattle.std.proofs.lemmas.List.Elements.{All-append, All-cons, All-drop, All-nil, All-take}
 use Rattle.std.proofs.lemmas.List.Sorted.{All-permutation, IsPermutation-append, IsPermutation-trans, length_permutation}
 use Rattle.bw_types.specs.Classes.{keys_before, lies_in}
@@ -26,6 +26,7 @@ use Rattle.ba_records.specs.TableLaws.{lies_in_holds}
 use Rattle.dom_index.specs.Points.{AreKeysBelow, keys_differ}
 use Rattle.ba_trees.specs.Pages.{ShareNoKey}
 use Rattle.ba_trees.proofs.Orders.{no_key_shared}
+use Rattle.ba_build.specs.AsBuilt.{IsLeastKey}
 use Rattle.ba_build.specs.Built.{MayBeBuilt}
 use Rattle.ba_build.specs.Parts.{DivideRegion, FitHeight, LieInPage, PutLast}
 use Rattle.ba_build.proofs.Apart.{differ_in_each}
@@ -150,6 +151,22 @@ from_median d k n i points none lt median = elim (cases_eq i 0) [
       omega (arith, same, median.here none)
   | inr later ↦ omega (arith, median.after (n + i) none (omega (arith, later)) lt)
 ]
+
+-- It is the least key of the others.
+pub least_median : (d k n : ℕ) (points : List Point) (none : Point) → n < length points → IsMedian d points n k → IsLeastKey d (drop n points) k
+least_median d k n points none lt median =
+    let at : n + 0 ≡ n = omega arith in
+    let first : Point = get_or points n none in
+    record {
+      one = (
+        first,
+        (0, omega (arith, lt, length-drop n points), get_or-drop n points 0 first ∙ ap (λ (m : ℕ). get_or points m first) at ∙ get_or_default points n first none lt),
+        median.here none,
+      );
+      least = λ i d' less.
+          let below : n + i < length points = omega (arith, less, length-drop n points, lt) in
+          subst (λ (p : Point). k ≤ key_of d p) (sym (get_or-drop n points i d')) (from_median d k n i points d' below median);
+    }
 
 pub above_median : (dims d k n : ℕ) (region : Region) (points : List Point) → n ≤ length points → All (λ p. IsTrue (lies_in dims p.keys region)) points → IsMedian d points n k
     → All (λ p. IsTrue (lies_in dims p.keys (above_cut region d k))) (drop n points)

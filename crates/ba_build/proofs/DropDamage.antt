@@ -20,7 +20,7 @@ use Rattle.page_ports.specs.FrameLaws.{Replaces-same}
 use Rattle.page_layout.specs.BaEntry.{IsOutsideTyped}
 use Rattle.page_layout.specs.CutPage.{cut_page_page}
 use Rattle.page_layout.specs.Damage.{IsDamagedBelow}
-use Rattle.page_layout.specs.Footprint.{IsNamedTwice}
+use Rattle.page_layout.specs.Footprint.{IsNamedTwice, NamesNoneTwice}
 use Rattle.page_layout.specs.FootprintLaws.{not_twice}
 use Rattle.page_layout.specs.PointLeaf.{point_leaf_page}
 use Rattle.page_layout.specs.Regions.{region_at}
@@ -336,3 +336,16 @@ undamaged laws (suc zero) m tree points p s d = keys_undamaged m tree points p s
 undamaged laws (suc (suc k)) m tree points p s (inl d) =
     root_undamaged (suc (suc k)) (trees_over (suc k)) (laws (suc k)) (IsDamagedForDrop (suc k)) m p (λ t kept stands e. undamaged laws (suc k) m t kept p stands e) tree.levels tree.root s.nodes d
 undamaged laws (suc (suc k)) m tree points p s (inr twice) = absurd (omega (arith, twice, not_twice ((trees_over (suc (suc k))).footprint m tree) p s.once))
+
+-- Where what an entry keeps outside its region stands, freeing it finds no page damaged.
+pub outside_sound : (laws : AllKeepLaws) (dims : ℕ) (m : PageMap) (region : Region) (points : List Point) (outside : Outside) (p : ℕ) → IsOutsideTyped outside
+    → OutsideStands dims version_trees (trees_over (dims - 1)) m region points outside
+    → NamesNoneTwice (outside_pages dims version_trees (trees_over (dims - 1)) m outside)
+    → WasDamaged (λ n. outside_pages dims version_trees (trees_over (dims - 1)) n outside) (λ n. IsDamagedOutside (IsDamagedForDrop (dims - 1)) n outside) m p → ⊥
+outside_sound laws dims m region points outside p typed stands once damaged = elim (damaged m [] (Replaces-same [] m)) [
+  | inl now ↦ elim now [
+    | inl d ↦ outside_undamaged dims (trees_over (dims - 1)) (laws (dims - 1)) (IsDamagedForDrop (dims - 1)) m p (λ t kept s e. undamaged laws (dims - 1) m t kept p s e) region points outside typed stands d
+    | inr twice ↦ absurd (omega (arith, twice, not_twice (outside_pages dims version_trees (trees_over (dims - 1)) m outside) p once))
+  ]
+  | inr gone ↦ cc
+]

@@ -36,11 +36,11 @@ use Rattle.ba_trees.specs.PageLaws.{PageBalanceByItsPages, PageStandsByItsPages,
 use Rattle.ba_trees.specs.Pages.{no_entry}
 use Rattle.ba_trees.specs.Stands.{BalancedBelow, StandsBelow, pages_below, points_below}
 use Rattle.ba_trees.proofs.Lists.{flat_same, in_map_each}
-use Rattle.ba_build.specs.AsBuilt.{AreHalved, IsAsBuilt, IsAsBuiltBelow}
+use Rattle.ba_build.specs.AsBuilt.{AreHalved, IsAsBuilt, IsAsBuiltBelow, IsLeastKey, points_in}
 use Rattle.ba_build.specs.Parts.{ChildrenAreBuilt, DivideRegion, LieInPage, PageIsBuilt, PutLast}
 use Rattle.ba_build.proofs.Cutting.{divide_both, put_both}
 use Rattle.ba_build.proofs.Found.{leaf_found}
-use Rattle.ba_build.proofs.Halving.{halved_both, halved_one, numbers_joined, round_dimension}
+use Rattle.ba_build.proofs.Halving.{halved_both, halved_one, in_parts, least_in_any_order, parts_joined, round_dimension}
 use Rattle.ba_build.proofs.OwnPages.{page_as_built}
 use Rattle.ba_build.proofs.Paging.{made_apart, made_stay, page_made}
 
@@ -86,7 +86,7 @@ child_built dims height rounds points region m0 m1 e child is some none before =
     subst (λ (r : ℕ). ChildrenAreBuilt dims r points region height m0 m1 Entry (e ∷ [])) (sym none) (record {
       stands = at_first (λ i. StandsBelow dims version_trees (trees_over (dims - 1)) height m1 (region_at Entry region i) (slice_index_or (e ∷ []) i no_entry).child) b.stands;
       kept = subst (λ (ps : List Point). IsPermutation ps points) (sym (append-nil (points_below height m1 e.child))) b.kept;
-      halved = halved_one dims height (length points) (length (points_below height m1 e.child)) (sym (length_permutation (points_below height m1 e.child) points b.kept));
+      halved = halved_one dims height (points_below height m1 e.child);
       balanced = All-from_get_or (λ x. BalancedBelow dims version_trees (trees_over (dims - 1)) height m1 x.child) (e ∷ []) no_entry
           (at_first (λ i. BalancedBelow dims version_trees (trees_over (dims - 1)) height m1 (slice_index_or (e ∷ []) i no_entry).child) b.balanced);
       as_built = at_first (λ i. IsAsBuiltBelow dims (IsAsBuilt (dims - 1)) height m1 (region_at Entry region i) (slice_index_or (e ∷ []) i no_entry).child) b.as_built;
@@ -137,7 +137,7 @@ pub record PageLaws : Type 0 where
 
 module _ (dims height rounds d k : ℕ) (laws : PageLaws) (small : 2 ≤ dims) (few : dims ≤ 3) (m0 m1 m2 : PageMap) (region : Region) (points xs ys : List Point)
     (low high : Cuts) (lows highs : List BaEntry) (as_low : length lows ≡ entry_count low) (as_high : length highs ≡ entry_count high) (same : IsPermutation points (xs ++ ys))
-    (half : length xs ≡ length points / 2) (rest : length ys ≡ length points - length points / 2) (turn : d ≡ (height + (2 - rounds)) % dims)
+    (half : length xs ≡ length points / 2) (least : IsLeastKey d ys k) (turn : d ≡ (height + (2 - rounds)) % dims)
     (first : ChildrenAreBuilt dims rounds xs (below_cut region d k) height m0 m1 low lows) (second : ChildrenAreBuilt dims rounds ys (above_cut region d k) height m1 m2 high highs) where
   abbrev own : PageMap → BaEntry → List ℕ
   own m e = pages_below dims version_trees (trees_over (dims - 1)) height m e.child
@@ -176,12 +176,20 @@ module _ (dims height rounds d k : ℕ) (laws : PageLaws) (small : 2 ≤ dims) (
       (IsPermutation-trans (flat_map (kept_by m1) lows ++ flat_map (kept_by m2) highs) (xs ++ ys) points
       (IsPermutation-append (flat_map (kept_by m1) lows) xs (flat_map (kept_by m2) highs) ys first.kept second.kept) (IsPermutation-sym points (xs ++ ys) same))
 
-  abbrev number : PageMap → BaEntry → ℕ
-  number m e = length (points_below height m e.child)
+  -- The low side has half of the points, and the key is the least of the others'.
+  low_half : length (points_in (map (kept_by m1) lows)) ≡ length (points_in (map (kept_by m2) (lows ++ highs))) / 2
+  low_half =
+      let all : length points ≡ length (flat_map (kept_by m2) (lows ++ highs)) = length_permutation (flat_map (kept_by m2) (lows ++ highs)) points kept in
+      ap (λ (ps : List Point). length ps) (in_parts (kept_by m1) lows) ∙ sym (length_permutation (flat_map (kept_by m1) lows) xs first.kept) ∙ half
+      ∙ ap (λ (n : ℕ). n / 2) (all ∙ sym (ap (λ (ps : List Point). length ps) (in_parts (kept_by m2) (lows ++ highs))))
 
-  halved : AreHalved dims height (suc rounds) (Cut d k low high) (length points) (map (number m2) (lows ++ highs))
-  halved = halved_both dims height rounds d k (length points) (length xs) (length ys) low high (map (number m2) (lows ++ highs)) (map (number m1) lows) (map (number m2) highs) turn
-      (numbers_joined (number m1) (number m2) no_entry lows highs (λ i lt. ap (λ (ps : List Point). length ps) (still i lt).2)) half rest first.halved second.halved
+  high_least : IsLeastKey d (points_in (map (kept_by m2) highs)) k
+  high_least = subst (λ (ps : List Point). IsLeastKey d ps k) (sym (in_parts (kept_by m2) highs))
+      (least_in_any_order d k ys (flat_map (kept_by m2) highs) (IsPermutation-sym (flat_map (kept_by m2) highs) ys second.kept) least)
+
+  halved : AreHalved dims height (suc rounds) (Cut d k low high) (map (kept_by m2) (lows ++ highs))
+  halved = halved_both dims height rounds d k low high (map (kept_by m2) (lows ++ highs)) (map (kept_by m1) lows) (map (kept_by m2) highs) turn
+      (parts_joined (kept_by m1) (kept_by m2) no_entry lows highs (λ i lt. (still i lt).2)) low_half high_least first.halved second.halved
 
   low_balanced : All (λ e. BalancedBelow dims version_trees (trees_over (dims - 1)) height m2 e.child) lows
   low_balanced = All-from_get_or (λ e. BalancedBelow dims version_trees (trees_over (dims - 1)) height m2 e.child) lows no_entry (λ i lt.
@@ -214,11 +222,11 @@ SideBuilt dims height rounds points region old new told before after =
 -- The low side of a cut, built and put last, and then the high side.
 pub sides_built : (dims height rounds d k : ℕ) → PageLaws → 2 ≤ dims → dims ≤ 3 → 1 ≤ rounds → rounds ≤ 3 → d < 3 → d ≡ (height + 3 - rounds) % dims → k < 2 ^ 64
     → (region low_part high_part : Region) → IsInside region d k → low_part ≡ below_cut region d k → high_part ≡ above_cut region d k
-    → (points new xs ys : List Point) → IsPermutation points new → new ≡ xs ++ ys → length xs ≡ length points / 2 → length ys ≡ length points - length points / 2 → (told then : Bool) → then ≡ told → (m0 m1 m2 : PageMap)
+    → (points new xs ys : List Point) → IsPermutation points new → new ≡ xs ++ ys → length xs ≡ length points / 2 → IsLeastKey d ys k → (told then : Bool) → then ≡ told → (m0 m1 m2 : PageMap)
     → (p0 p1 p2 p3 : CutPage) → p1.level ≡ p0.level → p1.entries.items ≡ p0.entries.items → p1.cuts.items ≡ p0.cuts.items ++ (cut_node d k ∷ [])
     → SideBuilt dims height (rounds - 1) xs low_part p1 p2 told m0 m1 → SideBuilt dims height (rounds - 1) ys high_part p2 p3 then m1 m2
     → SideBuilt dims height rounds points region p0 p3 told m0 m2
-sides_built dims height rounds d k laws small few some least lt turn fits region low_part high_part inside below above points new xs ys same parts half rest told then still m0 m1 m2 p0 p1 p2 p3 level entries cuts low high =
+sides_built dims height rounds d k laws small few some least lt turn fits region low_part high_part inside below above points new xs ys same parts half lowest told then still m0 m1 m2 p0 p1 p2 p3 level entries cuts low high =
     let first = subst (λ (r : Region). DivideRegion r (2 ^ (rounds - 1)) low.0 low.1) below low.3 in
     let second = subst (λ (r : Region). DivideRegion r (2 ^ (rounds - 1)) high.0 high.1) above high.3 in
     let more : suc (rounds - 1) ≡ rounds = omega (arith, some) in (
@@ -229,7 +237,7 @@ sides_built dims height rounds d k laws small few some least lt turn fits region
       λ tells. subst (λ (r : ℕ). ChildrenAreBuilt dims r points region height m0 m2 (Cut d k low.0 high.0) (low.1 ++ high.1)) more
           (both_built dims height (rounds - 1) d k laws small few m0 m1 m2 region points xs ys low.0 high.0 low.1 high.1
           (first.as_many ∙ sym first.counted) (second.as_many ∙ sym second.counted)
-          (subst (λ (ps : List Point). IsPermutation points ps) parts same) half rest (turn ∙ round_dimension dims height rounds some least)
+          (subst (λ (ps : List Point). IsPermutation points ps) parts same) half lowest (turn ∙ round_dimension dims height rounds some least)
           (subst (λ (r : Region). ChildrenAreBuilt dims (rounds - 1) xs r height m0 m1 low.0 low.1) below (low.4 tells))
           (subst (λ (r : Region). ChildrenAreBuilt dims (rounds - 1) ys r height m1 m2 high.0 high.1) above (high.4 (told_again then told still tells)))),
     )

@@ -29,7 +29,7 @@ use Rattle.ba_trees.specs.Stands.{OutsideStands, RootStands, StandsBelow, TreeKi
 use Rattle.ba_trees.proofs.Frames.{page_same}
 use Rattle.ba_trees.proofs.Lists.{agree_each}
 use Rattle.ba_build.specs.AsBuilt.{AllBorders, AreHalved, HasPocketWhereFew, IsAsBuilt, IsAsBuiltBelow}
-use Rattle.ba_build.proofs.Halving.{halved_again, numbers_beside}
+use Rattle.ba_build.proofs.Halving.{halved_again, parts_beside}
 
 -- A test of the trees of a kind depends on a tree's own pages alone, where the tree stands.
 abbrev pub TestsOwnPages : TreeKind → (PageMap → Tree → Type 0) → Type 0
@@ -91,14 +91,13 @@ module _ (dims : ℕ) (subtotals borders : TreeKind) (of_subtotals : KeepsLaws s
             (agree_right (outside_pages dims subtotals borders a (entry_on a page i).outside) (pages_below dims subtotals borders (suc level) a (entry_on a page i).child) a b (agree i lt))
             (before.1 i lt).2,
       ) in
-      let number : BaEntry → ℕ = λ e. length (points_below (suc level) b e.child) in
-      let numbers : map (λ e. length (points_below (suc level) a e.child)) es ≡ map number es = numbers_beside (λ e. length (points_below (suc level) a e.child)) number no_entry es es refl (λ i lt.
-      ap (λ (ps : List Point). length ps) (sym (page_same dims subtotals borders of_subtotals of_borders (suc level) a b (part i) (entry_on a page i).child (s.1 i lt).0
-      (agree_right (outside_pages dims subtotals borders a (entry_on a page i).outside) (pages_below dims subtotals borders (suc level) a (entry_on a page i).child) a b (agree i lt))).2)) in
-      let halved : AreHalved dims (suc level) 3 (regions_on a page) (length (points_below (suc (suc level)) b page)) (map number es) =
-      halved_again dims (suc level) 3 (regions_on a page) (length (points_below (suc (suc level)) a page)) (length (points_below (suc (suc level)) b page))
-      (map (λ e. length (points_below (suc level) a e.child)) es) (map number es) (ap (λ (ps : List Point). length ps) (sym points)) numbers before.0 in
-      subst (λ (c : CutPage). AreHalved dims (suc level) 3 (cuts_in c.cuts.items) (length (points_below (suc (suc level)) b page)) (map number c.entries.items)
+      let kept : PageMap → BaEntry → List Point = λ m e. points_below (suc level) m e.child in
+      let parts : map (kept a) es ≡ map (kept b) es = parts_beside (kept a) (kept b) no_entry es es refl (λ i lt.
+      sym (page_same dims subtotals borders of_subtotals of_borders (suc level) a b (part i) (entry_on a page i).child (s.1 i lt).0
+      (agree_right (outside_pages dims subtotals borders a (entry_on a page i).outside) (pages_below dims subtotals borders (suc level) a (entry_on a page i).child) a b (agree i lt))).2) in
+      let halved : AreHalved dims (suc level) 3 (regions_on a page) (map (kept b) es) =
+      halved_again dims (suc level) 3 (regions_on a page) (map (kept a) es) (map (kept b) es) parts before.0 in
+      subst (λ (c : CutPage). AreHalved dims (suc level) 3 (cuts_in c.cuts.items) (map (kept b) c.entries.items)
       × ((i : ℕ) → i < length c.entries.items
       → HasPocketWhereFew dims (region_at (cuts_in c.cuts.items) region i) (points_below (suc (suc level)) b page) (slice_index_or c.entries.items i no_entry).outside
       × AllBorders (as_built b) (slice_index_or c.entries.items i no_entry).outside

@@ -40,7 +40,7 @@ use Rattle.ba_build.specs.AsBuilt.{AllBorders, AreHalved, HasPocketWhereFew, IsA
 use Rattle.ba_build.specs.Parts.{ChildrenAreBuilt, DivideRegion, FitHeight, OutsidesAreBuilt, PageIsBuilt, PutLast}
 use Rattle.ba_build.proofs.Found.{cuts_found}
 use Rattle.ba_build.proofs.Growth.{Grew, grew_more, grows_then}
-use Rattle.ba_build.proofs.Halving.{halved_again, numbers_beside}
+use Rattle.ba_build.proofs.Halving.{halved_again, parts_beside}
 use Rattle.ba_build.proofs.OwnPages.{borders_as_built, page_as_built}
 
 -- Pages that are in the map stay where other pages are made, and are others.
@@ -292,27 +292,26 @@ module _ (dims level : ℕ) (laws : Laws dims) (m0 m1 m2 m3 : PageMap) (region :
   once = subst NamesNoneTwice (sym pages_are) (same_once made (page ∷ flat_map (λ e. beside m3 e ++ below m3 e) es) times_are made_once)
 
   -- Of eight entries, as halved as those that were built.
-  abbrev number : PageMap → BaEntry → ℕ
-  number m e = length (points_below (suc level) m e.child)
+  abbrev kept_by : PageMap → BaEntry → List Point
+  kept_by m e = points_below (suc level) m e.child
 
-  halved : AreHalved dims (suc level) 3 cuts (length (points_below (suc (suc level)) m3 page)) (map (number m3) es)
-  halved = halved_again dims (suc level) 3 cuts (length points) (length (points_below (suc (suc level)) m3 page)) (map (number m1) children) (map (number m3) es)
-      (length_permutation (points_below (suc (suc level)) m3 page) points kept)
-      (sym (numbers_beside (number m3) (number m1) no_entry es children outsides.as_many
-      (λ i lt. ap (λ (c : ℕ). length (points_below (suc level) m3 c)) (outsides.child i lt) ∙ ap (λ (ps : List Point). length ps) (child_stands i lt).2)))
+  halved : AreHalved dims (suc level) 3 cuts (map (kept_by m3) es)
+  halved = halved_again dims (suc level) 3 cuts (map (kept_by m1) children) (map (kept_by m3) es)
+      (sym (parts_beside (kept_by m3) (kept_by m1) no_entry es children outsides.as_many
+      (λ i lt. ap (λ (c : ℕ). points_below (suc level) m3 c) (outsides.child i lt) ∙ (child_stands i lt).2)))
       built.halved
 
   -- As building makes it.
   pub as_built : ((i : ℕ) → i < length es → IsAsBuiltBelow dims (IsAsBuilt (dims - 1)) (suc level) m3 (part i) (child i)) → ((i : ℕ) → i < length es → AllBorders (IsAsBuilt (dims - 1) m3) (get_or es i no_entry).outside)
       → IsAsBuiltBelow dims (IsAsBuilt (dims - 1)) (suc (suc level)) m3 region page
   as_built children_as_built borders_as_they_are =
-      subst (λ (c : CutPage). AreHalved dims (suc level) 3 (cuts_in c.cuts.items) (length (points_below (suc (suc level)) m3 page)) (map (number m3) c.entries.items)
+      subst (λ (c : CutPage). AreHalved dims (suc level) 3 (cuts_in c.cuts.items) (map (kept_by m3) c.entries.items)
       × ((i : ℕ) → i < length c.entries.items
       → HasPocketWhereFew dims (region_at (cuts_in c.cuts.items) region i) (points_below (suc (suc level)) m3 page) (slice_index_or c.entries.items i no_entry).outside
       × AllBorders (IsAsBuilt (dims - 1) m3) (slice_index_or c.entries.items i no_entry).outside
       × IsAsBuiltBelow dims (IsAsBuilt (dims - 1)) (suc level) m3 (region_at (cuts_in c.cuts.items) region i) (slice_index_or c.entries.items i no_entry).child))
       (sym node_is) (
-        subst (λ (c : Cuts). AreHalved dims (suc level) 3 c (length (points_below (suc (suc level)) m3 page)) (map (number m3) es)) (sym cuts_are) halved,
+        subst (λ (c : Cuts). AreHalved dims (suc level) 3 c (map (kept_by m3) es)) (sym cuts_are) halved,
         λ i lt. subst (λ (r : Region). HasPocketWhereFew dims r (points_below (suc (suc level)) m3 page) (get_or es i no_entry).outside
             × AllBorders (IsAsBuilt (dims - 1) m3) (get_or es i no_entry).outside
             × IsAsBuiltBelow dims (IsAsBuilt (dims - 1)) (suc level) m3 r (get_or es i no_entry).child)

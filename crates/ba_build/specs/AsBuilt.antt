@@ -1,6 +1,6 @@
 -- Trees as building makes them: pages of eight entries, cut at the medians, and pockets where few points are outside.
-use Rattle.std.specs.Prelude.{◌≡◌, ℕ, zero, suc, ◌+◌, ◌-◌, ◌/◌, ◌%◌, ◌<◌, ◌≤◌, ◌↔◌, List, [], ◌∷◌, ◌++◌, length, map}
-use Rattle.std.specs.List.{All}
+use Rattle.std.specs.Prelude.{◌≡◌, ℕ, zero, suc, ◌+◌, ◌-◌, ◌/◌, ◌%◌, ◌<◌, ◌≤◌, ◌↔◌, List, ◌++◌, length, map, Contains}
+use Rattle.std.specs.List.{All, flat_map}
 use Rattle.bw_types.specs.Classes.{points_outside}
 use Rattle.bw_types.specs.Empty.{no_points}
 use Rattle.bw_types.specs.Heights.{built_height}
@@ -13,6 +13,7 @@ use Rattle.bw_types.specs.declared.tree.Tree.{Tree}
 use Rattle.page_ports.specs.Pages.{PageMap}
 use Rattle.page_layout.specs.Cuts.{Cut, Cuts, Entry}
 use Rattle.page_layout.specs.Regions.{region_at}
+use Rattle.kdb_pages.specs.Medians.{key_of}
 use Rattle.ba_trees.specs.Pages.{entries_on, entry_on, regions_on}
 use Rattle.ba_trees.specs.Stands.{points_below}
 
@@ -27,15 +28,26 @@ pub record HasPocketWhereFew (dims : ℕ) (region : Region) (points : List Point
   pub few : IsPocket outside ↔ (1 ≤ length (points_outside dims region points)) × (length (points_outside dims region points) ≤ 60)
   pub none : length (points_outside dims region points) ≡ 0 → outside ≡ no_points
 
--- The cuts are made in so many rounds. A round cuts each part in two, in the dimension of the round, and half of the part's
--- points lie below the cut, of an odd number the smaller half. The numbers are those of the parts' points, in order.
-abbrev pub AreHalved : (dims height rounds : ℕ) → Cuts → ℕ → List ℕ → Type 0
-AreHalved dims height zero cuts number parts = (cuts ≡ Entry) × (parts ≡ number ∷ [])
-AreHalved dims height (suc rounds) Entry number parts = ⊥
-AreHalved dims height (suc rounds) (Cut dimension key low high) number parts =
+-- The key is the least that the points have in the dimension.
+pub record IsLeastKey (dimension : ℕ) (points : List Point) (key : ℕ) : Type 0 where
+  pub one : (point : Point) × Contains points point × (key ≡ key_of dimension point)
+  pub least : All (λ point. key ≤ key_of dimension point) points
+
+-- the points of all these parts
+abbrev pub points_in : List (List Point) → List Point
+points_in parts = flat_map (λ part. part) parts
+
+-- The cuts are made in so many rounds. A round cuts each part in two, in the dimension of the round: half of the part's points,
+-- of an odd number the smaller half, lie below the cut, and its key is the least that the other points have. The lists are
+-- the points of the parts, in order.
+abbrev pub AreHalved : (dims height rounds : ℕ) → Cuts → List (List Point) → Type 0
+AreHalved dims height zero cuts parts = (cuts ≡ Entry) × (length parts ≡ 1)
+AreHalved dims height (suc rounds) Entry parts = ⊥
+AreHalved dims height (suc rounds) (Cut dimension key low high) parts =
     (dimension ≡ (height + (2 - rounds)) % dims)
-    × ((lows : List ℕ) × (highs : List ℕ) × (parts ≡ lows ++ highs)
-    × AreHalved dims height rounds low (number / 2) lows × AreHalved dims height rounds high (number - number / 2) highs)
+    × ((lows : List (List Point)) × (highs : List (List Point)) × (parts ≡ lows ++ highs)
+    × (length (points_in lows) ≡ length (points_in parts) / 2) × IsLeastKey dimension (points_in highs) key
+    × AreHalved dims height rounds low lows × AreHalved dims height rounds high highs)
 
 -- Each border passes a test of trees; where there is a pocket there are none.
 abbrev pub AllBorders : (Tree → Type 0) → Outside → Type 0
@@ -48,8 +60,7 @@ abbrev pub IsAsBuiltBelow : ℕ → (PageMap → Tree → Type 0) → ℕ → Pa
 IsAsBuiltBelow dims border zero pages region page = Unit {0}
 IsAsBuiltBelow dims border (suc zero) pages region page = Unit {0}
 IsAsBuiltBelow dims border (suc (suc level)) pages region page =
-    AreHalved dims (suc level) 3 (regions_on pages page) (length (points_below (suc (suc level)) pages page))
-    (map (λ e. length (points_below (suc level) pages e.child)) (entries_on pages page))
+    AreHalved dims (suc level) 3 (regions_on pages page) (map (λ e. points_below (suc level) pages e.child) (entries_on pages page))
     × ((index : ℕ) → index < length (entries_on pages page)
     → HasPocketWhereFew dims (region_at (regions_on pages page) region index) (points_below (suc (suc level)) pages page) (entry_on pages page index).outside
     × AllBorders (border pages) (entry_on pages page index).outside

@@ -48,7 +48,7 @@ pub record ChildrenAreBuilt (dims rounds : ℕ) (points : List Point) (region : 
   pub stands : (index : ℕ) → index < length entries
       → StandsBelow dims version_trees (trees_over (dims - 1)) level after (region_at cuts region index) (slice_index_or entries index no_entry).child
   pub kept : IsPermutation (flat_map (λ e. points_below level after e.child) entries) points
-  pub halved : AreHalved dims level rounds cuts (length points) (map (λ e. length (points_below level after e.child)) entries)
+  pub halved : AreHalved dims level rounds cuts (map (λ e. points_below level after e.child) entries)
   pub balanced : All (λ e. BalancedBelow dims version_trees (trees_over (dims - 1)) level after e.child) entries
   pub as_built : (index : ℕ) → index < length entries
       → IsAsBuiltBelow dims (IsAsBuilt (dims - 1)) level after (region_at cuts region index) (slice_index_or entries index no_entry).child

@@ -7,6 +7,7 @@ ghost use Rattle.page_ports.specs.Calls.{Grows};
 ghost use Rattle.page_layout.specs.BaEntry.{IsBaEntryTyped, ba_entry_fits};
 ghost use Rattle.page_layout.specs.Cuts.{Cuts, Entry};
 ghost use Rattle.page_layout.specs.Regions.{IsInside, above_cut, below_cut};
+ghost use Rattle.ba_build.specs.AsBuilt.{IsLeastKey};
 ghost use Rattle.ba_build.specs.Parts.{ChildrenAreBuilt, DivideRegion, FitHeight, LieInPage, PageIsBuilt, PutLast};
 
 use crate::leaf::leaf_of;
@@ -103,7 +104,8 @@ fn put_child(page: &mut CutPage, child: u64)
 }
 
 // Orders the points by their keys of the dimension, and answers the key at which the first half of them is cut from the
-// others: it lies strictly inside the region, and each half in the part of the region on its side of the key.
+// others, the least key of these: it lies strictly inside the region, and each half in the part of the region on its side of
+// the key.
 fn cut_in_two(points: &mut [Point], dims: u8, region: &Region, dimension: u8) -> u64
     requires dims { dims ≤ 3 }
     requires dimension { dimension < dims }
@@ -113,6 +115,7 @@ fn cut_in_two(points: &mut [Point], dims: u8, region: &Region, dimension: u8) ->
     ensures inside { IsInside region.now dimension result }
     ensures low { LieInPage dims (below_cut region.now dimension result) (take (length points.old / 2) points.new) }
     ensures high { LieInPage dims (above_cut region.now dimension result) (drop (length points.old / 2) points.new) }
+    ensures least { IsLeastKey dimension (drop (length points.old / 2) points.new) result }
 {
     let key = median_cut(points, dimension);
     three_keys(&points[0]);

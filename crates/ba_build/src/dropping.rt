@@ -5,7 +5,10 @@
 ghost use Rattle.std.specs.Prelude.{◌≡◌, ◌≢◌, ◌-◌, ◌≤◌, ℕ, List, Err, IsTrue, IsSome, OnOk};
 ghost use Rattle.bw_types.specs.declared.ba_entry.Outside.TheVariants.{Trees};
 ghost use Rattle.bw_types.specs.declared.point.Point.{Point};
+ghost use Rattle.bw_types.specs.declared.region.Region.{Region};
+ghost use Rattle.page_layout.specs.BaEntry.{IsOutsideTyped};
 ghost use Rattle.page_layout.specs.Damage.{IsDamagedBelow};
+ghost use Rattle.page_layout.specs.Footprint.{NamesNoneTwice};
 ghost use Rattle.page_layout.specs.Spelled.{SpellsNone};
 ghost use Rattle.dom_index.specs.Chain.{point_pages};
 ghost use Rattle.page_ports.specs.Calls.{Changes};
@@ -13,7 +16,7 @@ ghost use Rattle.page_ports.specs.Pages.{remove_page};
 ghost use Rattle.mvsb_tree.specs.Gone.{AreDropped, WasDamaged};
 ghost use Rattle.ba_trees.specs.Nodes.{FitsNode, Node};
 ghost use Rattle.ba_trees.specs.Kinds.{trees_over, version_trees};
-ghost use Rattle.ba_trees.specs.Stands.{outside_pages, pages_below};
+ghost use Rattle.ba_trees.specs.Stands.{OutsideStands, outside_pages, pages_below};
 ghost use Rattle.ba_build.specs.Collected.{LeadsToEach};
 ghost use Rattle.ba_build.specs.Dropped.{IsDamagedBeside, IsDamagedForDrop, IsDamagedOutside};
 
@@ -86,7 +89,7 @@ fn free_page<S: Stage>(stage: &mut S, dims: u8, page: u64, level: u8) -> Result<
     let cuts: CutPage = read_level(stage, page, level)?;
     stage.free(page)?;
     for entry in cuts.entries.as_slice() {
-        free_outside(stage, dims, &entry.outside)?;
+        free_beside(stage, dims, &entry.outside)?;
         free_page(stage, dims, entry.child, level - 1)?;
     }
     Ok(())
@@ -95,8 +98,27 @@ fn free_page<S: Stage>(stage: &mut S, dims: u8, page: u64, level: u8) -> Result<
 /// Frees the pages of what an entry keeps outside its region, in a map that may have lost others before.
 ///
 /// After a refusal the stage is to be abandoned; it comes for the causes of [`drop_tree`].
-#[cycle(drops)]
 pub fn free_outside<S: Stage>(stage: &mut S, dims: u8, outside: &Outside) -> Result<(), StageFault>
+    requires dims { (2 ≤ dims) × (dims ≤ 3) }
+    ensures dropped { OnOk result (IsTrue (S.tells stage.old)
+        → AreDropped (λ pages. outside_pages dims version_trees (trees_over (dims - 1)) pages outside.now) (S.map stage.old) (S.map stage.new)) }
+    ensures damaged { (damaged : ℕ) → result ≡ Err (StageFault.Damaged damaged) → IsTrue (S.tells stage.old)
+        → WasDamaged (λ pages. outside_pages dims version_trees (trees_over (dims - 1)) pages outside.now)
+        (λ pages. IsDamagedOutside (IsDamagedForDrop (dims - 1)) pages outside.now) (S.map stage.old) damaged }
+    // Where it stood, of whatever region and points.
+    ensures sound { (region : Region) (points : List Point) (damaged : ℕ) → IsTrue (S.tells stage.old) → IsOutsideTyped outside.now
+        → OutsideStands dims version_trees (trees_over (dims - 1)) (S.map stage.old) region points outside.now
+        → NamesNoneTwice (outside_pages dims version_trees (trees_over (dims - 1)) (S.map stage.old) outside.now)
+        → result ≢ Err (StageFault.Damaged damaged) }
+    ensures changes { Changes S.Pages 0 stage.old stage.new result }
+{
+    tree_kind_laws();
+    free_beside(stage, dims, outside)
+}
+
+// Frees the pages of what an entry keeps outside its region.
+#[cycle(drops)]
+fn free_beside<S: Stage>(stage: &mut S, dims: u8, outside: &Outside) -> Result<(), StageFault>
     requires dims { (2 ≤ dims) × (dims ≤ 3) }
     ensures dropped { OnOk result (IsTrue (S.tells stage.old)
         → AreDropped (λ pages. outside_pages dims version_trees (trees_over (dims - 1)) pages outside.now) (S.map stage.old) (S.map stage.new)) }

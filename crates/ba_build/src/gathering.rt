@@ -1,11 +1,13 @@
 //! The points of the leaves, page by page.
-ghost use Rattle.std.specs.Prelude.{◌≡◌, ◌≢◌, ◌⊎◌, ◌+◌, ◌*◌, ◌++◌, ◌<◌, ◌≤◌, ℕ, Some, None, Err, IsTrue, OnOk, length};
+ghost use Rattle.std.specs.Prelude.{◌≡◌, ◌≢◌, ◌⊎◌, ◌+◌, ◌-◌, ◌*◌, ◌++◌, ◌<◌, ◌≤◌, ℕ, Some, None, Err, IsTrue, OnOk, length};
+ghost use Rattle.bw_types.specs.declared.region.Region.{Region};
 ghost use Rattle.page_layout.specs.Damage.{IsDamagedBelow, NothingBeside};
 ghost use Rattle.page_layout.specs.PointLeaf.{point_leaf_page};
 ghost use Rattle.dom_index.specs.Chain.{leaf_on};
+ghost use Rattle.ba_trees.specs.Kinds.{trees_over, version_trees};
 ghost use Rattle.ba_trees.specs.Nodes.{FitsNode, FitsPoints, HoldsNoPoints, Node};
 ghost use Rattle.ba_trees.specs.Pages.{points_on};
-ghost use Rattle.ba_trees.specs.Stands.{points_below};
+ghost use Rattle.ba_trees.specs.Stands.{StandsBelow, points_below};
 ghost use Rattle.ba_build.specs.Collected.{LeadsToEach, ReadsAndAllocates};
 
 use bw_types::{Point, Tree};
@@ -29,6 +31,11 @@ pub fn gather<P: Pages>(
     ensures damaged { (damaged : ℕ) → result ≡ Err (StageFault.Damaged damaged) → IsTrue (P.tells pages.old)
         → IsDamagedBelow {N = Node} {P = Unit {0}} FitsNode LeadsToEach NothingBeside (P.map pages.old) level tt page damaged
         ⊎ ((damaged ≡ tree.now.root) × (tree.now.count < length points.old.items + length (points_below level (P.map pages.old) page))) }
+    // Where the page stands, and the points are no more than the tree counts.
+    ensures sound { (dims : ℕ) (region : Region) (damaged : ℕ) → IsTrue (P.tells pages.old)
+        → StandsBelow dims version_trees (trees_over (dims - 1)) level (P.map pages.old) region page
+        → length points.old.items + length (points_below level (P.map pages.old) page) ≤ tree.now.count
+        → result ≢ Err (StageFault.Damaged damaged) }
     // Where it answers, no page from this one down is damaged.
     ensures whole { OnOk result (IsTrue (P.tells pages.old) → (damaged : ℕ)
         → IsDamagedBelow {N = Node} {P = Unit {0}} FitsNode LeadsToEach NothingBeside (P.map pages.old) level tt page damaged → ⊥) }

@@ -16,6 +16,7 @@ use Rattle.page_layout.specs.BaEntry.{IsBaEntryTyped, ba_entry_fits}
 use Rattle.page_layout.specs.Cuts.{Cuts, Entry, cut_node, cuts_in, pre_order}
 use Rattle.page_layout.specs.declared.cut_node.CutNode.{CutNode}
 use Rattle.ba_trees.specs.Pages.{no_entry}
+use Rattle.ba_build.specs.AsBuilt.{IsLeastKey}
 use Rattle.ba_build.specs.Built.{IsBuilt, MayBeBuilt}
 use Rattle.page_layout.specs.Regions.{above_cut, below_cut, region_at}
 use Rattle.ba_build.specs.Parts.{FitHeight, LieInPage, OutsideIsBuilt, OutsidesAreBuilt, PageIsBuilt}
@@ -627,7 +628,6 @@ dividing::build_children-returns-clause-permutation g t c =
 pub dividing::build_children-returns-clause-built : goal.dividing::build_children-returns-clause-built
 dividing::build_children-returns-clause-built g t c =
     let d : ℕ = (c.args.height + 3 - c.args.rounds) % c.args.dims in
-    let long = length_permutation c.args.points.now c.cut_in_two-key.new.points c.cut_in_two-key.ensures.permutation in
     let laws : PageLaws = record { stands = c.page_laws.ensures.by_its_pages; balance = c.page_laws.ensures.balance; there = c.page_laws.ensures.in_map; trees = c.tree_kind_laws.ensures } in
     let told : Bool = g.S.Pages.tells c.args.stage.now in
     let then : Bool = g.S.Pages.tells c.build_children.new.stage in
@@ -647,7 +647,8 @@ dividing::build_children-returns-clause-built g t c =
     (dimension_few (c.args.height + 3 - c.args.rounds) c.args.dims c.requires.dims.0 c.requires.dims.1) refl c.cut_in_two-key.type_inv
     c.args.region.now c.below_cut-below.result c.above_cut-above.result c.cut_in_two-key.ensures.inside c.below_cut-below.ensures c.above_cut-above.ensures
     c.args.points.now c.cut_in_two-key.new.points xs ys c.cut_in_two-key.ensures.permutation c.split_at_mut-low.ensures.value
-    (omega (arith, c.split_at_mut-low.ensures.front_len)) (omega (arith, c.split_at_mut-low.ensures.back_len, long)) told then c.build_children.ensures.grows.went_on.tells m0 m1 m2
+    (omega (arith, c.split_at_mut-low.ensures.front_len)) (subst (λ (ps : List Point). IsLeastKey d ps c.cut_in_two-key.result) (sym c.split_at_mut-low.ensures.back) c.cut_in_two-key.ensures.least)
+    told then c.build_children.ensures.grows.went_on.tells m0 m1 m2
     p0 p1 p2 p3 refl refl (pushed_node p0.cuts.items c.push.new.self.items c.cut_node.result (cut_node d c.cut_in_two-key.result) c.push.ensures.items c.cut_node.ensures) c.in_ok-build_children.ensures.built high)
     c.build_children-2.ensures.built
 

@@ -22,17 +22,17 @@ free_page-returns-in_err-cuts-clause-damaged g t c = λ damaged e tells.
     index_damaged c.args.dims c.args.level c.args.page damaged (g.S.Pages.map c.args.stage.now)
     (λ z. omega (arith, c.if-level-eq0.false, z)) (λ z. omega (arith, c.if-level-eq1.false, z)) why.0 (why.1 tells)
 
-pub free_page-returns-in_err-free_outside-clause-damaged :
-    goal.free_page-returns-in_err-free_outside-clause-damaged
-free_page-returns-in_err-free_outside-clause-damaged g t c = λ damaged e tells.
-    let p = err_from_is_err_and c.from_residual-in_err-free_outside.result c.from_residual-in_err-free_outside.ensures.1 in
-    let same = exit_error c.from_residual-in_err-free_outside.result c.in_err-free_outside.field-0.0 (Damaged damaged) p e in
+pub free_page-returns-in_err-free_beside-clause-damaged :
+    goal.free_page-returns-in_err-free_beside-clause-damaged
+free_page-returns-in_err-free_beside-clause-damaged g t c = λ damaged e tells.
+    let p = err_from_is_err_and c.from_residual-in_err-free_beside.result c.from_residual-in_err-free_beside.ensures.1 in
+    let same = exit_error c.from_residual-in_err-free_beside.result c.in_err-free_beside.field-0.0 (Damaged damaged) p e in
     let inv = c.loop-entry.invariant in
     let there = told (g.S.Pages.tells c.loop-entry.stage) (g.S.Pages.tells c.args.stage.now) inv.went_on.tells tells in
     outside_damaged c.args.dims c.args.level c.args.page damaged c.in_ok-cuts.cuts c.as_slice-entry-items.result.now c.loop-entry.entry-index _ (g.S.Pages.map c.args.stage.now)
     (λ z. omega (arith, c.if-level-eq0.false, z)) (λ z. omega (arith, c.if-level-eq1.false, z))
     (c.in_ok-cuts.ensures.found tells) c.in_ok-cuts.ensures.fits c.as_slice-entry-items.ensures.value c.loop-entry-test.true
-    (g.S.Pages.map c.loop-entry.stage) (inv.dropped tells) (c.in_err-free_outside.ensures.damaged damaged (ap Err same) there)
+    (g.S.Pages.map c.loop-entry.stage) (inv.dropped tells) (c.in_err-free_beside.ensures.damaged damaged (ap Err same) there)
 
 pub free_page-returns-in_err-free_page-clause-damaged :
     goal.free_page-returns-in_err-free_page-clause-damaged
@@ -41,11 +41,11 @@ free_page-returns-in_err-free_page-clause-damaged g t c = λ damaged e tells.
     let same = exit_error c.from_residual-in_err-free_page.result c.in_err-free_page.field-0.0 (Damaged damaged) p e in
     let inv = c.loop-entry.invariant in
     let there = told (g.S.Pages.tells c.loop-entry.stage) (g.S.Pages.tells c.args.stage.now) inv.went_on.tells tells in
-    let there_2 = told (g.S.Pages.tells c.free_outside.new.stage) (g.S.Pages.tells c.loop-entry.stage) c.free_outside.ensures.changes.went_on.tells there in
+    let there_2 = told (g.S.Pages.tells c.free_beside.new.stage) (g.S.Pages.tells c.loop-entry.stage) c.free_beside.ensures.changes.went_on.tells there in
     child_damaged c.args.dims c.args.level c.args.page damaged c.in_ok-cuts.cuts c.as_slice-entry-items.result.now c.loop-entry.entry-index _ (g.S.Pages.map c.args.stage.now)
     (λ z. omega (arith, c.if-level-eq0.false, z)) (λ z. omega (arith, c.if-level-eq1.false, z))
     (c.in_ok-cuts.ensures.found tells) c.in_ok-cuts.ensures.fits c.as_slice-entry-items.ensures.value c.loop-entry-test.true
-    (g.S.Pages.map c.loop-entry.stage) (g.S.Pages.map c.free_outside.new.stage) (inv.dropped tells) (c.in_ok-free_outside.ensures.dropped there)
+    (g.S.Pages.map c.loop-entry.stage) (g.S.Pages.map c.free_beside.new.stage) (inv.dropped tells) (c.in_ok-free_beside.ensures.dropped there)
     (c.in_err-free_page.ensures.damaged damaged (ap Err same) there_2)
 
 pub free_page-loop-entry-preserved : goal.free_page-loop-entry-preserved
@@ -54,10 +54,10 @@ free_page-loop-entry-preserved g t c =
     record {
       dropped = λ tells.
           let there = told (g.S.Pages.tells c.loop-entry.stage) (g.S.Pages.tells c.args.stage.now) inv.went_on.tells tells in
-          let there_2 = told (g.S.Pages.tells c.free_outside.new.stage) (g.S.Pages.tells c.loop-entry.stage) c.free_outside.ensures.changes.went_on.tells there in
+          let there_2 = told (g.S.Pages.tells c.free_beside.new.stage) (g.S.Pages.tells c.loop-entry.stage) c.free_beside.ensures.changes.went_on.tells there in
           entry_dropped c.args.dims (c.args.level - 1) c.args.page c.as_slice-entry-items.result.now c.loop-entry.entry-index _
-          (g.S.Pages.map c.args.stage.now) (g.S.Pages.map c.loop-entry.stage) (g.S.Pages.map c.free_outside.new.stage) (g.S.Pages.map c.free_page.new.stage)
-          c.loop-entry-test.true (inv.dropped tells) (c.in_ok-free_outside.ensures.dropped there) (c.in_ok-free_page.ensures.dropped there_2);
+          (g.S.Pages.map c.args.stage.now) (g.S.Pages.map c.loop-entry.stage) (g.S.Pages.map c.free_beside.new.stage) (g.S.Pages.map c.free_page.new.stage)
+          c.loop-entry-test.true (inv.dropped tells) (c.in_ok-free_beside.ensures.dropped there) (c.in_ok-free_page.ensures.dropped there_2);
       went_on = search rules;
     }
 

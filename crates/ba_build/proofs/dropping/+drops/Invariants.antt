@@ -13,8 +13,8 @@ decreases-free_tree g l = l.dims * 2048 + 1100
 abbrev pub decreases-free_page : goal.decreases-free_page
 decreases-free_page g l = l.dims * 2048 + (l.level * 4 + 2)
 
-abbrev pub decreases-free_outside : goal.decreases-free_outside
-decreases-free_outside g l = l.dims * 2048 + 1
+abbrev pub decreases-free_beside : goal.decreases-free_beside
+decreases-free_beside g l = l.dims * 2048 + 1
 
 abbrev pub decreases-free_trees : goal.decreases-free_trees
 decreases-free_trees g l = l.dims * 2048

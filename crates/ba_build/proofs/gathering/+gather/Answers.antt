@@ -8,7 +8,7 @@ use Rattle.bw_types.specs.declared.point.Point.{Point}
 use Rattle.page_ports.specs.Pages.{PageMap}
 use Rattle.page_ports.specs.declared.page.StageFault.TheVariants.{Damaged}
 use Rattle.sb_tree.proofs.Exits.{exit_error, read_damaged}
-use Rattle.ba_build.proofs.Children.{child_points, damage_below, damaged_index, one_more_child, own_page, points_spelled, read_both, told}
+use Rattle.ba_build.proofs.Children.{child_points, damage_below, damaged_index, leaf_or_past, none_past, one_more_child, own_page, points_spelled, read_both, told}
 use Rattle.ba_build.proofs.Intact.{intact_all, intact_cuts, intact_next, intact_points}
 use Rattle.ba_build.proofs.gathering.+gather.Goals as goal
 
@@ -95,3 +95,20 @@ returns-clause-whole g t c = λ tells.
     (λ z. omega (arith, c.if-level-eq0.false, z)) (λ z. omega (arith, c.if-level-eq1.false, z)) (c.in_ok-cuts.ensures.found tells) c.in_ok-cuts.ensures.fits
     (intact_all m (c.args.level - 1) c.loop-entry.entry-index es c.in_ok-cuts.cuts.entries.items c.as_slice-entry-items.ensures.value
     (omega (arith, c.loop-entry-test.false, c.loop-entry.auto.entry-index-end)) (c.loop-entry.invariant.whole tells))
+
+pub returns-then-level-eq1-clause-sound : goal.returns-then-level-eq1-clause-sound
+returns-then-level-eq1-clause-sound g t c = λ dims region damaged tells stands few e.
+    let m : PageMap = g.P.Pages.map c.args.pages.now in
+    none_past dims c.args.level m region c.args.page c.args.tree.now.root c.args.tree.now.count (length c.args.points.now.items) damaged stands few
+    (leaf_or_past c.args.level m c.args.page c.args.tree.now.root c.args.tree.now.count (length c.args.points.now.items) damaged (omega (arith, c.if-level-eq1.true))
+    (c.gather_leaf.ensures.damaged damaged e tells))
+
+pub returns-in_err-cuts-clause-sound : goal.returns-in_err-cuts-clause-sound
+returns-in_err-cuts-clause-sound g t c = λ dims region damaged tells stands few e.
+    none_past dims c.args.level (g.P.Pages.map c.args.pages.now) region c.args.page c.args.tree.now.root c.args.tree.now.count (length c.args.points.now.items) damaged stands few
+    (returns-in_err-cuts-clause-damaged g t c damaged e tells)
+
+pub returns-in_err-gather-clause-sound : goal.returns-in_err-gather-clause-sound
+returns-in_err-gather-clause-sound g t c = λ dims region damaged tells stands few e.
+    none_past dims c.args.level (g.P.Pages.map c.args.pages.now) region c.args.page c.args.tree.now.root c.args.tree.now.count (length c.args.points.now.items) damaged stands few
+    (returns-in_err-gather-clause-damaged g t c damaged e tells)
