@@ -34,7 +34,7 @@ use Rattle.history_laws.specs.Bounds.{HasSmallWeight}
 use Rattle.change_laws.specs.Begun.{with_changes}
 use Rattle.page_warehouse.specs.Entering.{FormKeeps, PagesKeep}
 use Rattle.page_warehouse.specs.Holds.{Holds, TellsOf, table_form}
-use Rattle.page_warehouse.specs.Needs.{charge_of, meta_charge, old_objects}
+use Rattle.page_warehouse.specs.Needs.{meta_charge, old_objects}
 use Rattle.page_warehouse.specs.NextMeta.{IsNextMeta}
 use Rattle.page_warehouse.specs.declared.drafting.Counts.{Counts}
 use Rattle.page_warehouse.specs.declared.roots.Roots.{Roots}
@@ -172,9 +172,6 @@ meta_is one x params meta map order held settles =
     let same : held.pages ≡ x.pages = one x held.pages x.pages held.settled settles in
     let spelled : page_at x.pages 2 ≡ meta_page meta = subst (λ (ps : PageList). page_at ps 2 ≡ meta_page meta) same held.space.roots.spelled in
     ap (λ (bytes : List ℕ). meta_in bytes) spelled ∙ meta_in-page meta held.space.roots.typed held.space.roots.rules
-
-pub charge_is : SettlesToOne → (x : Image) (params : Params) (meta : Meta) (map : PageMap) (order : Type 0) → HoldsSpace x params meta map order → SettlesTo x x.pages → charge_of x ≡ meta_charge meta
-charge_is one x params meta map order held settles = ap meta_charge (meta_is one x params meta map order held settles)
 
 -- what counts against the limit before the batch
 pub charge_before : (meta : Meta) (by_ids : Bool) (count : ℕ) → by_ids ≡ (meta.lives == 0) → count ≡ meta.table.count → meta.allotted + (if by_ids then 8 * count else 0) ≡ meta_charge meta

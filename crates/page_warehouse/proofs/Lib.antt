@@ -18,3 +18,4 @@ pub mod Outcomes
 pub mod Drafted
 pub mod Same
 pub mod Small
+pub mod Telling

@@ -1,5 +1,5 @@
 -- Trees that stay one page each.
-use Rattle.std.proofs.Common.{◌≡◌, ℕ, ◌+◌, ◌*◌, ◌<◌, ◌≤◌, IsTrue, Result, Ok, Err, OnOk, List, length, get_or, sym, subst, arith}
+use Rattle.std.proofs.Common.{◌≡◌, ℕ, ◌+◌, ◌*◌, ◌≤◌, Result, Ok, Err, OnOk, List, length, get_or, sym, subst, arith}
 use Rattle.std.proofs.Math.Nat.{mul-le-mul_right}
 use Rattle.std.specs.List.{All}
 use Rattle.bw_types.specs.Empty.{empty_tree}
@@ -16,7 +16,7 @@ use Rattle.corner_forest.specs.Entries.{point_count}
 use Rattle.corner_forest.specs.Laws.{TreesCountTheirPoints}
 use Rattle.corner_forest.specs.Stands.{ForestStands}
 use Rattle.page_warehouse.specs.Needs.{StayOnePage}
-use Rattle.page_warehouse.proofs.Stages.{changes_then, refused, went_then}
+use Rattle.page_warehouse.proofs.Stages.{changes_then, refused}
 use Rattle.page_warehouse.proofs.Steps.{widened}
 
 one_more : (n k : ℕ) → (n + 1) * k ≡ n * k + k

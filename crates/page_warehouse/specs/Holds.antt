@@ -9,8 +9,9 @@ use Rattle.bw_types.specs.declared.dated.Dated.{Dated}
 use Rattle.bw_types.specs.declared.params.Params.{Params}
 use Rattle.bw_types.specs.declared.tree.Tree.{Tree}
 use Rattle.page_ports.specs.Pages.{PageMap}
-use Rattle.page_disk.specs.Image.{Image}
+use Rattle.page_disk.specs.Image.{Image, page_at}
 use Rattle.page_layout.specs.Footprint.{NamesNoneTwice}
+use Rattle.page_layout.specs.Meta.{meta_in}
 use Rattle.page_layout.specs.declared.meta.Meta.{Meta}
 use Rattle.page_space.specs.Space.{HoldsSpace}
 use Rattle.object_table.specs.Lives.{table_pages}
@@ -33,6 +34,10 @@ pub record TellsOf (params : Params) (meta : Meta) (h : History) : Type 0 where
 -- the form of the object table, by the meta page: the earlier one where `lives` is 0
 abbrev pub table_form : Meta → Form
 table_form meta = if meta.lives == 0 then ByIds else ByLives
+
+-- The meta page in its place tells of a table by lives.
+abbrev pub IsByLives : Image → Type 0
+IsByLives x = (meta_in (page_at x.pages 2)).lives ≡ 1
 
 -- In these pages the object table keeps exactly the lives of the history. In the earlier form each life is its id's first.
 pub record TableKeeps (pages : PageMap) (meta : Meta) (h : History) : Type 0 where

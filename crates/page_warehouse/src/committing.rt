@@ -7,11 +7,13 @@ ghost use Rattle.bw_types.specs.Lawful.{IsLawfulBatch};
 ghost use Rattle.bw_types.specs.Refusals.{first_refusal, total_mass};
 ghost use Rattle.corner_forest.specs.Entries.{root_count};
 ghost use Rattle.counts.specs.Count.{Rose};
+ghost use Rattle.page_disk.specs.Image.{page_at};
 ghost use Rattle.page_disk.specs.Since.{LeavesNow, LeavesOnly};
 ghost use Rattle.page_space.specs.Shown.{begun_of, disk_of, meta_of, params_of};
 ghost use Rattle.session_book.specs.declared.refusals.BookFault.{BookFault};
 ghost use Rattle.warehouse.specs.Committed.{IfDisk, IfDone, IfKept, IfPageLimit, IsCommitCause, device_out, with_batch};
-ghost use Rattle.page_warehouse.specs.Holds.{Holds, table_form};
+ghost use Rattle.page_layout.specs.Meta.{meta_in as meta_on};
+ghost use Rattle.page_warehouse.specs.Holds.{Holds, IsByLives, table_form};
 ghost use Rattle.page_warehouse.specs.Needs.{StaysSmall, batch_need, charge_of, meta_charge, small_need};
 
 use crate::Warehouse;
@@ -167,9 +169,16 @@ impl<D: Disk, X: DomIndex> Warehouse<D, X> {
         }
     }
 
-    // Proves that the meta page in its place on the disk is the one that is kept; it does nothing when it runs.
-    pub(crate) fn is_charged(&self)
+    // Proves that the disk counts as many pages against the limit as the meta page that is kept; it does nothing when it runs.
+    fn is_charged(&self)
         ensures { IsTrue (D.tells (disk_in self.now)) → charge_of (D.image (disk_in self.now)) ≡ meta_charge (meta_in self.now) }
+    {
+        self.is_in_place();
+    }
+
+    // Proves that the meta page in its place on the disk is the one that is kept; it does nothing when it runs.
+    fn is_in_place(&self)
+        ensures { IsTrue (D.tells (disk_in self.now)) → meta_on (page_at (D.image (disk_in self.now)).pages 2) ≡ meta_in self.now }
     {
         settling_laws();
         self.space.is_held();
@@ -187,6 +196,7 @@ impl<D: Disk, X: DomIndex> Warehouse<D, X> {
             (version ≡ last_version h + 1) × HoldsHistory D.Disk X.DomIndex true (disk_in house) (params_in self) (with_batch h rows.now)) }
         ensures kept { IfKept result (λ house. begun_of (space_in house) ≡ begun_of (space_in self)) }
         ensures params_done { IfDone result (λ house version. params_in house ≡ params_in self) }
+        ensures by_lives { IfDone result (λ house version. IsTrue (D.tells (disk_in house)) → IsByLives (D.image (disk_in house))) }
         ensures any_moment { (h : History) → HoldsHistory D.Disk X.DomIndex true (disk_in self) (params_in self) h
             → IsLawfulBatch (params_in self) h (flat rows.now) → LeavesOnly
             (λ x. Holds X.DomIndex x (params_in self) h ⊎ Holds X.DomIndex x (params_in self) (with_batch h rows.now))
@@ -237,6 +247,7 @@ impl<D: Disk, X: DomIndex> Warehouse<D, X> {
             Ok(space) => {
                 let house = Warehouse::over(alloc, space);
                 house.is_charged();
+                house.is_in_place();
                 Committed::Done {
                     house,
                     version: before.version + 1,

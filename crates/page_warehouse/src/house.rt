@@ -14,10 +14,10 @@ impl<D: Disk + Drop, X: DomIndex + Drop> House for Warehouse<D, X> {
 
     ghost use Rattle.page_disk.specs.Image.{Image as DiskImage};
     ghost use Rattle.page_disk.specs.Moment.{Moment, MayBeLeftNow, MayBeLeftSince, clock_of};
-    ghost use Rattle.std.specs.Prelude.{List, length};
+    ghost use Rattle.std.specs.Prelude.{IsTrue, List, length};
     ghost use Rattle.bw_types.specs.History.{changes};
     ghost use Rattle.page_warehouse.specs.Costs.{query_cost};
-    ghost use Rattle.page_warehouse.specs.Holds.{Holds};
+    ghost use Rattle.page_warehouse.specs.Holds.{Holds, IsByLives};
     ghost use Rattle.page_warehouse.specs.Needs.{LacksPages, RisesWithin, batch_need, charge_of};
     ghost use Rattle.page_warehouse.specs.Shown.{HoldsHistory, disk_in, params_in};
 
@@ -30,6 +30,8 @@ impl<D: Disk + Drop, X: DomIndex + Drop> House for Warehouse<D, X> {
     ghost device = { λ house. disk_in house };
 
     ghost stands = { λ whole disk params h. HoldsHistory D.Disk X.DomIndex whole disk params h };
+
+    ghost image = { λ disk. D.image disk };
 
     ghost moments = { λ disk. D.moments disk };
 
@@ -46,6 +48,8 @@ impl<D: Disk + Drop, X: DomIndex + Drop> House for Warehouse<D, X> {
     ghost faults = { λ disk. D.faults disk };
 
     ghost lacks_pages = { λ disk params h rows. LacksPages (D.image disk) params h rows };
+
+    ghost is_current = { λ disk. IsTrue (D.tells disk) → IsByLives (D.image disk) };
 
     ghost charge = { λ disk. charge_of (D.image disk) };
 
@@ -70,7 +74,6 @@ impl<D: Disk + Drop, X: DomIndex + Drop> House for Warehouse<D, X> {
     fn commit(self, rows: &[Row]) -> Committed<Self, D> {
         accepted_batches_are_lawful();
         crash_laws();
-        self.is_charged();
         let Judged { house, found } = self.judge(rows);
         match found {
             Ok(refusal) => match refusal {

@@ -1,10 +1,11 @@
 //! What is so of every disk that holds a history.
-ghost use Rattle.page_warehouse.specs.Laws.{HoldsByPages, HoldsForQueries, HoldsTreesByPages, NewHoldsNothing};
+ghost use Rattle.page_warehouse.specs.Laws.{HoldsByPages, HoldsForQueries, HoldsOneHistory, HoldsTreesByPages, NewHoldsNothing, TableTells};
 
 use dom_index::DomIndex;
 use object_table::table_laws;
-use page_space::created_holds as created_space_holds;
+use page_space::{created_holds as created_space_holds, holds_one};
 use redo_journal::settling_laws;
+use told_history::table_tells_history;
 
 /// Proves that a new warehouse holds the empty history; it does nothing when it runs.
 pub fn created_holds<X: DomIndex>()
@@ -23,4 +24,14 @@ pub fn holding_laws<X: DomIndex>()
     ensures trees_by_pages { HoldsTreesByPages X.DomIndex }
 {
     settling_laws();
+}
+
+/// Proves that the object table of a disk that holds a history tells that history, so that a disk holds one at
+/// most; it does nothing when it runs.
+pub fn table_tells<X: DomIndex>()
+    ensures table { TableTells X.DomIndex }
+    ensures one { HoldsOneHistory X.DomIndex }
+{
+    table_tells_history();
+    holds_one();
 }

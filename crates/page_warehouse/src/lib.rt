@@ -25,5 +25,5 @@ mod tests;
 mod upgrading;
 
 pub use creating::{Created, create};
-pub use laws::{created_holds, holding_laws};
+pub use laws::{created_holds, holding_laws, table_tells};
 pub use state::Warehouse;

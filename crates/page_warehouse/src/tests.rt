@@ -112,20 +112,40 @@ fn disks_without_a_warehouse(rt: HostRuntime) -> Result<(), Fail> {
     Ok(())
 }
 
-// A stop leaves no warehouse, or a new one.
-fn is_all_or_none(alloc: Global, disk: MemDisk) -> bool {
+// Whether there is a new warehouse, or none; `None` where the disk has something else.
+fn is_new(alloc: Global, disk: MemDisk) -> Option<bool> {
     match opened(alloc, disk) {
-        Ok(house) => house.last() == 0 && house.params() == PLAIN,
-        Err(fault) => fault == OpenFault::Empty,
+        Ok(house) => (house.last() == 0 && house.params() == PLAIN).then_some(true),
+        Err(fault) => (fault == OpenFault::Empty).then_some(false),
     }
+}
+
+// Whether the warehouse is there after a stop at this call and such a crash, where that one writes the open gate.
+fn is_there_after(calls: u64, gate: u64, torn: Torn) -> bool {
+    let landed = match torn {
+        Torn::Landed => true,
+        Torn::Filled(byte) => byte == 1,
+        Torn::Lost => false,
+    };
+    calls > gate || (calls == gate && landed)
 }
 
 #[test]
 fn a_making_that_is_stopped(rt: HostRuntime) -> Result<(), Fail> {
+    // The last call syncs the open creation gate, and the one before writes it.
+    let (disk, _) = made(rt.alloc(), u64::MAX);
+    let gate = disk.calls().saturating_sub(1);
+    assert!(rt; 5 < gate && gate < 100);
     for torn in KINDS {
-        for calls in 0..16 {
-            let (disk, _) = made(rt.alloc(), calls);
-            assert!(rt; is_all_or_none(rt.alloc(), disk.crash(torn)));
+        for calls in 0..gate + 4 {
+            let (disk, done) = made(rt.alloc(), calls);
+            let there = is_there_after(calls, gate, torn);
+            assert_eq!(rt;
+                is_new(rt.alloc(), disk.crash(torn)),
+                Some(there),
+                "after {calls}"
+            );
+            assert_eq!(rt; done, calls > gate, "after {calls}");
         }
     }
     Ok(())

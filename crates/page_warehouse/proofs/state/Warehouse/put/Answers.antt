@@ -79,6 +79,15 @@ returns-in-Err-clause-settled g c = if_done c.given_back.result (λ house versio
 pub returns-in-Err-clause-charge_done : goal.returns-in-Err-clause-charge_done
 returns-in-Err-clause-charge_done g c = λ h held batch. if_done c.given_back.result (λ house version. ⊥) _ (λ house version no. absurd no) c.given_back.ensures.not_done
 
+pub returns-in-Err-clause-by_lives : goal.returns-in-Err-clause-by_lives
+returns-in-Err-clause-by_lives g c = if_done c.given_back.result (λ house version. ⊥) _ (λ house version no. absurd no) c.given_back.ensures.not_done
+
+pub returns-in-Ok-clause-by_lives : goal.returns-in-Ok-clause-by_lives
+returns-in-Ok-clause-by_lives g c = λ tells.
+    let place = c.is_in_place.ensures tells in
+    let last : meta_of c.over-house.result.space ≡ staged_meta c.draft.new.stage = ap (λ (s : Space g.row.D.Denot g.D.Disk). meta_of s) c.over-house.ensures ∙ c.in-Ok.ensures.meta in
+    ap (λ (m : Meta). m.lives) (place ∙ last) ∙ c.in_default.ensures.meta.lives
+
 pub returns-in-Err-clause-kept : goal.returns-in-Err-clause-kept
 returns-in-Err-clause-kept g c =
     let back = c.draft.ensures.base ∙ c.begin-stage.ensures.base in
