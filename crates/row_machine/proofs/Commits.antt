@@ -11,7 +11,7 @@ use Rattle.warehouse.specs.declared.house.House.{Ghosts}
 use Rattle.row_machine.specs.declared.desk.Desk.{Desk}
 use Rattle.row_machine.specs.declared.ending.Ran.{Ran}
 use Rattle.row_machine.specs.Housed.{MayTake, rows_committed}
-use Rattle.row_machine.specs.Serving.{Breaks, BreaksOff, LeavesLine, MayServe, Serves, ServesLine, ServesText, line_cost, state_at}
+use Rattle.row_machine.specs.Serving.{Breaks, BreaksOff, LeavesLine, MayGoOn, MayServe, Serves, ServesLine, ServesText, line_cost, state_at}
 use Rattle.row_machine.proofs.Lined.{first_may}
 
 -- a commit may be taken only where the device is whole for it
@@ -44,16 +44,15 @@ module _ {H D : Type 0} (g : Ghosts H D) (n session : ℕ) (before after : List 
         (serves n left.line whole h spells_commit (is_whole whole may) (stands_new whole h stands)));
   }
 
-  pub commit_breaks : (ran : Ran D)
+  pub commit_breaks : (ran : Ran D) → MayGoOn stopped
       → ((number : ℕ) (line : List ℕ) (whole : Bool) (h : History) → input new.params line ≡ Some (Commit session) → IsTrue whole → g.stands whole (g.device new.house) new.params h
       → ServesText g whole new.params h (step new.params number (state_at g h new) line) (rows_committed (state_at g h new) (input new.params line)) (MayTake false (input new.params line)) (line_cost g.cost new.params h line) (g.device new.house) same_gathered gathered' (Err ran))
       → (whole : Bool) (h : History) → MayServe whole old.params (lines before) → g.stands whole (g.device old.house) old.params h
-      → BreaksOff g whole old.params n before h old ran
-  commit_breaks ran serves whole h may stands = record {
+      → BreaksOff g whole old.params n before after stopped h old ran
+  commit_breaks ran going serves whole h may stands = record {
     line = left.line;
-    after = after;
-    stopped = stopped;
     takes = left.takes;
+    goes = going;
     breaks = subst (λ (d : Desk H D g). Breaks g whole d.params h (step d.params n (state_at g h d) left.line) (rows_committed (state_at g h d) (input d.params left.line)) (MayTake false (input d.params left.line)) (line_cost g.cost d.params h left.line) (g.device d.house) ran) same
         (serves n left.line whole h spells_commit (is_whole whole may) (stands_new whole h stands));
   }

@@ -6,6 +6,7 @@ use Rattle.bw_types.specs.declared.row.Row.{Row}
 use Rattle.csv_rows.specs.Input.{input as input_of}
 use Rattle.line_reader.specs.Lines.{lines}
 use Rattle.line_reader.specs.declared.lines.Line.{Line}
+use Rattle.line_reader.specs.declared.lines.Line.TheVariants.{End}
 use Rattle.csv_rows.specs.Machine.{State, step, replies, state_after}
 use Rattle.warehouse.specs.declared.house.House.{Ghosts}
 use Rattle.row_machine.specs.declared.desk.Desk.{Desk}
@@ -14,13 +15,13 @@ use Rattle.row_machine.specs.declared.ending.Ending.{Ending}
 use Rattle.row_machine.specs.declared.ending.Ending.TheVariants.{Fine, DiskFault, Damaged, PageLimit}
 use Rattle.row_machine.specs.Housed.{GoesOnFrom, IsHouseEnding, IsVersion, MayTake, rows_committed, SettledBetween, OnlyBetween, version_need}
 use Rattle.row_machine.specs.Runs.{WritesPart}
-use Rattle.row_machine.specs.Serving.{state_at, Breaks, BreaksOff, Ends, IsBetweenLines, IsFlushed, IsInputEnding, MayServe, NextIsVersion, TakesWhole, line_cost, line_need, lines_cost, next_rows}
+use Rattle.row_machine.specs.Serving.{state_at, Breaks, BreaksOff, Ends, IsBetweenLines, IsFlushed, IsInputEnding, MayServe, NextIsVersion, TakesLines, TakesWhole, line_cost, line_need, lines_cost, next_rows}
 use Rattle.csv_rows.specs.declared.reply.Reply.{Reply}
 use Rattle.csv_rows.specs.declared.reply.Reply.TheVariants.{Version, Refused, Dropped, Answer, Bad, Full, NoVersion}
 use Rattle.row_machine.proofs.Housing.{goes_on_same, step_goes_on, only_twice, settled_between}
 use Rattle.row_machine.proofs.Lined.{first_may}
 use Rattle.row_machine.proofs.Replies.{sums_more}
-use Rattle.row_machine.proofs.Served.{LineLaws, after_line, lines_split}
+use Rattle.row_machine.proofs.Served.{LineLaws, after_line, lines_split, takes_given, takes_one_more}
 use Rattle.std.proofs.lemmas.List.{append-nil}
 use Rattle.row_machine.proofs.Reached.{Reached, coming_may, state_is}
 
@@ -52,10 +53,10 @@ next_version params after state n k line come rest same number coming version =
 module _ {H D : Type 0} (g : Ghosts H D) (laws : LineLaws) (whole tells tells' still : Bool) (params : Params) (h : History) (first now : Desk H D g) (n : ℕ) (input come left : List ℕ) (stopped : Option Line) (before virtual written' : List ℕ) (ran : Ran D) where
   -- the run ends between two lines, or in the output
   pub ends_between : (reached : Reached g whole tells params h first now n input come stopped before virtual)
-      → ran.device ≡ g.device now.house → (ran.ending ≡ Fine → come ≡ []) → (IsHouseEnding ran.ending → ⊥)
+      → ran.device ≡ g.device now.house → (ran.ending ≡ Fine → come ≡ []) → (IsHouseEnding ran.ending → ⊥) → (IsTrue still → (passed : List ℕ) × (come ≡ passed ++ left))
       → Written tells tells' still ran.ending params (state_at g h first) input left (lines reached.served.given) before written'
       → Ends g whole tells tells' still params (state_at g h first) input left (g.device first.house) ran before written'
-  ends_between r disk fine outside written =
+  ends_between r disk fine outside passes written =
       let begin = state_at g h first in
       let given = lines r.served.given in
       let all : given ≡ given ++ [] = sym (append-nil given) in
@@ -70,6 +71,8 @@ module _ {H D : Type 0} (g : Ghosts H D) (laws : LineLaws) (whole tells tells' s
         between = λ b. refl;
         fine = λ f. ap lines (fine f);
         taken = written.taken;
+        read = λ told. let p = passes told in
+            subst (λ (ls : List (List ℕ)). TakesLines input left ls) all (takes_given laws tells params begin r.state n input come left stopped before virtual r.served p.0 p.1);
         wrote = written.wrote;
         flushed = written.flushed;
         sure = r.state.history;
@@ -86,21 +89,22 @@ module _ {H D : Type 0} (g : Ghosts H D) (laws : LineLaws) (whole tells tells' s
       }
 
   -- the run ends in a line, or in the output after it
-  pub ends_within : (ended : Ran D) → (reached : Reached g whole tells params h first now n input come stopped before virtual)
-      → BreaksOff g whole params n come reached.state.history now ended
+  pub ends_within : (ended : Ran D) (after_it : List ℕ) (stopped' : Option Line) → (reached : Reached g whole tells params h first now n input come stopped before virtual)
+      → BreaksOff g whole params n come after_it stopped' reached.state.history now ended
+      → (stopped' ≡ Some End → after_it ≡ []) → (IsTrue still → (passed : List ℕ) × (after_it ≡ passed ++ left))
       → ran.device ≡ ended.device → (ended.ending ≡ DiskFault → ran.ending ≡ DiskFault)
       → (IsBetweenLines ran.ending → ⊥)
       → ((page : ℕ) → ran.ending ≡ Damaged page → ended.ending ≡ Damaged page) → ((allotted : ℕ) → ran.ending ≡ PageLimit allotted → ended.ending ≡ PageLimit allotted)
       → Written tells tells' still ran.ending params (state_at g h first) input left (lines reached.served.given) before written'
       → Ends g whole tells tells' still params (state_at g h first) input left (g.device first.house) ran before written'
-  ends_within ended r b disk fault outside damaged limit written =
+  ends_within ended after_it stopped' r b nothing passes disk fault outside damaged limit written =
       let begin = state_at g h first in
       let given = lines r.served.given in
       let line = b.line in
       let is : state_at g r.state.history now ≡ r.state = state_is g r.state now r.at.staged in
       let breaks : Breaks g whole params r.state.history (step params n r.state line) (rows_committed r.state (input_of params line)) (MayTake false (input_of params line)) (line_cost g.cost params r.state.history line) (g.device now.house) ended =
       subst (λ (s : State). Breaks g whole params r.state.history (step params n s line) (rows_committed s (input_of params line)) (MayTake false (input_of params line)) (line_cost g.cost params r.state.history line) (g.device now.house) ended) is b.breaks in
-      let coming : lines come ≡ line ∷ lines b.after = b.takes.all_lines in
+      let coming : lines come ≡ line ∷ lines after_it = b.takes.all_lines in
       let state : r.state.history ≡ (state_after params 1 begin given).history = ap (λ (s : State). s.history) r.served.state in
       let after : (step params n r.state line).state.history ≡ (state_after params 1 begin (given ++ line ∷ [])).history =
       ap (λ (s : State). s.history) (after_line params begin r.state n given line r.served.number r.served.state) in
@@ -109,17 +113,19 @@ module _ {H D : Type 0} (g : Ghosts H D) (laws : LineLaws) (whole tells tells' s
       ap (λ (s : State). rows_committed s (input_of params line)) r.served.state in
       let reads : MayServe false params (lines input) → g.reads ran.device ≤ g.reads (g.device now.house) + line_cost g.cost params r.state.history line =
       λ reading. subst (λ (d : D). g.reads d ≤ g.reads (g.device now.house) + line_cost g.cost params r.state.history line) (sym disk)
-      (breaks.reads (first_may false params (lines come) line (lines b.after) coming
+      (breaks.reads (first_may false params (lines come) line (lines after_it) coming
       (coming_may laws false tells params begin r.state n input come stopped before virtual r.served reading))) in
       record {
         served = given;
         begun = line ∷ [];
-        rest = lines b.after;
+        rest = lines after_it;
         cut = lines_split laws tells params begin r.state n input come stopped before virtual r.served ∙ ap (λ (ls : List (List ℕ)). given ++ ls) coming;
         one = omega arith;
         between = λ k. absurd (outside k);
         fine = λ e. absurd (outside (subst (λ (s : Ending). IsBetweenLines s) (sym e) tt));
         taken = written.taken;
+        read = λ told. let p = passes told in
+            takes_one_more laws tells params begin r.state n input come after_it left stopped stopped' before virtual line r.served b.takes nothing p.0 p.1;
         wrote = written.wrote;
         flushed = written.flushed;
         sure = breaks.sure;

@@ -70,6 +70,25 @@ nothing_to_come reader left e = stopped_at reader.stopped e
     stopped_at : (s : Option Line) → s ≡ Some End → unless_stopped s (reader.pending ++ left) ≡ []
     stopped_at s f = rw f refl
 
+-- what is to come is what was passed of it, and what the source has left
+pub come_passes : (reader : ReaderState) (left : List ℕ) → MayGoOn reader.stopped → (reader.stopped ≡ Some End → left ≡ []) → (passed : List ℕ) × (to_come reader left ≡ passed ++ left)
+come_passes reader left may seen = passes_at reader.stopped may seen
+  where
+    passes_at : (s : Option Line) → MayGoOn s → (s ≡ Some End → left ≡ []) → (passed : List ℕ) × (unless_stopped s (reader.pending ++ left) ≡ passed ++ left)
+    passes_at None m e = (reader.pending, refl)
+    passes_at (Some answer) m e = ([], sym (e (ap Some m)))
+
+-- where a run ends between two lines, what was to come was passed, or nothing was
+passes_between : (ending : Ending) (come left : List ℕ) → IsBetweenLines ending → (ending ≡ Fine → come ≡ left) → (IsInputEnding ending → PassesNoLineFeed come left) → (passed : List ℕ) × (come ≡ passed ++ left)
+passes_between Fine come left b fine input = ([], fine refl)
+passes_between ReadFault come left b fine input = ((input tt).passed, (input tt).cut)
+passes_between (InputLimit taken) come left b fine input = ((input tt).passed, (input tt).cut)
+passes_between WriteFault come left b fine input = absurd b
+passes_between NoMemory come left b fine input = absurd b
+passes_between DiskFault come left b fine input = absurd b
+passes_between (Damaged page) come left b fine input = absurd b
+passes_between (PageLimit allotted) come left b fine input = absurd b
+
 -- the end is seen as before, or it is seen now
 seen_after : (source source' source'' : Port) (reader reader' : ReaderState) → MayGoOn reader.stopped → Calm source source' → SeenEnd reader source.tells source'.bytes
     → (reader.stopped ≡ None → SeenEnd reader' source'.tells source''.bytes)
@@ -213,6 +232,7 @@ going_stops g laws first now source source' sink sink' gathered reader number te
     let r = o.reached told whole h may stands in
     ends_between g laws whole sink.tells tells' source'.tells first.params h first now number source.bytes (to_come reader source'.bytes) source'.bytes reader.stopped sink.bytes (sink'.bytes ++ gathered) written' ran r
     device (λ f. absurd (let no : WriteFault ≡ Fine = sym why ∙ f in cc)) (λ w. subst (λ (s : Ending). IsHouseEnding s) why w)
+    (λ still. come_passes reader source'.bytes o.may_go_on (λ e. (o.seen_end e).1 told))
     (written_so g whole first.params h first now number source.bytes (to_come reader source'.bytes) source'.bytes reader.stopped sink sink' gathered tells' source'.tells written' ran.ending r o.sink_calm.tells o.more
     (λ i. absurd (subst (λ (s : Ending). IsInputEnding s) why i)) part (λ f. absurd (subst (λ (s : Ending). IsFlushed s) why f)))
 
@@ -264,14 +284,18 @@ pub going_ends : {H D : Type 0} (g : Ghosts H D) (laws : LineLaws) (first now : 
     → (ended.ending ≡ Fine → IsTrue source'.tells → to_come reader source'.bytes ≡ [])
     → (IsInputEnding ended.ending → IsTrue source'.tells → IsTrue source''.tells → (reader.stopped ≡ None) × PassesNoLineFeed (to_come reader source'.bytes) source''.bytes)
     → (IsHouseEnding ended.ending → IsTrue source'.tells → (whole : Bool) (h : History) → MayServe whole now.params (lines (to_come reader source'.bytes)) → g.stands whole (g.device now.house) now.params h
-    → BreaksOff g whole now.params number (to_come reader source'.bytes) h now ended)
+    → BreaksOff g whole now.params number (to_come reader source'.bytes) (to_come reader' source''.bytes) reader'.stopped h now ended)
+    → (reader.stopped ≡ None → SeenEnd reader' source'.tells source''.bytes)
+    → (reader.stopped ≡ Some End → (reader' ≡ reader) × (source''.bytes ≡ source'.bytes))
+    → (ended.ending ≡ Fine → reader'.stopped ≡ Some End)
     → (IsTrue sink'.tells → IsTrue tells' → WritesPart sink'.bytes written' gathered)
     → (IsFlushed ran.ending → IsTrue sink'.tells → written' ≡ sink'.bytes ++ gathered)
     → IsTrue source.tells → (whole : Bool) (h : History) → MayServe whole first.params (lines source.bytes) → g.stands whole (g.device first.house) first.params h
     → Ends g whole sink.tells tells' source''.tells first.params (state_at g h first) source.bytes source''.bytes (g.device first.house) ran sink.bytes written'
-going_ends g laws first now source source' source'' sink sink' gathered reader reader' number tells' written' ended ran o closes why between fine input breaks part flushed told whole h may stands =
+going_ends g laws first now source source' source'' sink sink' gathered reader reader' number tells' written' ended ran o closes why between fine input breaks seen stays at_end part flushed told whole h may stands =
     let r = o.reached told whole h may stands in
     let told' = o.source_calm.tells told in
+    let seen' : SeenEnd reader' source.tells source''.bytes = seen_after source source' source'' reader reader' o.may_go_on o.source_calm o.seen_end seen stays in
     let written = written_so g whole first.params h first now number source.bytes (to_come reader source'.bytes) source''.bytes reader.stopped sink sink' gathered tells' source''.tells written' ran.ending r o.sink_calm.tells o.more
     (λ i still.
     let p = input (ended_by_input ended ran closes i) told' still in
@@ -280,13 +304,18 @@ going_ends g laws first now source source' source'' sink sink' gathered reader r
     elim why [
       | inl b ↦ ends_between g laws whole sink.tells tells' source''.tells first.params h first now number source.bytes (to_come reader source'.bytes) source''.bytes reader.stopped sink.bytes (sink'.bytes ++ gathered) written' ran r
           (closes.device ∙ between b) (λ f. fine (closes_same ended ran closes Fine (λ e. cc) f) told')
-          (λ w. not_both ended.ending (house_both ended ran closes w) b) written
-      | inr w ↦ ends_within g laws whole sink.tells tells' source''.tells first.params h first now number source.bytes (to_come reader source'.bytes) source''.bytes reader.stopped sink.bytes (sink'.bytes ++ gathered) written' ran ended r
-          (subst (λ (p : Params). BreaksOff g whole p number (to_come reader source'.bytes) r.state.history now ended) o.params
+          (λ w. not_both ended.ending (house_both ended ran closes w) b)
+          (λ still. passes_between ended.ending (to_come reader source'.bytes) source''.bytes b
+          (λ e. let none : source''.bytes ≡ [] = (seen' (at_end e)).1 told in fine e told' ∙ sym none)
+          (λ i. (input i told' still).1)) written
+      | inr w ↦ let broke : BreaksOff g whole first.params number (to_come reader source'.bytes) (to_come reader' source''.bytes) reader'.stopped r.state.history now ended =
+          subst (λ (p : Params). BreaksOff g whole p number (to_come reader source'.bytes) (to_come reader' source''.bytes) reader'.stopped r.state.history now ended) o.params
           (breaks w told' whole r.state.history
           (subst (λ (p : Params). MayServe whole p (lines (to_come reader source'.bytes))) (sym o.params)
           (coming_may laws whole sink.tells first.params (state_at g h first) r.state number source.bytes (to_come reader source'.bytes) reader.stopped sink.bytes (sink'.bytes ++ gathered) r.served may))
-          (subst (λ (p : Params). g.stands whole (g.device now.house) p r.state.history) (sym o.params) r.at.stands)))
+          (subst (λ (p : Params). g.stands whole (g.device now.house) p r.state.history) (sym o.params) r.at.stands)) in
+          ends_within g laws whole sink.tells tells' source''.tells first.params h first now number source.bytes (to_come reader source'.bytes) source''.bytes reader.stopped sink.bytes (sink'.bytes ++ gathered) written' ran ended (to_come reader' source''.bytes) reader'.stopped r
+          broke (λ e. nothing_to_come reader' source''.bytes e) (λ still. come_passes reader' source''.bytes broke.goes (λ e. (seen' e).1 told))
           closes.device (λ e. disk_stays ended ran closes e)
           (λ b. between_both ended ran closes w b)
           (λ page e. closes_same ended ran closes (Damaged page) (λ f. cc) e) (λ allotted e. closes_same ended ran closes (PageLimit allotted) (λ f. cc) e) written

@@ -14,7 +14,7 @@ use Rattle.row_machine.specs.declared.ending.Ran.{Ran}
 use Rattle.row_machine.specs.declared.ending.Ending.{Ending}
 use Rattle.row_machine.specs.declared.ending.Ending.TheVariants.{Fine, ReadFault, WriteFault, NoMemory, InputLimit, DiskFault, Damaged, PageLimit}
 use Rattle.row_machine.specs.Housed.{IsHouseEnding, LeavesCommit, MayTake, rows_committed}
-use Rattle.row_machine.specs.Serving.{state_at, LeavesLine, OnServed, ServesText, ServesLine, BreaksOff, IsBetweenLines, MayServe, line_cost}
+use Rattle.row_machine.specs.Serving.{state_at, LeavesLine, OnServed, ServesText, ServesLine, BreaksOff, IsBetweenLines, MayGoOn, MayServe, line_cost}
 
 pub not_both : (ending : Ending) → IsHouseEnding ending → IsBetweenLines ending → ⊥
 not_both Fine w b = w
@@ -85,15 +85,15 @@ module _ {H D : Type 0} (g : Ghosts H D) (source : Bool) (params : Params) (n : 
   text_line text line (Ok (Some session)) e takes serves = λ none. absurd cc
   text_line text line (Err ending) e takes serves = tt
 
-  pub text_breaks : (text line : List ℕ) (result : Result (Option ℕ) Ending) → text ≡ line → (IsTrue source → TakesLine before line after stopped)
+  pub text_breaks : (text line : List ℕ) (result : Result (Option ℕ) Ending) → text ≡ line → MayGoOn stopped → (IsTrue source → TakesLine before line after stopped)
       → ((whole : Bool) (h : History) → MayTake whole (input params text) → g.stands whole (g.device old.house) params h
       → OnServed g (ServesText g whole params h (step params n (state_at g h old) text) (rows_committed (state_at g h old) (input params text)) (MayTake false (input params text)) (line_cost g.cost params h text) (g.device old.house) gathered gathered') (λ session. ⊤) new result)
       → IfErr result (λ ending. IsHouseEnding ending → IsTrue source → (whole : Bool) (h : History) → MayServe whole params (lines before) → g.stands whole (g.device old.house) params h
-      → BreaksOff g whole params n before h old (record { ending = ending; device = g.device new.house }))
-  text_breaks text line (Ok left) e takes serves = tt
-  text_breaks text line (Err ending) e takes serves = λ w told whole h may stands.
+      → BreaksOff g whole params n before after stopped h old (record { ending = ending; device = g.device new.house }))
+  text_breaks text line (Ok left) e going takes serves = tt
+  text_breaks text line (Err ending) e going takes serves = λ w told whole h may stands.
       let t : TakesLine before text after stopped = subst (λ (l : List ℕ). TakesLine before l after stopped) (sym e) (takes told) in
-      record { line = text; after = after; stopped = stopped; takes = t; breaks = serves whole h (first_may whole params (lines before) text (lines after) t.all_lines may) stands }
+      record { line = text; takes = t; goes = going; breaks = serves whole h (first_may whole params (lines before) text (lines after) t.all_lines may) stands }
 
   pub text_commits : (text line : List ℕ) (result : Result (Option ℕ) Ending) → text ≡ line → (IsTrue source → TakesLine before line after stopped)
       → IfOk result (λ left. IfSome left (λ session. LeavesCommit g (input params text) old new session × (gathered' ≡ gathered)))
@@ -119,11 +119,11 @@ module _ {H D : Type 0} (g : Ghosts H D) (source : Bool) (params : Params) (n : 
   long_line most (Ok (Some session)) takes serves = λ none. absurd cc
   long_line most (Err ending) takes serves = tt
 
-  pub long_breaks : (most : ℕ) (result : Result (Option ℕ) Ending) → (IsTrue source → TakesLongLine most before after stopped)
+  pub long_breaks : (most : ℕ) (result : Result (Option ℕ) Ending) → MayGoOn stopped → (IsTrue source → TakesLongLine most before after stopped)
       → ((whole : Bool) (h : History) (line : List ℕ) → most < length line → g.stands whole (g.device old.house) params h
       → OnServed g (ServesText g whole params h (step params n (state_at g h old) line) (rows_committed (state_at g h old) (input params line)) (MayTake false (input params line)) (line_cost g.cost params h line) (g.device old.house) gathered gathered') (λ session. ⊤) new result)
       → IfErr result (λ ending. IsHouseEnding ending → IsTrue source → (whole : Bool) (h : History) → MayServe whole params (lines before) → g.stands whole (g.device old.house) params h
-      → BreaksOff g whole params n before h old (record { ending = ending; device = g.device new.house }))
-  long_breaks most (Ok left) takes serves = tt
-  long_breaks most (Err ending) takes serves = λ w told whole h may stands.
-      record { line = (takes told).line; after = after; stopped = stopped; takes = (takes told).takes; breaks = serves whole h (takes told).line (takes told).long stands }
+      → BreaksOff g whole params n before after stopped h old (record { ending = ending; device = g.device new.house }))
+  long_breaks most (Ok left) going takes serves = tt
+  long_breaks most (Err ending) going takes serves = λ w told whole h may stands.
+      record { line = (takes told).line; takes = (takes told).takes; goes = going; breaks = serves whole h (takes told).line (takes told).long stands }

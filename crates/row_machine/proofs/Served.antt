@@ -3,7 +3,7 @@ use Rattle.std.proofs.Common.{◌≡◌, ℕ, ◌+◌, Bool, true, IsTrue, List,
 use Rattle.std.proofs.lemmas.List.{append-nil}
 use Rattle.bw_types.specs.declared.params.Params.{Params}
 use Rattle.line_reader.specs.Lines.{lines, is_whole, whole_part, HasNoLineFeed, TakesLine, PassesNoLineFeed}
-use Rattle.row_machine.specs.Serving.{TakesWhole}
+use Rattle.row_machine.specs.Serving.{TakesLines, TakesWhole}
 use Rattle.line_reader.specs.declared.lines.Line.{Line}
 use Rattle.line_reader.specs.declared.lines.Line.TheVariants.{End}
 use Rattle.csv_rows.specs.Machine.{State, step, replied, replies, state_after}
@@ -117,3 +117,51 @@ served_whole laws tells params first now n input come left stopped before writte
   }
   | inr stop ↦ absurd (not_both stopped going stop)
 ]
+
+-- nothing stands behind bytes that are none together
+nothing_behind : (passed left : List ℕ) → passed ++ left ≡ [] → left ≡ []
+nothing_behind [] left e = e
+nothing_behind (b ∷ bs) left e = cc
+
+-- what was given as lines was taken, with what was passed behind it
+pub takes_given : (laws : LineLaws) (tells : Bool) (params : Params) (first now : State) (n : ℕ) (input come left : List ℕ) (stopped : Option Line) (before written : List ℕ) → (served : Served tells params first now n input come stopped before written)
+    → (passed : List ℕ) → come ≡ passed ++ left → TakesLines input left (lines served.given)
+takes_given laws tells params first now n input come left stopped before written served passed goes = elim served.ends [
+  | inl w ↦ record {
+    taken = served.given ++ passed;
+    more = lines passed;
+    cut = served.cut ∙ (ap (λ (t : List ℕ). served.given ++ t) goes ∙ sym (append_assoc served.given passed left));
+    begins = laws.join served.given passed w;
+  }
+  | inr stop ↦ record {
+    taken = served.given;
+    more = [];
+    cut = served.cut ∙ ap (λ (t : List ℕ). served.given ++ t) (served.nothing stop ∙ sym (nothing_behind passed left (sym goes ∙ served.nothing stop)));
+    begins = sym (append-nil (lines served.given));
+  }
+]
+
+-- so was a line more
+pub takes_one_more : (laws : LineLaws) (tells : Bool) (params : Params) (first now : State) (n : ℕ) (input come after left : List ℕ) (stopped stopped' : Option Line) (before written line : List ℕ) → (served : Served tells params first now n input come stopped before written)
+    → TakesLine come line after stopped' → (stopped' ≡ Some End → after ≡ []) → (passed : List ℕ) → after ≡ passed ++ left → TakesLines input left (lines served.given ++ line ∷ [])
+takes_one_more laws tells params first now n input come after left stopped stopped' before written line served takes nothing passed goes =
+    elim served.ends [
+      | inl w ↦
+          let more : lines (served.given ++ takes.piece) ≡ lines served.given ++ line ∷ [] = lines_more laws served.given takes.piece line w takes.one_line in
+          let cut : input ≡ (served.given ++ takes.piece) ++ after = served.cut ∙ (ap (λ (t : List ℕ). served.given ++ t) takes.cut ∙ sym (append_assoc served.given takes.piece after)) in
+          elim takes.ends [
+            | inl whole ↦ record {
+              taken = (served.given ++ takes.piece) ++ passed;
+              more = lines passed;
+              cut = cut ∙ (ap (λ (t : List ℕ). (served.given ++ takes.piece) ++ t) goes ∙ sym (append_assoc (served.given ++ takes.piece) passed left));
+              begins = laws.join (served.given ++ takes.piece) passed (laws.whole served.given takes.piece w whole) ∙ ap (λ (ls : List (List ℕ)). ls ++ lines passed) more;
+            }
+            | inr stop ↦ record {
+              taken = served.given ++ takes.piece;
+              more = [];
+              cut = cut ∙ ap (λ (t : List ℕ). (served.given ++ takes.piece) ++ t) (nothing stop ∙ sym (nothing_behind passed left (sym goes ∙ nothing stop)));
+              begins = more ∙ sym (append-nil (lines served.given ++ line ∷ []));
+            }
+          ]
+      | inr stop ↦ absurd (no_piece takes.piece after line (sym takes.cut ∙ served.nothing stop) takes.one_line)
+    ]

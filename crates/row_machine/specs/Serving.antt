@@ -108,6 +108,13 @@ pub record TakesWhole (input left : List ℕ) (served : List (List ℕ)) : Type 
   pub cut : input ≡ taken ++ left
   pub whole : served ≡ lines (whole_part taken)
 
+-- Of the input all was taken but what is left, and the lines of what was taken begin with these.
+pub record TakesLines (input left : List ℕ) (first : List (List ℕ)) : Type 0 where
+  pub taken : List ℕ
+  pub more : List (List ℕ)
+  pub cut : input ≡ taken ++ left
+  pub begins : lines taken ≡ first ++ more
+
 -- The next line is taken off the input and spells a commit of the session.
 pub record LeavesLine (params : Params) (before after : List ℕ) (stopped : Option Line) (session : ℕ) : Type 0 where
   pub line : List ℕ
@@ -165,11 +172,10 @@ module _ {H D : Type 0} (g : Ghosts H D) where
     pub serves : Serves whole params h (step params n (state_at h old) line) (rows_committed (state_at h old) (input params line)) (MayTake false (input params line)) (line_cost g.cost params h line) (g.device old.house) new gathered gathered'
 
   -- The next line, which has the number n, is taken off the input, and the run ends in it.
-  pub record BreaksOff (whole : Bool) (params : Params) (n : ℕ) (before : List ℕ) (h : History) (old : Desk H D g) (ran : Ran D) : Type 0 where
+  pub record BreaksOff (whole : Bool) (params : Params) (n : ℕ) (before after : List ℕ) (stopped : Option Line) (h : History) (old : Desk H D g) (ran : Ran D) : Type 0 where
     pub line : List ℕ
-    pub after : List ℕ
-    pub stopped : Option Line
     pub takes : TakesLine before line after stopped
+    pub goes : MayGoOn stopped
     pub breaks : Breaks whole params h (step params n (state_at h old) line) (rows_committed (state_at h old) (input params line)) (MayTake false (input params line)) (line_cost g.cost params h line) (g.device old.house) ran
 
   -- What is left when a run over an input ends. Some of its lines were served whole, at most one was begun then, and the rest
@@ -185,6 +191,7 @@ module _ {H D : Type 0} (g : Ghosts H D) where
     pub between : IsBetweenLines ran.ending → begun ≡ []
     pub fine : ran.ending ≡ Fine → rest ≡ []
     pub taken : IsInputEnding ran.ending → IsTrue still → TakesWhole input left served
+    pub read : IsTrue still → TakesLines input left (served ++ begun)
     pub wrote : IsTrue tells → IsTrue tells' → WritesPart written written' (replies params 1 begin served)
     pub flushed : IsFlushed ran.ending → IsTrue tells → IsTrue tells' → written' ≡ written ++ replies params 1 begin served
     pub sure : History

@@ -115,7 +115,8 @@ fn serve_line<H: House, S: Source>(
     ensures between { IfErr result (λ ending. IsBetweenLines ending → desk.new ≡ desk.old) }
     ensures breaks { IfErr result (λ ending. IsHouseEnding ending → IsTrue (S.tells source.old) →
         (whole : Bool) (h : History) → MayServe whole desk.old.params (lines (to_come reader.old (S.left source.old))) → H.stands whole (H.device desk.old.house) desk.old.params h →
-        BreaksOff ⟦<H as House>⟧ whole desk.old.params number (to_come reader.old (S.left source.old)) h desk.old (record { ending = ending; device = H.device desk.new.house })) }
+        BreaksOff ⟦<H as House>⟧ whole desk.old.params number (to_come reader.old (S.left source.old)) (to_come reader.new (S.left source.new)) reader.new.stopped
+        h desk.old (record { ending = ending; device = H.device desk.new.house })) }
     ensures disk_fault { IfErr result (λ ending. ending ≡ Ending.DiskFault → Rose (H.faults (H.device desk.old.house)) (H.faults (H.device desk.new.house))) }
 
     // The input is at its end, or it fails or is too long within a line.

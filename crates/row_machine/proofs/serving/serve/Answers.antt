@@ -78,6 +78,9 @@ returns-in-Err-clause-ends g c =
     (input_passes c.in-Err.ending (λ e told still. ((c.in-Err.ensures.read_fault e).0, (c.in-Err.ensures.read_fault e).2 told still))
     (λ taken e told still. ((c.in-Err.ensures.input_limit taken e).0, ((c.in-Err.ensures.input_limit taken e).3 told).1)))
     c.in-Err.ensures.breaks
+    c.serve_line.ensures.seen_end
+    (λ e. ((c.serve_line.ensures.stays e).0, ap g.S.Source.left (c.serve_line.ensures.stays e).1))
+    (λ e. (c.in-Err.ensures.end e).0)
     (λ told still. subst (λ (text : List ℕ). WritesPart (g.K.Sink.written c.put_due.new.sink) (g.K.Sink.written c.close-in-Err.new.sink) text) c.in-Err.ensures.unsaid (c.close-in-Err.ensures.part told still))
     (λ flushed told. c.close-in-Err.ensures.flushed flushed told ∙ ap (λ (text : List ℕ). g.K.Sink.written c.put_due.new.sink ++ text) c.in-Err.ensures.unsaid)
 
@@ -97,7 +100,10 @@ returns-in-Err-serve_commit-clause-ends g c =
     (λ b. absurd (not_both c.in-Err-serve_commit.ran.ending c.in-Err-serve_commit.ensures.within b))
     (λ e. absurd (never_fine_house c.in-Err-serve_commit.ran.ending c.in-Err-serve_commit.ensures.within e))
     (λ i. absurd (never_by_input c.in-Err-serve_commit.ran.ending c.in-Err-serve_commit.ensures.within i))
-    (λ w told. commit_breaks g.H.House _ c.in-Ok-Some.session _ _ _ _ c.serve_line.new.desk _ _ (gathered c.serve_commit.new.outbox) commits.2 commits.3 (commits.4 told) c.in-Err-serve_commit.ran c.in-Err-serve_commit.ensures.serves)
+    (λ w told. commit_breaks g.H.House _ c.in-Ok-Some.session _ _ _ _ c.serve_line.new.desk _ _ (gathered c.serve_commit.new.outbox) commits.2 commits.3 (commits.4 told) c.in-Err-serve_commit.ran c.in-Ok-Some.ensures.goes_on.stopped c.in-Err-serve_commit.ensures.serves)
+    c.serve_line.ensures.seen_end
+    (λ e. ((c.serve_line.ensures.stays e).0, ap g.S.Source.left (c.serve_line.ensures.stays e).1))
+    (λ e. absurd (never_fine_house c.in-Err-serve_commit.ran.ending c.in-Err-serve_commit.ensures.within e))
     (λ told still. subst (λ (text : List ℕ). WritesPart (g.K.Sink.written c.put_due.new.sink) (g.K.Sink.written c.close.new.sink) text) (c.in-Err-serve_commit.ensures.unsaid ∙ commits.3) (c.close.ensures.part told still))
     (λ flushed told. c.close.ensures.flushed flushed told ∙ ap (λ (text : List ℕ). g.K.Sink.written c.put_due.new.sink ++ text) (c.in-Err-serve_commit.ensures.unsaid ∙ commits.3))
 

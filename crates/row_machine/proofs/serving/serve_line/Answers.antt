@@ -9,7 +9,7 @@ pub returns-in-Text-clause-commits : goal.returns-in-Text-clause-commits
 returns-in-Text-clause-commits g c = text_commits g.H.House (g.S.Source.tells c.args.source.now) c.args.desk.now.params c.args.number _ _ _ c.args.desk.now _ _ _ c.text.result.now _ c.serve_text.result c.text.ensures c.in-Text.ensures.line c.serve_text.ensures.commits
 
 pub returns-in-Text-clause-breaks : goal.returns-in-Text-clause-breaks
-returns-in-Text-clause-breaks g c = text_breaks g.H.House (g.S.Source.tells c.args.source.now) c.args.desk.now.params c.args.number _ _ _ c.args.desk.now _ _ _ c.text.result.now _ c.serve_text.result c.text.ensures c.in-Text.ensures.line c.serve_text.ensures.serves
+returns-in-Text-clause-breaks g c = text_breaks g.H.House (g.S.Source.tells c.args.source.now) c.args.desk.now.params c.args.number _ _ _ c.args.desk.now _ _ _ c.text.result.now _ c.serve_text.result c.text.ensures c.in-Text.ensures.stops c.in-Text.ensures.line c.serve_text.ensures.serves
 
 pub returns-in-Text-clause-ended : goal.returns-in-Text-clause-ended
 returns-in-Text-clause-ended g c = ends_within_line c.serve_text.result c.serve_text.ensures.within
@@ -30,7 +30,7 @@ pub returns-in-Long-clause-served : goal.returns-in-Long-clause-served
 returns-in-Long-clause-served g c = long_line g.H.House (g.S.Source.tells c.args.source.now) c.args.desk.now.params c.args.number _ _ _ c.args.desk.now _ _ _ _ c.done.result c.in-Long.ensures.line (long_served g.H.House c.args.number c.args.desk.now _ _ c.done.result c.done.ensures.gathers c.done.ensures.ended)
 
 pub returns-in-Long-clause-breaks : goal.returns-in-Long-clause-breaks
-returns-in-Long-clause-breaks g c = long_breaks g.H.House (g.S.Source.tells c.args.source.now) c.args.desk.now.params c.args.number _ _ _ c.args.desk.now _ _ _ _ c.done.result c.in-Long.ensures.line (long_served g.H.House c.args.number c.args.desk.now _ _ c.done.result c.done.ensures.gathers c.done.ensures.ended)
+returns-in-Long-clause-breaks g c = long_breaks g.H.House (g.S.Source.tells c.args.source.now) c.args.desk.now.params c.args.number _ _ _ c.args.desk.now _ _ _ _ c.done.result c.in-Long.ensures.stops c.in-Long.ensures.line (long_served g.H.House c.args.number c.args.desk.now _ _ c.done.result c.done.ensures.gathers c.done.ensures.ended)
 
 pub returns-in-Long-clause-lasts : goal.returns-in-Long-clause-lasts
 returns-in-Long-clause-lasts g c = bad_lasts g.H.House c.args.number c.args.desk.now _ _ c.done.result c.done.ensures.gathers c.done.ensures.ended
