@@ -1,18 +1,20 @@
 -- What is printed of a sample.
-use Rattle.std.specs.Prelude.{◌≡◌, ℕ, ◌+◌, ◌==◌, if◌then◌else◌, List, [], ◌∷◌, ◌++◌, drop, map, position, unwrap_or, None, ℤ, pos, ◌+ℤ◌, codes}
+use Rattle.std.specs.Prelude.{◌≡◌, ℕ, ◌+◌, ◌^◌, ◌<◌, ◌==◌, if◌then◌else◌, List, [], ◌∷◌, ◌++◌, drop, map, position, None, ℤ, pos, ◌+ℤ◌, codes}
 use Rattle.std.specs.Fmt.{decimal, signed_decimal}
+use Rattle.std.specs.Int.{int_wrap, w128}
 use Rattle.std.specs.List.{slice_split, starts_with}
 use Rattle.std.specs.Option.{option_map_or}
+use Rattle.std.specs.Str.{all_ascii_digits}
+use Rattle.std.specs.Str.Parse.{digits_value}
 use lib.IntN.{neg_ℤ}
 use Rattle.bw_types.specs.History.{History}
 use Rattle.bw_types.specs.declared.params.Params.{Params}
 use Rattle.csv_rows.specs.Machine.{after, text}
-use Rattle.csv_rows.specs.Numbers.{number_of}
 use Rattle.sample_rows.specs.Generator.{commits, rows}
 
--- the number of 63 bits that digits spell, and 0 where they spell none
+-- the number that digits spell, however many they are, and 0 where a byte is no digit
 abbrev pub number_in : List ℕ → ℕ
-number_in digits = unwrap_or (number_of 9223372036854775807 digits) 0
+number_in digits = if all_ascii_digits digits then digits_value 10 digits else 0
 
 -- the number that bytes spell, with a minus sign where it is negative
 abbrev pub value_in : List ℕ → ℤ
@@ -31,7 +33,7 @@ abbrev pub total_of : List ℤ → ℤ
 total_of [] = pos 0
 total_of (number ∷ numbers) = number +ℤ total_of numbers
 
--- the total of the answers to sums in a text of replies; an answer that passes 63 bits counts as 0
+-- the total of the answers to sums in a text of replies
 abbrev pub answers_in : List ℕ → ℤ
 answers_in replies = total_of (map answer_in (slice_split (λ b. b == 10) replies))
 
@@ -59,3 +61,7 @@ sample_history start count = after sample_params [] (rows start count)
 -- what is printed of the sample
 abbrev pub summary : ℕ → ℕ → List ℕ
 summary start count = summary_with count (answers_in (text sample_params [] (rows start count)))
+
+-- the total of a sample's answers has less than 128 bits: modulo 2^128 it is the same
+abbrev pub TotalsAreSmall : Type 0
+TotalsAreSmall = (start count : ℕ) → count < 2 ^ 32 → int_wrap w128 (answers_in (text sample_params [] (rows start count))) ≡ answers_in (text sample_params [] (rows start count))

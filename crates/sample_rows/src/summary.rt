@@ -1,10 +1,11 @@
 //! The summary of a sample.
-ghost use Rattle.std.specs.Prelude.{◌≡◌, ◌==◌, ◌<◌, IfOk, MatchOption, length, pos, position, ◌+ℤ◌};
+ghost use Rattle.std.specs.Prelude.{◌≡◌, ◌==◌, ◌<◌, ◌^◌, ◌%◌, IfOk, MatchOption, length, pos, position, ◌+ℤ◌};
+ghost use Rattle.std.specs.Int.{int_wrap, w128};
+ghost use lib.IntN.{neg_ℤ};
 ghost use Rattle.sample_rows.specs.Summary.{answer_in, answers_in as answers_of, number_in, sample_params as params_of_sample, summary_with, value_after_comma, value_in};
 
 use crate::rows::{NoMemory, commits};
 use bw_types::Params;
-use csv_rows::number;
 use std::alloc::Global;
 
 /// A warehouse of two dimensions without a degree, with the default limits.
@@ -20,22 +21,43 @@ pub fn sample_params() -> Params
     }
 }
 
-// The number of 63 bits that digits spell, and 0 where they spell none.
-fn number_at(digits: &[u8]) -> i64
-    ensures { result ≡ pos (number_in digits.now) }
+// The number that digits spell, modulo `2^128`, and 0 where a byte is no digit.
+fn residue_at(digits: &[u8]) -> u128
+    ensures { result ≡ number_in digits.now % 2 ^ 128 }
 {
-    match number(digits, 9223372036854775807) {
-        Some(value) => value as i64,
-        None => 0,
+    let mut value = 0_u128;
+    for digit in digits {
+        if !digit.is_ascii_digit() {
+            return 0;
+        }
+        value = value
+            .wrapping_mul(10)
+            .wrapping_add(u128::from(*digit - b'0'));
     }
+    value
 }
 
-// The signed number that bytes spell.
-fn value_at(bytes: &[u8]) -> i64
-    ensures { result ≡ value_in bytes.now }
+// The number that digits spell, modulo `2^128`.
+#[tactic(auto, using(crate::proofs::Wrapped::wrapped_number))]
+fn number_at(digits: &[u8]) -> i128
+    ensures { result ≡ int_wrap w128 (pos (number_in digits.now)) }
+{
+    residue_at(digits).cast_signed()
+}
+
+// The opposite of that number, modulo `2^128`.
+fn opposite_at(digits: &[u8]) -> i128
+    ensures { result ≡ int_wrap w128 (neg_ℤ (pos (number_in digits.now))) }
+{
+    number_at(digits).wrapping_neg()
+}
+
+// The signed number that bytes spell, modulo `2^128`.
+fn value_at(bytes: &[u8]) -> i128
+    ensures { result ≡ int_wrap w128 (value_in bytes.now) }
 {
     match bytes {
-        [b'-', digits @ ..] => -number_at(digits),
+        [b'-', digits @ ..] => opposite_at(digits),
         _ => number_at(bytes),
     }
 }
@@ -47,9 +69,9 @@ fn place_of(bytes: &[u8], byte: u8) -> Option<usize>
     bytes.iter().position(|b| *b == byte)
 }
 
-// The number that stands after the first comma, and 0 where there is none.
-fn value_after(bytes: &[u8]) -> i64
-    ensures { result ≡ value_after_comma bytes.now }
+// The number that stands after the first comma, modulo `2^128`, and 0 where there is none.
+fn value_after(bytes: &[u8]) -> i128
+    ensures { result ≡ int_wrap w128 (value_after_comma bytes.now) }
 {
     match place_of(bytes, b',') {
         Some(at) => value_at(&bytes[at + 1..]),
@@ -57,9 +79,9 @@ fn value_after(bytes: &[u8]) -> i64
     }
 }
 
-// The answer that a reply line gives to a sum, and 0 where the line is another.
-fn answer(line: &[u8]) -> i64
-    ensures { result ≡ answer_in line.now }
+// The answer that a reply line gives to a sum, modulo `2^128`, and 0 where the line is another.
+fn answer(line: &[u8]) -> i128
+    ensures { result ≡ int_wrap w128 (answer_in line.now) }
 {
     if line.starts_with(b"sum,") {
         value_after(&line[4..])
@@ -80,17 +102,17 @@ fn cut(replies: &[u8]) -> Option<(&[u8], &[u8])>
     }
 }
 
-/// The total of the answers to sums in a text of replies. An answer that passes 63 bits counts as 0.
+/// The total of the answers to sums in a text of replies, modulo `2^128`.
 pub fn answers_in(replies: &[u8]) -> i128
-    ensures { result ≡ answers_of replies.now }
+    ensures { result ≡ int_wrap w128 (answers_of replies.now) }
 {
     let mut total = 0_i128;
     let mut rest = replies;
     while let Some((line, after)) = cut(rest) {
-        total += i128::from(answer(line));
+        total = total.wrapping_add(answer(line));
         rest = after;
     }
-    total + i128::from(answer(rest))
+    total.wrapping_add(answer(rest))
 }
 
 /// The three lines that are printed of a sample of so many objects with this total.
