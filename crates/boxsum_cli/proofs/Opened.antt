@@ -15,6 +15,7 @@ use Rattle.page_disk.specs.declared.disk.Disk.{Ghosts}
 use Rattle.redo_journal.specs.Gates.{is_empty, gate_of}
 use Rattle.redo_journal.specs.declared.gate.Gate.TheVariants.{Blank, NoJournal, Armed}
 use Rattle.page_space.specs.Faults.{AtBadJournal, AtDamaged, AtEmpty}
+use Rattle.page_space.specs.Opening.{StandsAlike}
 use Rattle.page_space.specs.Settling.{HasNoReplay, IsBadAt}
 use Rattle.page_space.specs.declared.refusal.OpenFault.{OpenFault}
 use Rattle.page_space.specs.declared.refusal.OpenFault.TheVariants as fault
@@ -29,9 +30,10 @@ use Rattle.row_machine.specs.Ended.{AllMayBeServed, SilentLinesKeep}
 use Rattle.row_machine.specs.Housed.{GoesOnFrom, rows_committed}
 use Rattle.row_machine.specs.Runs.{WritesPart}
 use Rattle.row_machine.specs.Serving.{MayServe, NextIsVersion, lines_sum, lines_need, next_rows}
-use Rattle.boxsum_cli.specs.Held.{BeginsWith, HoldsBetween, HoldsFrom, LeavesEach}
+use Rattle.boxsum_cli.specs.Held.{BeginsWith, HoldsBetween, HoldsFrom, IsRefusal, LeavesEach, Refuses}
 use Rattle.boxsum_cli.specs.Runs.{AreReplied, LacksPagesNext, history_by, state_by}
 use Rattle.boxsum_cli.specs.Statuses.{status_of_fault}
+use Rattle.boxsum_cli.specs.declared.status.Ran.{Ran}
 use Rattle.boxsum_cli.specs.declared.status.Status.{Status}
 use Rattle.boxsum_cli.specs.declared.status.Status.TheVariants.{NoWarehouse, DiskFault, NoMemory, Damaged}
 use Rattle.boxsum_cli.specs.declared.status.Status.TheVariants as status
@@ -82,8 +84,30 @@ empty_faults dims x told t e (fault.Damaged page) bad damaged s is = absurd (nev
 empty_faults dims x told t e fault.NoMemory bad damaged s is = inr (inr is)
 empty_faults dims x told t e (fault.BadJournal page) bad damaged s is = absurd (never_bad x page e (bad t))
 
+-- what an opening answers is a cause to refuse
+refusal : (dims : ℕ) (x : Image) (told : Type 0) → told → (f : OpenFault) → AtEmpty f (told → is_empty x ≡ true) → AtBadJournal f (λ page. told → IsBadAt x page)
+    → AtDamaged f (λ page. told → IsDamagedToOpen dims x page) → IsRefusal dims x (status_of_fault f)
+refusal dims x told t fault.Disk empty bad damaged = tt
+refusal dims x told t fault.Empty empty bad damaged = empty t
+refusal dims x told t (fault.Damaged page) empty bad damaged = damaged t
+refusal dims x told t fault.NoMemory empty bad damaged = tt
+refusal dims x told t (fault.BadJournal page) empty bad damaged = bad t
+
 pub empty_is : (f : OpenFault) (P : Type 0) → AtEmpty f P → f ≡ fault.Empty → P
 empty_is f P at is = subst (λ (x : OpenFault). AtEmpty x P) is at
+
+-- a disk that was not opened is refused
+pub refuses : {D : Type 0} (g : Ghosts D) (dims : ℕ) (old : D) (f : OpenFault) (ran : Ran D) → IsTrue (g.tells old) → ran.status ≡ status_of_fault f
+    → AtEmpty f (IsTrue (g.tells old) → is_empty (g.image old) ≡ true) → AtBadJournal f (λ page. IsTrue (g.tells old) → IsBadAt (g.image old) page)
+    → AtDamaged f (λ page. IsTrue (g.tells old) → IsDamagedToOpen dims (g.image old) page)
+    → (f ≢ fault.Disk → IsTrue (g.tells old) → StandsAlike (g.image old) (g.image ran.disk))
+    → (f ≢ fault.Disk → IsTrue (g.tells old) → LeavesNow (g.moments ran.disk) (g.image ran.disk))
+    → Refuses g dims old ran
+refuses g dims old f ran told is empty bad damaged stands left = record {
+  cause = subst (λ (s : Status). IsRefusal dims (g.image old) s) (sym is) (refusal dims (g.image old) (IsTrue (g.tells old)) told f empty bad damaged);
+  stands = λ other. stands (λ e. other (is ∙ ap status_of_fault e)) told;
+  left = λ other x now. inr (left (λ e. other (is ∙ ap status_of_fault e)) told x now);
+}
 
 module _ {D X : Type 0} (g : Ghosts D) (i : IndexGhosts X) where
   -- a run begins with what the disk holds, whole or as far as queries read

@@ -11,7 +11,7 @@ use Rattle.dom_index.specs.declared.index.DomIndex.{Ghosts as IndexGhosts}
 use Rattle.page_warehouse.specs.Holds.{Holds}
 use Rattle.page_warehouse.specs.Needs.{LacksPages}
 use Rattle.row_machine.specs.Housed.{IsVersion, rows_committed}
-use Rattle.row_machine.specs.Serving.{lines_cost}
+use Rattle.row_machine.specs.Serving.{TakesLines, lines_cost}
 use Rattle.boxsum_cli.specs.declared.status.Status.{Status}
 use Rattle.boxsum_cli.specs.declared.status.Status.TheVariants.{WriteFault, DiskFault, ReadFault, InputLimit}
 
@@ -41,14 +41,15 @@ pub record AreReplied (params : Params) (h : History) (input before after : List
   pub cut : lines input ≡ first ++ later
   pub wrote : after ≡ before ++ (replies params 1 (begun h) first ++ more)
 
--- So many reads at most, from so many on: some lines were replied, at most one was begun then, and a query among these may
--- read what it costs.
-pub record ReadsForLines (cost : Params → History → Query → ℕ) (params : Params) (h : History) (input : List ℕ) (status : Status) (told told' : Bool) (before after : List ℕ) (first last : ℕ) : Type 0 where
+-- So many reads at most, from so many on: some lines were replied, at most one was begun then, all of them lines that were taken
+-- from the source, and a query among these may read what it costs.
+pub record ReadsForLines (cost : Params → History → Query → ℕ) (params : Params) (h : History) (still : Bool) (input left : List ℕ) (status : Status) (told told' : Bool) (before after : List ℕ) (first last : ℕ) : Type 0 where
   pub replied : List (List ℕ)
   pub begins : List (List ℕ)
   pub rest : List (List ℕ)
   pub cut : lines input ≡ replied ++ (begins ++ rest)
   pub one : length begins ≤ 1
+  pub read : IsTrue still → TakesLines input left (replied ++ begins)
   pub wrote : status ≢ WriteFault → status ≢ DiskFault → IsTrue told → IsTrue told' → after ≡ before ++ replies params 1 (begun h) replied
   pub most : last ≤ first + lines_cost cost params 1 (begun h) (replied ++ begins)
 

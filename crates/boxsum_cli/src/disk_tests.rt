@@ -205,14 +205,26 @@ fn runs_on_a_disk(rt: HostRuntime) -> Result<(), Fail> {
     Ok(())
 }
 
-// Adds of so many boxes, all alike, a commit, and a count of them.
+// Adds of so many boxes, all alike, with ids from 1, a commit, and a count of them.
 pub(crate) fn many_adds(alloc: Global, count: u32) -> Result<String, Fail> {
     let mut input = String::new(alloc);
-    for id in 0..count {
+    for id in 1..count.saturating_add(1) {
         input.push_str(format!(in alloc; "add,1,{id},5,5,5,5,1\n")?.as_str())?;
     }
     input.push_str("commit,1\ncount,now,5,5,5,5\n")?;
     Ok(input)
+}
+
+#[test]
+fn a_warehouse_with_a_version_is_not_made_anew(rt: HostRuntime) -> Result<(), Fail> {
+    let alloc = rt.alloc();
+    let (ran, _) = run_over(alloc, "run", TOUCHING.as_bytes(), new_warehouse(alloc)?)?;
+    assert_eq!(rt; ran.status, Status::Fine);
+    let (ran, sink) = run_over(alloc, "create 1", b"", ran.disk)?;
+    assert_eq!(rt; ran.status, Status::AlreadyThere);
+    assert_eq!(rt; sink.bytes(), b"".as_slice());
+    assert_eq!(rt; has_batch(alloc, ran.disk)?, Some(true));
+    Ok(())
 }
 
 #[test]

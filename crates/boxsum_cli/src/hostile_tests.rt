@@ -2,14 +2,14 @@
 
 use crate::disk_tests::{TOUCHING, has_batch, many_adds};
 use crate::status::{Ran, Status};
-use crate::tests::{new_warehouse, run_over};
+use crate::tests::{failing_run, new_warehouse, run_over};
 use page_disk::{Area, Disk, MemDisk, Torn};
 use page_ports::{Page, blank_page};
 use std::alloc::Global;
 use std::test::Fail;
 
 // The pages of an area, as they read.
-fn pages_of(alloc: Global, disk: &mut MemDisk, area: Area) -> Result<Vec<Page>, Fail> {
+pub(crate) fn pages_of(alloc: Global, disk: &mut MemDisk, area: Area) -> Result<Vec<Page>, Fail> {
     let mut pages = Vec::new(alloc);
     let count = disk.len(area).unwrap_or(0);
     for page in 0..count {
@@ -190,7 +190,6 @@ fn an_opening_that_is_stopped(rt: HostRuntime) -> Result<(), Fail> {
     Ok(())
 }
 
-// Every fifth call, so that the test ends soon.
 #[test]
 fn calls_of_a_great_commit_fail(rt: HostRuntime) -> Result<(), Fail> {
     let alloc = rt.alloc();
@@ -201,23 +200,18 @@ fn calls_of_a_great_commit_fail(rt: HostRuntime) -> Result<(), Fail> {
     assert_eq!(rt; ran.status, Status::Fine);
     let all = ran.disk.calls().saturating_sub(before);
     assert!(rt; all < 1000);
-    for step in 0..all / 5 + 1 {
+    for call in 1..all + 1 {
         let (ran, _) = run_over(alloc, "create 2", b"", MemDisk::blank(alloc))?;
-        let mut disk = ran.disk;
-        let mut calls = Vec::new(alloc);
-        calls.push(step * 5 + 1)?;
-        disk.fail_at(calls);
-        let (ran, _) = run_over(alloc, "run", input.as_bytes(), disk)?;
-        if step * 5 < all {
-            assert_eq!(rt; ran.status, Status::DiskFault, "step {step}");
-            assert_eq!(rt; ran.disk.faults(), 1, "step {step}");
-        }
+        let ended = failing_run(alloc, "run", input.as_bytes(), ran.disk, call)?;
+        let Ran { status, disk } = ended;
+        assert_eq!(rt; status, Status::DiskFault, "call {call}");
+        assert_eq!(rt; disk.faults(), 1, "call {call}");
         // Version 0 or 1 is there whole.
-        let (ran, sink) = run_over(alloc, "run", b"count,now,5,5,5,5", ran.disk)?;
-        assert_eq!(rt; ran.status, Status::Fine);
+        let (ran, sink) = run_over(alloc, "run", b"count,now,5,5,5,5", disk)?;
+        assert_eq!(rt; ran.status, Status::Fine, "call {call}");
         let before = sink.bytes() == b"count,0,0\n".as_slice();
         let after = sink.bytes() == b"count,1,65\n".as_slice();
-        assert!(rt; before || after, "step {step}");
+        assert!(rt; before || after, "call {call}");
     }
     Ok(())
 }

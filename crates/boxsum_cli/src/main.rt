@@ -8,6 +8,8 @@
 #[cfg(test)]
 mod disk_tests;
 #[cfg(test)]
+mod earlier_tests;
+#[cfg(test)]
 mod great_tests;
 #[cfg(test)]
 mod hostile_tests;

@@ -22,7 +22,7 @@ ghost use Rattle.sample_rows.specs.Generator.{rows};
 ghost use Rattle.sample_rows.specs.Summary.{WritesSummary, sample_history, sample_params, summary};
 ghost use Rattle.boxsum_cli.specs.Built.{built_command, makes};
 ghost use Rattle.boxsum_cli.specs.Ends.{ends_run, ends_scratch, may_end};
-ghost use Rattle.boxsum_cli.specs.Held.{BeginsWith, CommitsNothing, HoldsBetween, HoldsFrom, HoldsSurely, IsEmptyOrHolds, IsEmptyOrPart, LeavesEach, MakesAndLoads, StaysAsRead, charge_in};
+ghost use Rattle.boxsum_cli.specs.Held.{BeginsWith, CommitsNothing, HoldsBetween, HoldsFrom, HoldsSurely, IsEmptyOrHolds, IsEmptyOrPart, IsNoWarehouse, LeavesEach, MakesAndLoads, Refuses, StaysAsRead, charge_in};
 ghost use Rattle.boxsum_cli.specs.Runs.{AreReplied, IsInputStatus, LacksPagesAmid, LacksPagesNext, ReadsForLines, WritesWholeLines, history_by};
 
 use crate::index::Index;
@@ -120,6 +120,10 @@ pub fn run<D: Disk + Drop, S: Source, K: Sink>(
     ensures none_only { result.status ≡ Status.NoWarehouse → IsTrue (D.tells disk) → is_empty (D.image disk) ≡ true }
     ensures none_untouched { built_command (map string_bytes words.now) ≡ Some Command.Run →
         IsTrue (D.tells disk) → is_empty (D.image disk) ≡ true → (source.new ≡ source.old) × (sink.new ≡ sink.old) }
+    // Nor where what is there is none.
+    ensures refused { built_command (map string_bytes words.now) ≡ Some Command.Run →
+        IsTrue (D.tells disk) → IsNoWarehouse ⟦<Index as DomIndex>⟧.DIMS (D.image disk) →
+        (source.new ≡ source.old) × (sink.new ≡ sink.old) × Refuses D.Disk ⟦<Index as DomIndex>⟧.DIMS disk result }
 
     // The whole text is written, and the input is read to its end.
     ensures fine { (params : Params) (h : History) →
@@ -181,7 +185,7 @@ pub fn run<D: Disk + Drop, S: Source, K: Sink>(
     ensures reads { (params : Params) (h : History) → built_command (map string_bytes words.now) ≡ Some Command.Run →
         HoldsHistory D.Disk ⟦<Index as DomIndex>⟧ false disk params h →
         IsTrue (S.tells source.old) → CommitsNothing params (S.left source.old) →
-        ReadsForLines (query_cost ⟦<Index as DomIndex>⟧.cost) params h (S.left source.old) result.status (K.tells sink.old) (K.tells sink.new) (K.written sink.old) (K.written sink.new)
+        ReadsForLines (query_cost ⟦<Index as DomIndex>⟧.cost) params h (S.tells source.new) (S.left source.old) (S.left source.new) result.status (K.tells sink.old) (K.tells sink.new) (K.written sink.old) (K.written sink.new)
         (D.reads disk + 4 + replay_reads (D.image disk)) (D.reads result.disk) }
 
     // The cause of each status.
@@ -286,6 +290,8 @@ pub(crate) fn run_on<X: DomIndex + Drop, D: Disk + Drop, S: Source, K: Sink>(
         × ((result.status ≡ Status.NoWarehouse) ⊎ ((result.status ≡ Status.DiskFault) ⊎ (result.status ≡ Status.NoMemory))) }
     ensures none_only { result.status ≡ Status.NoWarehouse → IsTrue (D.tells disk) → is_empty (D.image disk) ≡ true }
     ensures none_untouched { IsTrue (D.tells disk) → is_empty (D.image disk) ≡ true → (source.new ≡ source.old) × (sink.new ≡ sink.old) }
+    ensures refused { IsTrue (D.tells disk) → IsNoWarehouse X.DIMS (D.image disk) →
+        (source.new ≡ source.old) × (sink.new ≡ sink.old) × Refuses D.Disk X.DIMS disk result }
     ensures fine { (params : Params) (h : History) →
         BeginsWith D.Disk X.DomIndex (Some Command.Run) disk (S.tells source.old) (S.left source.old) params h →
         result.status ≡ Status.Fine → IsTrue (S.tells source.old) → IsTrue (K.tells sink.old) →
@@ -335,7 +341,7 @@ pub(crate) fn run_on<X: DomIndex + Drop, D: Disk + Drop, S: Source, K: Sink>(
     ensures reads { (params : Params) (h : History) →
         HoldsHistory D.Disk X.DomIndex false disk params h →
         IsTrue (S.tells source.old) → CommitsNothing params (S.left source.old) →
-        ReadsForLines (query_cost X.DomIndex.cost) params h (S.left source.old) result.status (K.tells sink.old) (K.tells sink.new) (K.written sink.old) (K.written sink.new)
+        ReadsForLines (query_cost X.DomIndex.cost) params h (S.tells source.new) (S.left source.old) (S.left source.new) result.status (K.tells sink.old) (K.tells sink.new) (K.written sink.old) (K.written sink.new)
         (D.reads disk + 4 + replay_reads (D.image disk)) (D.reads result.disk) }
     ensures read_fault { result.status ≡ Status.ReadFault → Rose (S.faults source.old) (S.faults source.new) }
     ensures write_fault { result.status ≡ Status.WriteFault → Rose (K.faults sink.old) (K.faults sink.new) }

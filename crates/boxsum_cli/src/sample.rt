@@ -1,5 +1,6 @@
 //! `sample`: a warehouse that is loaded with rows that are drawn, and the summary of what they are answered.
 ghost use Rattle.std.specs.Prelude.{◌≡◌, ◌≢◌, ℕ, ◌+◌, ◌≤◌, ◌++◌, ◌⊎◌, [], true, false, IsTrue};
+ghost use Rattle.std.specs.Int.{int_wrap, w128};
 ghost use Rattle.counts.specs.Count.{Rose};
 ghost use Rattle.line_reader.specs.Lines.{lines};
 ghost use Rattle.csv_rows.specs.Machine.{after, begun, text as text_of};
@@ -24,7 +25,7 @@ use crate::status::{Ran, Status};
 use byte_ports::{MemSink, MemSource, Sink};
 use dom_index::DomIndex;
 use page_disk::{Area, Disk};
-use sample_rows::{answers_in, sample_params, sample_summary, sample_text};
+use sample_rows::{answers_in, sample_laws, sample_params, sample_summary, sample_text};
 use std::alloc::Global;
 
 /// How many bytes of the rows are handed on at a time.
@@ -72,6 +73,7 @@ pub(crate) fn sample_on<X: DomIndex + Drop, D: Disk + Drop, K: Sink>(
             disk,
         };
     };
+    sample_laws();
     let made = create_on::<X, D>(disk, &sample_params());
     match made.status {
         Status::Fine => load::<X, D, K>(alloc, made.disk, text, count, sink),
@@ -89,11 +91,11 @@ fn load<X: DomIndex + Drop, D: Disk + Drop, K: Sink>(
 ) -> Ran<D>
     ensures may_end { IsTrue (ends_sample result.status) × (result.status ≢ Status.AlreadyThere) }
     ensures fine { HoldsHistory D.Disk X.DomIndex true disk params_of_sample [] → result.status ≡ Status.Fine → IsTrue (K.tells sink.old) →
-        IsTrue (K.tells sink.new) × (K.written sink.new ≡ K.written sink.old ++ summary_with count (answers_of (text_of params_of_sample [] text.items))) }
+        IsTrue (K.tells sink.new) × (K.written sink.new ≡ K.written sink.old ++ summary_with count (int_wrap w128 (answers_of (text_of params_of_sample [] text.items)))) }
     ensures kept { HoldsHistory D.Disk X.DomIndex true disk params_of_sample [] → result.status ≡ Status.Fine →
         HoldsSurely D.Disk X.DomIndex params_of_sample (after params_of_sample [] text.items) result.disk }
     ensures part { HoldsHistory D.Disk X.DomIndex true disk params_of_sample [] → IsTrue (K.tells sink.old) → IsTrue (K.tells sink.new) →
-        WritesPart (K.written sink.old) (K.written sink.new) (summary_with count (answers_of (text_of params_of_sample [] text.items))) }
+        WritesPart (K.written sink.old) (K.written sink.new) (summary_with count (int_wrap w128 (answers_of (text_of params_of_sample [] text.items)))) }
     ensures crashes { HoldsHistory D.Disk X.DomIndex true disk params_of_sample [] →
         LeavesOnly (HoldsBetween X.DomIndex params_of_sample [] (after params_of_sample [] text.items)) (D.moments disk) (D.moments result.disk) }
     ensures silent { result.status ≢ Status.Fine → result.status ≢ Status.WriteFault → sink.new ≡ sink.old }
@@ -130,9 +132,9 @@ fn load<X: DomIndex + Drop, D: Disk + Drop, K: Sink>(
 fn put_summary<K: Sink>(alloc: Global, count: u32, replies: &[u8], sink: &mut K) -> Status
     ensures may_end { (result ≡ Status.Fine) ⊎ ((result ≡ Status.WriteFault) ⊎ (result ≡ Status.NoMemory)) }
     ensures fine { result ≡ Status.Fine → IsTrue (K.tells sink.old) →
-        IsTrue (K.tells sink.new) × (K.written sink.new ≡ K.written sink.old ++ summary_with count (answers_of replies.now)) }
+        IsTrue (K.tells sink.new) × (K.written sink.new ≡ K.written sink.old ++ summary_with count (int_wrap w128 (answers_of replies.now))) }
     ensures part { IsTrue (K.tells sink.old) → IsTrue (K.tells sink.new) →
-        WritesPart (K.written sink.old) (K.written sink.new) (summary_with count (answers_of replies.now)) }
+        WritesPart (K.written sink.old) (K.written sink.new) (summary_with count (int_wrap w128 (answers_of replies.now))) }
     ensures silent { result ≡ Status.NoMemory → sink.new ≡ sink.old }
     ensures write_fault { result ≡ Status.WriteFault → Rose (K.faults sink.old) (K.faults sink.new) }
 {

@@ -10,10 +10,10 @@ use page_ports::blank_page;
 use std::alloc::Global;
 use std::test::Fail;
 
-// What a run is tried on: what it shows, the words, the input, and the text that is written.
+// What a run is tried on: what it shows, the words that say which warehouse it is, the input, and the text that is written.
 struct Case {
     shows: &'static str,
-    words: &'static str,
+    params: &'static str,
     input: &'static str,
     text: &'static str,
 }
@@ -21,163 +21,163 @@ struct Case {
 const CASES: [Case; 27] = [
     Case {
         shows: "touching boxes",
-        words: "scratch 1",
+        params: "1",
         input: "add,1,1,2,5,10\nadd,1,2,5,9,7\ncommit,1\nsum,1,5,5\n",
         text: "version,1\nsum,1,17\n",
     },
     Case {
         shows: "one box alone, none, and a query that begins at 0",
-        words: "scratch 1",
+        params: "1",
         input: "add,1,1,2,5,10\nadd,1,2,5,9,7\ncommit,1\nsum,now,6,6\nsum,now,0,1\nsum,now,0,5\n",
         text: "version,1\nsum,1,7\nsum,1,0\nsum,1,17\n",
     },
     Case {
         shows: "a withdrawal leaves past versions",
-        words: "scratch 1",
+        params: "1",
         input: "add,1,1,2,5,10\nadd,1,2,5,9,7\ncommit,1\nwithdraw,1,1\ncommit,1\nsum,1,5,5\nsum,2,5,5\ncount,2,0,9\nsum,0,0,4294967294\nsum,9,0,1\n",
         text: "version,1\nversion,2\nsum,1,17\nsum,2,7\ncount,2,1\nsum,0,0\nnoversion,10\n",
     },
     Case {
         shows: "an empty input",
-        words: "scratch 1",
+        params: "1",
         input: "",
         text: "",
     },
     Case {
         shows: "an empty batch",
-        words: "scratch 1",
+        params: "1",
         input: "commit,1\n",
         text: "version,1\n",
     },
     Case {
         shows: "bad lines, and none of them counts",
-        words: "scratch 1",
+        params: "1",
         input: "add,1,1,6,5,1\nadd,1,1,0,4294967295,1\n\ntotal,1\nadd,17,1,0,1,1\nintegral,now,0,1\ncommit,1\ncount,now,0,4294967294\n",
         text: "bad,1\nbad,2\nbad,3\nbad,4\nbad,5\nbad,6\nversion,1\ncount,1,0\n",
     },
     Case {
         shows: "an integral of a square",
-        words: "scratch 1 --degree 2",
+        params: "1 --degree 2",
         input: "add,1,1,0,3,1,0,0,1\ncommit,1\nintegral,now,1,2\n",
         text: "version,1\nintegral,1,14\n",
     },
     Case {
         shows: "an integral in two dimensions",
-        words: "scratch 2 --degree=1",
+        params: "2 --degree=1",
         input: "add,1,1,0,2,0,2,1,0,0,0,1\ncommit,1\nintegral,now,1,2,0,1\n",
         text: "version,1\nintegral,1,27\n",
     },
     Case {
         shows: "terms past 128 bits that cancel",
-        words: "scratch 3 --degree 2",
+        params: "3 --degree 2",
         input: "add,1,1,0,1,0,1,0,1,1,0,0,0,0,0,0,0,0,0,0,0,0,0,0,0,0,0,0,0,0,0,0,0,0,0,0,1\ncommit,1\nintegral,now,0,4294967294,0,4294967294,0,4294967294\n",
         text: "version,1\nintegral,1,8\n",
     },
     Case {
         shows: "a mass of one object that is too great",
-        words: "scratch 3 --degree 2",
+        params: "3 --degree 2",
         input: "add,1,1,0,4294967294,0,4294967294,0,4294967294,1,0,0,0,0,0,0,0,0,0,0,0,0,0,0,0,0,0,0,0,0,0,0,0,0,0,0,1\ncommit,1\n",
         text: "refused,1,mass\n",
     },
     Case {
         shows: "masses up to the limit",
-        words: "scratch 1 --degree 2",
+        params: "1 --degree 2",
         input: "add,1,1,0,2147483648,0,0,0,4294967295\nadd,1,2,0,1048576,0,0,0,8589934591\nadd,1,3,0,1,0,0,1,1152921504606846974\ncommit,1\nadd,1,4,0,1,0,0,0,1\ncommit,1\n",
         text: "version,1\nrefused,1,mass\n",
     },
     Case {
         shows: "masses that reach the limit exactly",
-        words: "scratch 1 --degree 2",
+        params: "1 --degree 2",
         input: "add,1,1,0,2147483648,0,0,0,4294967295\nadd,1,2,0,1048576,0,0,0,8589934591\nadd,1,3,0,1,0,0,0,1152921504606846975\ncommit,1\nadd,1,4,0,1,0,0,0,1\ncommit,1\n",
         text: "version,1\nrefused,1,mass\n",
     },
     Case {
         shows: "each refusal of ids",
-        words: "scratch 1",
+        params: "1",
         input: "add,1,1,0,9,5\ncommit,1\nadd,1,2,0,9,1\nadd,1,1,3,4,1\ncommit,1\nsum,now,0,9\nadd,1,3,0,1,1\nwithdraw,1,3\ncommit,1\nwithdraw,1,8\ncommit,1\nwithdraw,1,1\ncommit,1\nwithdraw,1,1\ncommit,1\nadd,1,1,0,9,5\ncommit,1\n",
         text: "version,1\nrefused,2,used\nsum,1,5\nrefused,2,fresh\nrefused,1,unknown\nversion,2\nrefused,1,gone\nversion,3\n",
     },
     Case {
         shows: "the limit on events",
-        words: "scratch 1 --events 3",
+        params: "1 --events 3",
         input: "add,1,1,0,1,1\ncommit,1\nadd,1,2,0,1,1\ncommit,1\ncommit,1\ncommit,1\n",
         text: "version,1\nrefused,0,events\nversion,2\nrefused,0,events\n",
     },
     Case {
         shows: "a move is two events",
-        words: "scratch 1 --events 4",
+        params: "1 --events 4",
         input: "add,1,1,0,1,1\ncommit,1\nmove,1,1,0,1,1\ncommit,1\n",
         text: "version,1\nrefused,0,events\n",
     },
     Case {
         shows: "sessions do not see each other",
-        words: "scratch 1",
+        params: "1",
         input: "add,1,1,0,9,5\nadd,2,1,0,9,6\nsum,now,0,9\ncommit,1\nsum,now,0,9\ncommit,2\nsum,now,0,9\n",
         text: "sum,0,0\nversion,1\nsum,1,5\nrefused,1,used\nsum,1,5\n",
     },
     Case {
         shows: "quotes and carriage returns",
-        words: "scratch 2 --degree 0",
+        params: "2 --degree 0",
         input: "\"add\",1,\"501\",100,149,200,259,1,7\r\n\"commit\",1\r\n\"integral\",now,120,139,190,209\r\nsum,now,120,139,190,209",
         text: "version,1\nintegral,1,43092\nsum,1,1\n",
     },
     Case {
         shows: "a drop forgets",
-        words: "scratch 1",
+        params: "1",
         input: "add,2,1,0,1,1\ndrop,2\ncommit,2\ndrop,0016\n",
         text: "dropped,2\nversion,1\ndropped,16\n",
     },
     Case {
         shows: "an id twice in one batch",
-        words: "scratch 1",
+        params: "1",
         input: "add,1,7,0,1,1\nadd,1,7,0,1,1\ncommit,1\nsum,now,0,9\n",
         text: "refused,2,used\nsum,0,0\n",
     },
     Case {
         shows: "a drop of nothing, a version that is not there yet, and a box beside",
-        words: "scratch 1",
+        params: "1",
         input: "add,1,1,2,5,10\ndrop,1\ncommit,1\nsum,2,5,5\nsum,1,6,9\n",
         text: "dropped,1\nversion,1\nnoversion,4\nsum,1,0\n",
     },
     Case {
         shows: "signed coordinates",
-        words: "scratch 1 --degree 2 --signed 1",
+        params: "1 --degree 2 --signed 1",
         input: "add,1,1,-3,2,5,0,1,0\ncommit,1\nintegral,now,-2,1\nsum,now,-9,-3\nsum,now,-9,-4\n",
         text: "version,1\nintegral,1,-9\nsum,1,5\nsum,1,0\n",
     },
     Case {
         shows: "the ends of signed coordinates",
-        words: "scratch 1 --signed 1",
+        params: "1 --signed 1",
         input: "add,1,1,-2147483647,2147483646,1\nadd,1,2,-2147483648,0,1\nadd,1,3,0,2147483647,1\ncommit,1\nsum,now,-2147483647,-2147483647\nsum,now,2147483646,2147483646\n",
         text: "bad,2\nbad,3\nversion,1\nsum,1,1\nsum,1,1\n",
     },
     Case {
         shows: "no sign in a plain warehouse",
-        words: "scratch 1",
+        params: "1",
         input: "add,1,1,-1,1,1\n",
         text: "bad,1\n",
     },
     Case {
         shows: "a move, a withdrawal and a new life",
-        words: "scratch 1",
+        params: "1",
         input: "add,1,1,0,9,5\ncommit,1\nmove,1,1,20,29,5\ncommit,1\nwithdraw,1,1\ncommit,1\nadd,1,1,0,9,7\ncommit,1\nsum,1,0,9\nsum,2,0,9\nsum,2,25,25\nsum,3,0,99\nsum,4,0,9\nwithdraw,1,1\nadd,1,1,0,1,3\nwithdraw,1,1\ncommit,1\nmove,1,2,0,1,1\ncommit,1\nwithdraw,1,1\nadd,1,1,0,1,3\ncommit,1\nsum,now,0,9\n",
         text: "version,1\nversion,2\nversion,3\nversion,4\nsum,1,5\nsum,2,0\nsum,2,5\nsum,3,0\nsum,4,7\nrefused,3,fresh\nrefused,1,unknown\nversion,5\nsum,5,3\n",
     },
     Case {
         shows: "boxes in three dimensions that touch at a corner",
-        words: "scratch 3",
+        params: "3",
         input: "add,1,1,0,2,0,2,0,2,4\nadd,1,2,2,4,2,4,2,4,5\ncommit,1\nsum,now,2,2,2,2,2,2\nsum,now,3,9,0,9,0,9\ncount,now,0,1,0,1,3,9\n",
         text: "version,1\nsum,1,9\nsum,1,5\ncount,1,0\n",
     },
     Case {
         shows: "too few fields and no line end",
-        words: "scratch 1",
+        params: "1",
         input: "add,1,1,2",
         text: "bad,1\n",
     },
     Case {
         shows: "bytes that are no text of the grammar",
-        words: "scratch 1",
+        params: "1",
         input: "\u{feff}commit,1\n\0\nadd,1,\u{e9},0,1,1\nadd,1,1,0,1,1\rX\ncommit,1\n\r",
         text: "bad,1\nbad,2\nbad,3\nbad,4\nversion,1\nbad,6\n",
     },
@@ -215,16 +215,17 @@ pub(crate) fn words_of(alloc: Global, words: &str) -> Result<Vec<String>, Fail> 
     Ok(list)
 }
 
-// Runs the words on an input that comes in pieces and may fail at a take, with a sink that may fail
-// at a put, both counted from 1. What is written is left in the sink.
-fn run_on(
+// Runs the words over a disk, on an input that comes in pieces and may fail at a take, with a sink that may fail at a
+// put, both counted from 1. What is written is left in the sink.
+fn run_pieces<D: Disk + Drop>(
     alloc: Global,
     words: &str,
     input: &[u8],
     piece: usize,
     failing_take: Option<u64>,
     failing_put: Option<u64>,
-) -> Result<(Status, MemSink), Fail>
+    disk: D,
+) -> Result<(Ran<D>, MemSink), Fail>
     requires { 0 < piece }
 {
     let list = words_of(alloc, words)?;
@@ -238,8 +239,23 @@ fn run_on(
     }
     let mut source = MemSource::new(Vec::from_slice(alloc, input)?, piece, takes);
     let mut sink = MemSink::new(alloc, puts);
-    let disk = PlainDisk::blank(alloc);
     let ran = run(alloc, list.as_slice(), disk, &mut source, &mut sink);
+    Ok((ran, sink))
+}
+
+// Runs the words over a blank disk, as `run_pieces` does.
+fn run_on(
+    alloc: Global,
+    words: &str,
+    input: &[u8],
+    piece: usize,
+    failing_take: Option<u64>,
+    failing_put: Option<u64>,
+) -> Result<(Status, MemSink), Fail>
+    requires { 0 < piece }
+{
+    let disk = PlainDisk::blank(alloc);
+    let (ran, sink) = run_pieces(alloc, words, input, piece, failing_take, failing_put, disk)?;
     Ok((ran.status, sink))
 }
 
@@ -250,11 +266,28 @@ pub(crate) fn run_over<D: Disk + Drop>(
     input: &[u8],
     disk: D,
 ) -> Result<(Ran<D>, MemSink), Fail> {
-    let list = words_of(alloc, words)?;
-    let mut source = MemSource::new(Vec::from_slice(alloc, input)?, 4096, Vec::new(alloc));
-    let mut sink = MemSink::new(alloc, Vec::new(alloc));
-    let ran = run(alloc, list.as_slice(), disk, &mut source, &mut sink);
-    Ok((ran, sink))
+    run_pieces(alloc, words, input, 4096, None, None, disk)
+}
+
+// Whether rows that come in such pieces are answered by this text, in memory and on a disk.
+fn answers_with(
+    alloc: Global,
+    params: &str,
+    input: &[u8],
+    piece: usize,
+    text: &[u8],
+) -> Result<bool, Fail>
+    requires { 0 < piece }
+{
+    let words = format!(in alloc; "scratch {params}")?;
+    let (status, sink) = run_on(alloc, words.as_str(), input, piece, None, None)?;
+    if status != Status::Fine || sink.bytes() != text {
+        return Ok(false);
+    }
+    let words = format!(in alloc; "create {params}")?;
+    let (ran, _) = run_over(alloc, words.as_str(), b"", PlainDisk::blank(alloc))?;
+    let (ran, sink) = run_pieces(alloc, "run", input, piece, None, None, ran.disk)?;
+    Ok(ran.status == Status::Fine && sink.bytes() == text)
 }
 
 // A further run over the disk that the one before left; `create` begins with a new disk.
@@ -299,16 +332,14 @@ pub(crate) fn new_warehouse(alloc: Global) -> Result<MemDisk, Fail> {
 fn whole_inputs(rt: HostRuntime) -> Result<(), Fail> {
     for case in CASES.iter() {
         for piece in [1, 2, 7, 20, 4096] {
-            let (status, sink) = run_on(
+            let right = answers_with(
                 rt.alloc(),
-                case.words,
+                case.params,
                 case.input.as_bytes(),
                 piece,
-                None,
-                None,
+                case.text.as_bytes(),
             )?;
-            assert_eq!(rt; status, Status::Fine, "{}", case.shows);
-            assert_eq!(rt; sink.bytes(), case.text.as_bytes(), "{}", case.shows);
+            assert!(rt; right, "{}", case.shows);
         }
     }
     Ok(())
@@ -333,12 +364,8 @@ fn a_session_is_full(rt: HostRuntime) -> Result<(), Fail> {
         input.push_str(format!(in rt.alloc(); "add,3,{id},0,0,1\n")?.as_str())?;
     }
     input.push_str("commit,3\ncount,now,0,0\n")?;
-    let (status, sink) = run_on(rt.alloc(), "scratch 1", input.as_bytes(), 8192, None, None)?;
-    assert_eq!(rt; status, Status::Fine);
-    assert_eq!(rt;
-        sink.bytes(),
-        b"full,4097\nversion,1\ncount,1,4096\n".as_slice()
-    );
+    let text = b"full,4097\nversion,1\ncount,1,4096\n";
+    assert!(rt; answers_with(rt.alloc(), "1", input.as_bytes(), 8192, text)?);
     Ok(())
 }
 
@@ -365,9 +392,8 @@ fn long_lines_are_bad(rt: HostRuntime) -> Result<(), Fail> {
     for (byte, len, rows, text) in cases {
         let input = after_a_line(rt.alloc(), byte, len, rows)?;
         for piece in [1, 1000, 16384] {
-            let (status, sink) = run_on(rt.alloc(), "scratch 1", &input, piece, None, None)?;
-            assert_eq!(rt; status, Status::Fine, "{len} bytes in pieces of {piece}");
-            assert_eq!(rt; sink.bytes(), text, "{len} bytes in pieces of {piece}");
+            let right = answers_with(rt.alloc(), "1", &input, piece, text)?;
+            assert!(rt; right, "{len} bytes in pieces of {piece}");
         }
     }
     Ok(())
@@ -418,6 +444,12 @@ fn the_output_fails(rt: HostRuntime) -> Result<(), Fail> {
     for (piece, call, part) in parts {
         let (status, sink) = run_on(rt.alloc(), "scratch 1", input, piece, None, Some(call))?;
         assert_eq!(rt; status, Status::WriteFault);
+        assert_eq!(rt; sink.bytes(), part.as_bytes());
+        assert_eq!(rt; sink.faults(), 1);
+        // On a disk too.
+        let disk = new_warehouse(rt.alloc())?;
+        let (ran, sink) = run_pieces(rt.alloc(), "run", input, piece, None, Some(call), disk)?;
+        assert_eq!(rt; ran.status, Status::WriteFault);
         assert_eq!(rt; sink.bytes(), part.as_bytes());
         assert_eq!(rt; sink.faults(), 1);
     }
@@ -585,6 +617,22 @@ fn rows_in_memory_leave_the_disk(rt: HostRuntime) -> Result<(), Fail> {
     Ok(())
 }
 
+// What is left of the words where this call on the disk fails.
+pub(crate) fn failing_run(
+    alloc: Global,
+    words: &str,
+    input: &[u8],
+    disk: MemDisk,
+    call: u64,
+) -> Result<Ran<MemDisk>, Fail> {
+    let mut disk = disk;
+    let mut calls = Vec::new(alloc);
+    calls.push(call)?;
+    disk.fail_at(calls);
+    let (ran, _) = run_over(alloc, words, input, disk)?;
+    Ok(ran)
+}
+
 // The status of the words where this call on the disk fails, and how often the disk failed.
 pub(crate) fn failing_at(
     alloc: Global,
@@ -593,11 +641,7 @@ pub(crate) fn failing_at(
     disk: MemDisk,
     call: u64,
 ) -> Result<(Status, u64), Fail> {
-    let mut disk = disk;
-    let mut calls = Vec::new(alloc);
-    calls.push(call)?;
-    disk.fail_at(calls);
-    let (ran, _) = run_over(alloc, words, input, disk)?;
+    let ran = failing_run(alloc, words, input, disk, call)?;
     Ok((ran.status, ran.disk.faults()))
 }
 

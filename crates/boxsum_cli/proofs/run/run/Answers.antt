@@ -1,4 +1,4 @@
-use Rattle.std.proofs.Common.{◌≡◌, IsTrue, [], ◌++◌, map, string_bytes, inr, refl, sym, arith}
+use Rattle.std.proofs.Common.{◌≡◌, IsTrue, [], ◌++◌, map, string_bytes, inl, inr, refl, sym, arith}
 use Rattle.std.proofs.lemmas.List.{append-nil}
 use Rattle.line_reader.specs.Lines.{lines}
 use Rattle.csv_rows.specs.Machine.{after, text}
@@ -9,6 +9,13 @@ use Rattle.sample_rows.specs.Summary.{summary}
 use Rattle.boxsum_cli.proofs.Opened.{between_by, between_here, nothing_replied, writes_nothing}
 use Rattle.boxsum_cli.proofs.Sampling.{no_summary}
 use Rattle.boxsum_cli.proofs.run.run.Goals as goal
+
+pub returns-in-Err-NoMemory-clause-refused : goal.returns-in-Err-NoMemory-clause-refused
+returns-in-Err-NoMemory-clause-refused g c = λ asked told none. (
+  refl,
+  refl,
+  record { cause = tt; stands = λ other pages settled. settled; left = λ other x now. inl now },
+)
 
 pub returns-in-Ok-Run-clause-fine : goal.returns-in-Ok-Run-clause-fine
 returns-in-Ok-Run-clause-fine g c = λ params h b.
@@ -106,6 +113,7 @@ returns-in-Err-NoMemory-clause-reads g c = λ params h asked held told may.
       rest = lines (g.S.Source.left c.args.source.now);
       cut = refl;
       one = omega arith;
+      read = λ still. record { taken = []; more = []; cut = refl; begins = refl };
       wrote = λ sink disk tells still. sym (append-nil (g.K.Sink.written c.args.sink.now));
       most = omega arith;
     }

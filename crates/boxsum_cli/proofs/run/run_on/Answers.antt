@@ -5,7 +5,7 @@ use Rattle.line_reader.specs.Lines.{lines, whole_part}
 use Rattle.csv_rows.specs.Machine.{after, begun}
 use Rattle.page_warehouse.specs.Holds.{Holds}
 use Rattle.page_warehouse.specs.Needs.{batch_need, charge_of}
-use Rattle.page_warehouse.specs.Shown.{HoldsHistory, disk_in, params_in}
+use Rattle.page_warehouse.specs.Shown.{HoldsHistory, disk_in, meta_in, params_in}
 use Rattle.row_machine.specs.Serving.{IsFlushed}
 use Rattle.row_machine.specs.declared.ending.Ending.{Ending}
 use Rattle.row_machine.specs.declared.ending.Ending.TheVariants as ending
@@ -14,10 +14,23 @@ use Rattle.boxsum_cli.specs.Runs.{history_by, state_by}
 use Rattle.boxsum_cli.specs.Statuses.{status_of, status_of_fault}
 use Rattle.boxsum_cli.specs.declared.status.Status.TheVariants as status
 use Rattle.boxsum_cli.proofs.Endings.{ending_of, flushes, input_ending, input_flushes, no_ending, only_fine, run_ends}
-use Rattle.boxsum_cli.proofs.Opened.{between_here, for_queries, from_here, goes_on_twice, goes_with, lacks_next, need_within, not_damaged, nothing_replied, only_memory, opened, refused_status, settled_holds, some_way, stretched, wider}
+use Rattle.boxsum_cli.proofs.Opened.{between_here, for_queries, from_here, goes_on_twice, goes_with, lacks_next, need_within, not_damaged, nothing_replied, only_memory, opened, refused_status, refuses, settled_holds, some_way, stretched, wider}
 use Rattle.boxsum_cli.proofs.Reading.{may_within, no_version_next}
 use Rattle.boxsum_cli.proofs.Scratch.{ends_at, lasts_at, whole_text}
 use Rattle.boxsum_cli.proofs.run.run_on.Goals as goal
+
+pub returns-in-Err-clause-refused : goal.returns-in-Err-clause-refused
+returns-in-Err-clause-refused g c = λ told none. (
+  refl,
+  refl,
+  refuses g.D.Disk g.X.DomIndex.DIMS c.args.disk c.in-Err.refused.fault (record { status = c.from.result; disk = c.in-Err.refused.disk }) told c.from.ensures
+      c.in-Err.ensures.empty c.in-Err.ensures.bad_journal c.in-Err.ensures.damaged c.in-Err.ensures.stands c.in-Err.ensures.refused_settled,
+)
+
+pub returns-clause-refused : goal.returns-clause-refused
+returns-clause-refused g c = λ told none.
+    let whole = c.in-Ok.ensures.whole told in
+    absurd (none (params_in c.in-Ok.house) (meta_in c.in-Ok.house) whole.0 whole.1 c.in-Ok.ensures.numbers.0 c.in-Ok.ensures.numbers.1)
 
 pub returns-in-Err-clause-goes_on : goal.returns-in-Err-clause-goes_on
 returns-in-Err-clause-goes_on g c = λ params h held other. (
@@ -57,6 +70,7 @@ returns-in-Err-clause-reads g c = λ params h held told may.
       rest = lines (g.S.Source.left c.args.source.now);
       cut = refl;
       one = omega arith;
+      read = λ still. record { taken = []; more = []; cut = refl; begins = refl };
       wrote = λ sink disk tells still. sym (append-nil (g.K.Sink.written c.args.sink.now));
       most = let most = c.in-Err.ensures.reads held.0 in omega arith;
     }
@@ -211,6 +225,7 @@ returns-clause-reads g c = λ params h held told may.
       rest = e.rest;
       cut = e.cut;
       one = e.one;
+      read = e.read;
       wrote = λ sink disk tells still. e.flushed (flushes c.serve-ran.result.ending c.from-2.result c.from-2.ensures sink disk) tells still;
       most = let opening = c.in-Ok.ensures.reads held.0 in
           let serving = e.reads may in omega arith;

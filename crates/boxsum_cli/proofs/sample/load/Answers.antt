@@ -1,4 +1,5 @@
 use Rattle.std.proofs.Common.{◌≡◌, ◌≢◌, ℕ, ◌+◌, ◌≤◌, IsTrue, List, [], ◌++◌, inl, inr, refl, sym, ◌∙◌, ap, ap₂, subst}
+use Rattle.std.specs.Int.{int_wrap, w128}
 use Rattle.byte_ports.specs.Memory.{SinkState, SourceState}
 use Rattle.page_disk.specs.Since.{LeavesOnly}
 use Rattle.csv_rows.specs.Machine.{after, begun, text}
@@ -24,7 +25,7 @@ returns-in-Fine-clause-fine g c = λ held fine tells.
     let replied : c.bytes.result.now ≡ text sample_params [] c.args.text.items =
     c.bytes.ensures ∙ (c.run_on-ran.ensures.fine sample_params [] (inl held) c.in-Fine.is refl refl).1 ∙ ap₂ (λ (before input : List ℕ). before ++ text sample_params [] input) none left in
     let put = c.put_summary.ensures.fine fine tells in
-    (put.0, put.1 ∙ ap (λ (t : List ℕ). g.K.Sink.written c.args.sink.now ++ summary_with c.args.count (answers_in t)) replied)
+    (put.0, put.1 ∙ ap (λ (t : List ℕ). g.K.Sink.written c.args.sink.now ++ summary_with c.args.count (int_wrap w128 (answers_in t))) replied)
 
 pub returns-in-Fine-clause-kept : goal.returns-in-Fine-clause-kept
 returns-in-Fine-clause-kept g c = λ held fine.
@@ -37,7 +38,7 @@ returns-in-Fine-clause-part g c = λ held told still.
     let none : c.new-replies.result.written ≡ [] = ap (λ (s : SinkState). s.written) c.new-replies.ensures in
     let replied : c.bytes.result.now ≡ text sample_params [] c.args.text.items =
     c.bytes.ensures ∙ (c.run_on-ran.ensures.fine sample_params [] (inl held) c.in-Fine.is refl refl).1 ∙ ap₂ (λ (before input : List ℕ). before ++ text sample_params [] input) none left in
-    subst (λ (t : List ℕ). WritesPart (g.K.Sink.written c.args.sink.now) (g.K.Sink.written c.put_summary.new.sink) (summary_with c.args.count (answers_in t))) replied
+    subst (λ (t : List ℕ). WritesPart (g.K.Sink.written c.args.sink.now) (g.K.Sink.written c.put_summary.new.sink) (summary_with c.args.count (int_wrap w128 (answers_in t)))) replied
     (c.put_summary.ensures.part told still)
 
 pub returns-in-Fine-clause-crashes : goal.returns-in-Fine-clause-crashes
@@ -62,7 +63,7 @@ returns g c =
       may_end = (subst (λ (x : Status). IsTrue (ends_sample x)) (sym is) (amid_ends s), λ e. amid_there s (sym is ∙ e));
       fine = λ held fine tells. absurd (c.in_default.not-Fine (amid_fine s (sym is ∙ fine)));
       kept = λ held fine. absurd (c.in_default.not-Fine (amid_fine s (sym is ∙ fine)));
-      part = λ held told still. writes_nothing (g.K.Sink.written c.args.sink.now) (summary_with c.args.count (answers_in (text sample_params [] c.args.text.items)));
+      part = λ held told still. writes_nothing (g.K.Sink.written c.args.sink.now) (summary_with c.args.count (int_wrap w128 (answers_in (text sample_params [] c.args.text.items))));
       crashes = λ held.
           subst (λ (input : List ℕ). LeavesOnly (HoldsBetween g.X.DomIndex sample_params [] (after sample_params [] input)) (g.D.Disk.moments c.args.disk) (g.D.Disk.moments c.run_on-ran.result.disk))
           left (c.run_on-ran.ensures.crashes sample_params [] held refl);

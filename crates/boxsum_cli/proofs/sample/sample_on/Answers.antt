@@ -1,14 +1,16 @@
-use Rattle.std.proofs.Common.{◌≡◌, ℕ, true, IsTrue, List, [], inl, inr, refl, ap, subst, arith}
+use Rattle.std.proofs.Common.{◌≡◌, ℕ, true, IsTrue, List, [], ◌++◌, ℤ, inl, inr, refl, ◌∙◌, ap, subst, arith}
+use Rattle.std.specs.Int.{int_wrap, w128}
 use Rattle.bw_types.specs.declared.params.Params.{Params}
 use Rattle.page_disk.specs.Since.{LeavesOnly}
 use Rattle.redo_journal.specs.Gates.{is_empty}
-use Rattle.csv_rows.specs.Machine.{after, begun}
+use Rattle.csv_rows.specs.Machine.{after, begun, text}
 use Rattle.line_reader.specs.Lines.{lines}
 use Rattle.page_warehouse.specs.Created.{IsNew}
 use Rattle.page_warehouse.specs.Needs.{batch_need}
 use Rattle.row_machine.specs.Serving.{lines_need}
+use Rattle.row_machine.specs.Runs.{WritesPart}
 use Rattle.sample_rows.specs.Generator.{rows}
-use Rattle.sample_rows.specs.Summary.{sample_params, summary}
+use Rattle.sample_rows.specs.Summary.{answers_in, sample_params, summary, summary_with}
 use Rattle.boxsum_cli.specs.Held.{HoldsBetween, HoldsSurely, IsEmptyOrHolds, charge_in}
 use Rattle.boxsum_cli.specs.declared.status.Status.TheVariants.{Damaged, PageLimit, WriteFault}
 use Rattle.boxsum_cli.proofs.Opened.{writes_nothing}
@@ -17,6 +19,23 @@ use Rattle.boxsum_cli.proofs.sample.sample_on.Goals as goal
 
 pub returns-in_default-clause-form : goal.returns-in_default-clause-form
 returns-in_default-clause-form g c = λ told still. no_summary c.args.count (g.K.Sink.written c.args.sink.now)
+
+pub returns-in-Fine-clause-fine : goal.returns-in-Fine-clause-fine
+returns-in-Fine-clause-fine g c = λ fine told tells.
+    let surely = (subst (λ (p : Params). (is_empty (g.D.Disk.image c.args.disk) ≡ true) × HoldsSurely g.D.Disk g.X.DomIndex p [] c.create_on-made.result.disk) c.sample_params.ensures
+    (c.create_on-made.ensures.created c.in-Fine.is told)).1 in
+    let put = c.load.ensures.fine surely.holds fine tells in
+    let total : int_wrap w128 (answers_in (text sample_params [] c.in-Ok.text.items)) ≡ answers_in (text sample_params [] (rows c.args.start c.args.count)) =
+    ap (λ (input : List ℕ). int_wrap w128 (answers_in (text sample_params [] input))) c.in-Ok.ensures ∙ c.sample_laws.ensures c.args.start c.args.count (omega arith) in
+    (put.0, put.1 ∙ ap (λ (z : ℤ). g.K.Sink.written c.args.sink.now ++ summary_with c.args.count z) total)
+
+pub returns-in-Fine-clause-part : goal.returns-in-Fine-clause-part
+returns-in-Fine-clause-part g c = λ told tells still.
+    let surely = (subst (λ (p : Params). (is_empty (g.D.Disk.image c.args.disk) ≡ true) × HoldsSurely g.D.Disk g.X.DomIndex p [] c.create_on-made.result.disk) c.sample_params.ensures
+    (c.create_on-made.ensures.created c.in-Fine.is told)).1 in
+    let total : int_wrap w128 (answers_in (text sample_params [] c.in-Ok.text.items)) ≡ answers_in (text sample_params [] (rows c.args.start c.args.count)) =
+    ap (λ (input : List ℕ). int_wrap w128 (answers_in (text sample_params [] input))) c.in-Ok.ensures ∙ c.sample_laws.ensures c.args.start c.args.count (omega arith) in
+    subst (λ (z : ℤ). WritesPart (g.K.Sink.written c.args.sink.now) (g.K.Sink.written c.load.new.sink) (summary_with c.args.count z)) total (c.load.ensures.part surely.holds tells still)
 
 pub returns-in-Fine-clause-sampling : goal.returns-in-Fine-clause-sampling
 returns-in-Fine-clause-sampling g c = λ told none.
