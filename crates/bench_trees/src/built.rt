@@ -2,7 +2,8 @@
 ghost use Rattle.std.specs.Prelude.{◌≤◌, ◌<◌, ◌-◌, ◌^◌};
 
 use crate::draws::Draws;
-use crate::measured::rate;
+use crate::measured::{hundredths, rate};
+use crate::put_count::PutCount;
 use anyhow::{Result, bail};
 use ba_build::{build, collect, drop_tree, may_be_built};
 use ba_query::dom_sum;
@@ -182,21 +183,33 @@ pub fn compare_built(rt: &HostRuntime) -> Result<()> {
     Ok(())
 }
 
-/// Prints how many of so many random points are built a second, and how many pages each takes.
+/// Prints how many of so many random points are built a second, how many pages each takes, and how often a page is put. The test
+/// that a tree may be built of them is not counted.
 pub fn measure_build(rt: &HostRuntime, count: u32, dims: u8) -> Result<()>
     requires { (2 ≤ dims) × (dims ≤ 3) }
 {
     let mut points = points_of(rt.alloc(), Kind::Random, dims, count)?;
-    let mut stage = MemStage::new(rt.alloc(), 4294967295);
+    let mut stage = PutCount {
+        stage: MemStage::new(rt.alloc(), 4294967295),
+        puts: 0,
+    };
+    let points = points.as_mut_slice();
+    if !may_be_built(points, dims) {
+        bail!("points that share a key");
+    }
     let start = Instant::now(rt)?;
-    let tree = build_all(rt.alloc(), &mut stage, dims, points.as_mut_slice())?;
+    let tree = build(rt.alloc(), &mut stage, dims, points)?;
     let took = start.elapsed(rt)?.as_nanos();
-    let pages = (stage.allotted() - 3).saturating_mul(100) / u64::from(count.max(1));
+    let pages = stage.stage.allotted() - 3;
+    let each = hundredths(pages, u64::from(count));
+    let puts = hundredths(stage.puts, pages);
     println!(rt;
-        "{count} points, {dims} dimensions: {} points built a second, {}.{:02} pages a point, {} levels",
+        "{count} points, {dims} dimensions: {} points built a second, {}.{:02} pages a point, {}.{:02} puts a page, {} levels",
         rate(count, took),
-        pages / 100,
-        pages % 100,
+        each / 100,
+        each % 100,
+        puts / 100,
+        puts % 100,
         tree.levels
     )?;
     Ok(())

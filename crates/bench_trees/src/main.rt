@@ -7,7 +7,7 @@
 //! number it prints the same of a multiversion tree whose keys come so, and beside it a scan of the same
 //! points. With the word `points` and a number it prints what a dominance sum over two dimensions costs, and
 //! beside it a scan of the same points. With the word `build`, a number and the dimensions, two or three, it prints how many points are
-//! built a second and how many pages each takes. With the word `objects` and a number it prints how many objects
+//! built a second, how many pages each takes, and how often a page is put. With the word `objects` and a number it prints how many objects
 //! are entered in an object table and found a second. With the word `weights` and a number it prints what all
 //! weights of an object cost, made so many times.
 #![tactic(auto)]

@@ -33,6 +33,11 @@ pub fn rate(count: u32, nanoseconds: u128) -> u128 {
     u128::from(count) * 1_000_000_000 / nanoseconds.max(1)
 }
 
+/// A hundred times so many for each.
+pub fn hundredths(many: u64, each: u64) -> u64 {
+    many.saturating_mul(100) / each.max(1)
+}
+
 /// Prints what so many additions and 100,000 values cost.
 pub fn measure(rt: &HostRuntime, additions: u32) -> Result<()> {
     let mut stage = MemStage::new(rt.alloc(), 4294967295);

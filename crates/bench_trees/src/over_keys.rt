@@ -2,7 +2,7 @@
 //! of the same points in a sorted array.
 
 use crate::draws::Draws;
-use crate::measured::rate;
+use crate::measured::{hundredths, rate};
 use crate::put_count::PutCount;
 use anyhow::Result;
 use bw_types::Tree;
@@ -141,11 +141,6 @@ fn total_of(values: &[u128; SCANNED]) -> u128 {
     total
 }
 
-// A hundred times so many for each.
-fn hundredths(many: u64, each: u32) -> u64 {
-    many.saturating_mul(100) / u64::from(each.max(1))
-}
-
 fn print_additions(
     rt: &HostRuntime,
     stage: &mut PutCount<MemStage>,
@@ -160,8 +155,8 @@ fn print_additions(
         "{additions} additions, {keys:?} keys: all made {made}, {} a second, {} pages, {} gets and {} puts in 100",
         rate(additions, took),
         stage.stage.allotted() - 3,
-        hundredths(stage.stage.gets(), additions),
-        hundredths(stage.puts, additions)
+        hundredths(stage.stage.gets(), u64::from(additions)),
+        hundredths(stage.puts, u64::from(additions))
     )?;
     Ok(())
 }
@@ -181,7 +176,7 @@ fn print_values(
     println!(rt;
         "{QUERIES} values: all read {read}, {} a second, {} gets in 100, {} nanoseconds a get",
         rate(QUERIES, took),
-        hundredths(gets, QUERIES),
+        hundredths(gets, u64::from(QUERIES)),
         took / u128::from(gets.max(1))
     )?;
     Ok(())

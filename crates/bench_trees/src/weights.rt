@@ -65,10 +65,12 @@ fn measure_one(rt: &HostRuntime, dims: u8, degree: u8, times: u32) -> Result<()>
         total = total.wrapping_add(weigh(&object, &params));
     }
     let took = start.elapsed(rt)?.as_nanos();
+    let each = took / u128::from(times.max(1)) / 10;
     println!(rt;
-        "{dims} dimensions, degree {degree}: {} planes, {} nanoseconds for all weights of an object ({total})",
+        "{dims} dimensions, degree {degree}: {} planes, {}.{:02} microseconds for all weights of an object ({total})",
         plane_count(&params),
-        took / u128::from(times.max(1))
+        each / 100,
+        each % 100
     )?;
     Ok(())
 }
