@@ -3,7 +3,7 @@ ghost use Rattle.std.specs.Prelude.{◌≤◌, ◌<◌, ◌-◌, ◌^◌};
 
 use crate::draws::Draws;
 use crate::measured::{hundredths, rate};
-use crate::put_count::PutCount;
+use crate::put_count::{ByKind, PutCount};
 use anyhow::{Result, bail};
 use ba_build::{build, collect, drop_tree, may_be_built};
 use ba_query::dom_sum;
@@ -183,15 +183,27 @@ pub fn compare_built(rt: &HostRuntime) -> Result<()> {
     Ok(())
 }
 
-/// Prints how many of so many random points are built a second, how many pages each takes, and how often a page is put. The test
-/// that a tree may be built of them is not counted.
+// The pages of the stage.
+fn pages_in(stage: &mut MemStage) -> ByKind {
+    let mut pages = ByKind::default();
+    let mut bytes = blank_page();
+    for page in 3..stage.allotted() {
+        if stage.get(page, &mut bytes).is_ok() {
+            pages.count(&bytes);
+        }
+    }
+    pages
+}
+
+/// Prints how many of so many random points are built a second, how many pages each takes, and how often a page is put: one of
+/// cuts or points, and a node that additions make. The test that a tree may be built of them is not counted.
 pub fn measure_build(rt: &HostRuntime, count: u32, dims: u8) -> Result<()>
     requires { (2 ≤ dims) × (dims ≤ 3) }
 {
     let mut points = points_of(rt.alloc(), Kind::Random, dims, count)?;
     let mut stage = PutCount {
         stage: MemStage::new(rt.alloc(), 4294967295),
-        puts: 0,
+        puts: ByKind::default(),
     };
     let points = points.as_mut_slice();
     if !may_be_built(points, dims) {
@@ -200,17 +212,25 @@ pub fn measure_build(rt: &HostRuntime, count: u32, dims: u8) -> Result<()>
     let start = Instant::now(rt)?;
     let tree = build(rt.alloc(), &mut stage, dims, points)?;
     let took = start.elapsed(rt)?.as_nanos();
-    let pages = stage.stage.allotted() - 3;
-    let each = hundredths(pages, u64::from(count));
-    let puts = hundredths(stage.puts, pages);
+    let each = hundredths(stage.stage.allotted() - 3, u64::from(count));
+    let pages = pages_in(&mut stage.stage);
+    let regions = hundredths(stage.puts.regions, pages.regions);
+    let nodes = hundredths(stage.puts.nodes, pages.nodes);
     println!(rt;
-        "{count} points, {dims} dimensions: {} points built a second, {}.{:02} pages a point, {}.{:02} puts a page, {} levels",
+        "{count} points, {dims} dimensions: {} points built a second, {}.{:02} pages a point, {} levels",
         rate(count, took),
         each / 100,
         each % 100,
-        puts / 100,
-        puts % 100,
         tree.levels
+    )?;
+    println!(rt;
+        "{} pages of cuts and points, each put {}.{:02} times; {} nodes of additions, each put {}.{:02} times",
+        pages.regions,
+        regions / 100,
+        regions % 100,
+        pages.nodes,
+        nodes / 100,
+        nodes % 100
     )?;
     Ok(())
 }

@@ -3,7 +3,7 @@
 
 use crate::draws::Draws;
 use crate::measured::{hundredths, rate};
-use crate::put_count::PutCount;
+use crate::put_count::{ByKind, PutCount};
 use anyhow::Result;
 use bw_types::Tree;
 use mvsb_tree::{mv_add, mv_value};
@@ -156,7 +156,7 @@ fn print_additions(
         rate(additions, took),
         stage.stage.allotted() - 3,
         hundredths(stage.stage.gets(), u64::from(additions)),
-        hundredths(stage.puts, u64::from(additions))
+        hundredths(stage.puts.nodes, u64::from(additions))
     )?;
     Ok(())
 }
@@ -209,7 +209,7 @@ fn print_scans(
 pub fn measure_keys(rt: &HostRuntime, keys: Keys, additions: u32) -> Result<()> {
     let mut stage = PutCount {
         stage: MemStage::new(rt.alloc(), 4294967295),
-        puts: 0,
+        puts: ByKind::default(),
     };
     let mut tree = Tree::default();
     print_additions(rt, &mut stage, &mut tree, keys, additions)?;

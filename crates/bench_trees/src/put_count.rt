@@ -4,11 +4,32 @@ ghost use Rattle.std.specs.Prelude.{◌≡◌, IsTrue};
 use counts::raised;
 use page_ports::{Page, PageFault, Pages, Stage, StageFault};
 
+/// How many pages, by what they hold.
+#[derive(Clone, Copy, Default)]
+pub struct ByKind {
+    /// Pages of cuts, leaves and pockets.
+    pub regions: u64,
+    /// Nodes of trees over versions, and of multiversion trees: those that additions make.
+    pub nodes: u64,
+}
+
+impl ByKind {
+    /// Counts a page more.
+    pub fn count(&mut self, page: &Page) {
+        // The first byte tells the kind.
+        if page[0] == 4 || page[0] == 5 {
+            self.regions = raised(self.regions);
+        } else {
+            self.nodes = raised(self.nodes);
+        }
+    }
+}
+
 /// A stage whose puts are counted.
 #[derive(Drop)]
 pub struct PutCount<S: Stage + Drop> {
     pub stage: S,
-    pub puts: u64,
+    pub puts: ByKind,
 }
 
 impl<S: Stage + Drop> Pages for PutCount<S> {
@@ -51,7 +72,7 @@ impl<S: Stage + Drop> Stage for PutCount<S> {
     }
 
     fn put(&mut self, page: u64, buf: &Page) -> Result<(), StageFault> {
-        self.puts = raised(self.puts);
+        self.puts.count(buf);
         self.stage.put(page, buf)
     }
 

@@ -1,4 +1,4 @@
-//! Reading the value that a page spells.
+//! Reading the value that a page spells. The page is tested where it stands, so that a value as large as a page is made once.
 ghost use Rattle.std.specs.Prelude.{◌≡◌, ℕ, List, Some, Err, IsTrue, IfOk};
 ghost use Rattle.page_ports.specs.Calls.{OnlyReads};
 ghost use Rattle.page_layout.specs.Damage.{HoldsNoNode};
@@ -24,11 +24,8 @@ pub fn read_page<T: Spelled, P: Pages>(pages: &mut P, page: u64) -> Result<T, Pa
     ensures reads { OnlyReads P.Pages 1 pages.old pages.new result }
 {
     let mut bytes = blank_page();
-    pages.get(page, &mut bytes)?;
-    match T::read(&bytes) {
-        Some(value) => Ok(value),
-        None => Err(PageFault::Damaged(page)),
-    }
+    let view: View<T> = view_page(pages, page, &mut bytes)?;
+    Ok(view.to_value())
 }
 
 /// The view of the value that the page spells: the page's bytes are put into these, and the value is
@@ -57,6 +54,28 @@ pub fn view_page<'a, T: Spelled, P: Pages>(
     Ok(view)
 }
 
+// The view of the value of this level that the page spells.
+fn view_level<'a, T: TreePage, P: Pages>(
+    pages: &mut P,
+    page: u64,
+    level: u8,
+    bytes: &'a mut Page,
+) -> Result<View<'a, T>, PageFault>
+    ensures fits { IfOk result (λ value. FitsLevel T.Spelled T.level_in level value (T.spelling value)) }
+    ensures found { IfOk result (λ value. IsTrue (P.tells pages.old) → P.map pages.old page ≡ Some (T.spelling value)) }
+    ensures only { IfOk result (λ value. IsTrue (P.tells pages.old) → (other : T) (bytes : List ℕ)
+        → P.map pages.old page ≡ Some bytes → FitsLevel T.Spelled T.level_in level other bytes → value ≡ other) }
+    ensures damaged { (p : ℕ) → result ≡ Err (PageFault.Damaged p)
+        → (p ≡ page) × (IsTrue (P.tells pages.old) → HoldsNoLevel T.Spelled T.level_in (P.map pages.old) level page) }
+    ensures reads { OnlyReads P.Pages 1 pages.old pages.new result }
+{
+    let view: View<T> = view_page(pages, page, bytes)?;
+    if view.level() != level {
+        return Err(PageFault::Damaged(page));
+    }
+    Ok(view)
+}
+
 /// The value of this level that the page spells.
 ///
 /// `Damaged` carries this page. It comes exactly where the page is not in the map or spells no such
@@ -75,11 +94,9 @@ pub fn read_level<T: TreePage, P: Pages>(
         → (p ≡ page) × (IsTrue (P.tells pages.old) → HoldsNoLevel T.Spelled T.level_in (P.map pages.old) level page) }
     ensures reads { OnlyReads P.Pages 1 pages.old pages.new result }
 {
-    let value: T = read_page(pages, page)?;
-    if value.level() != level {
-        return Err(PageFault::Damaged(page));
-    }
-    Ok(value)
+    let mut bytes = blank_page();
+    let view: View<T> = view_level(pages, page, level, &mut bytes)?;
+    Ok(view.to_value())
 }
 
 /// The view of the node of this level that the page spells, where it keeps to the place by which it is
@@ -100,10 +117,7 @@ pub fn view_in_place<'a, T: TreePage, L: PlaceFor<T>, P: Pages>(
         → HoldsNoNode (FitsPlace T.Spelled T.level_in L.admits) (P.map pages.old) level place page) }
     ensures reads { OnlyReads P.Pages 1 pages.old pages.new result }
 {
-    let view: View<T> = view_page(pages, page, bytes)?;
-    if view.level() != level {
-        return Err(PageFault::Damaged(page));
-    }
+    let view: View<T> = view_level(pages, page, level, bytes)?;
     if !place.admits_view(level, &view) {
         return Err(PageFault::Damaged(page));
     }
@@ -126,7 +140,9 @@ pub fn read_in_place<T: TreePage, L: PlaceFor<T>, P: Pages>(
         → HoldsNoNode (FitsPlace T.Spelled T.level_in L.admits) (P.map pages.old) level place page) }
     ensures reads { OnlyReads P.Pages 1 pages.old pages.new result }
 {
-    let node: T = read_level(pages, page, level)?;
+    let mut bytes = blank_page();
+    let view: View<T> = view_level(pages, page, level, &mut bytes)?;
+    let node = view.to_value();
     if !place.admits(level, &node) {
         return Err(PageFault::Damaged(page));
     }
