@@ -47,7 +47,7 @@ fn leaf_points(stage: &mut MemStage, page: u64) -> Result<usize, PageFault> {
 
 /// The two entries of the tree's root.
 fn two_entries(stage: &mut MemStage, tree: &Tree) -> Result<[BaEntry; 2], PageFault> {
-    let root: CutPage = read_level(stage, tree.root, 2)?;
+    let root: CutPage = read_level(stage, tree.root, tree.levels)?;
     match root.entries.as_slice() {
         [low, high] => Ok([*low, *high]),
         _ => Err(PageFault::Damaged(tree.root)),
@@ -120,6 +120,31 @@ fn a_pocket_is_filled_and_dissolved(rt: HostRuntime) -> Result<(), Fail> {
     Ok(())
 }
 
+/// How many entries the page of cuts has, which is above leaves.
+fn entries_on(stage: &mut MemStage, page: u64) -> Result<usize, PageFault> {
+    let page: CutPage = read_level(stage, page, 2)?;
+    Ok(page.entries.len())
+}
+
+// Points that ascend fill the last leaf alone, so each first cut has one leaf on its low side.
+#[test]
+fn a_page_of_seventeen_entries_is_split(rt: HostRuntime) -> Result<(), Fail> {
+    let mut stage = MemStage::new(rt.alloc(), 1000000);
+    let mut tree = Tree::default();
+    for number in 1..545u32 {
+        add(rt.alloc(), &mut stage, &mut tree, &twice(number, number, 1))?;
+    }
+    assert_eq!(rt; tree.levels, 2);
+    assert_eq!(rt; entries_on(&mut stage, tree.root), Ok(16));
+    add(rt.alloc(), &mut stage, &mut tree, &twice(545, 545, 1))?;
+    assert_eq!(rt; tree.levels, 3);
+    let [low, high] = two_entries(&mut stage, &tree)?;
+    assert_eq!(rt; entries_on(&mut stage, low.child), Ok(1));
+    assert_eq!(rt; entries_on(&mut stage, high.child), Ok(16));
+    assert_eq!(rt; total(&mut stage, &tree), Ok(545));
+    Ok(())
+}
+
 #[test]
 fn ascending_points_keep_the_tree_low(rt: HostRuntime) -> Result<(), Fail> {
     let mut stage = MemStage::new(rt.alloc(), 1000000);
@@ -131,10 +156,7 @@ fn ascending_points_keep_the_tree_low(rt: HostRuntime) -> Result<(), Fail> {
         assert_eq!(rt; total(&mut stage, &tree), Ok(u128::from(number) * 3));
     }
     drop_tree(&mut stage, 2, &tree)?;
-    let mut bytes = blank_page();
-    for page in 3..stage.allotted() {
-        assert_eq!(rt; stage.get(page, &mut bytes), Err(PageFault::Damaged(page)));
-    }
+    assert!(rt; holds_no_page(&mut stage));
     Ok(())
 }
 
@@ -153,18 +175,36 @@ fn drawn_point(state: &mut u64, number: u32) -> Point {
         keys: [
             point_key(draw(state) % 100, number),
             point_key(draw(state) % 100, number),
-            0,
+            point_key(draw(state) % 100, number),
         ],
         version: number / 3,
         weight: u128::from(draw(state)).wrapping_neg(),
     }
 }
 
-/// The sum of the weights of the points at or below the keys and the version.
-fn plain_sum(points: &[Point], keys: &[u64; 3], version: u32) -> u128 {
+/// Adds the point to a tree over three dimensions.
+fn add_in_three(
+    alloc: Global,
+    stage: &mut MemStage,
+    tree: &mut Tree,
+    point: &Point,
+) -> Result<(), StageFault> {
+    let [first, second, third] = point.keys;
+    if first > GREATEST || second > GREATEST || third > GREATEST || point.version >= u32::MAX {
+        return Err(StageFault::Damaged(0));
+    }
+    BaIndex::add(alloc, stage, 3, tree, point)
+}
+
+/// The sum of the weights of the points at or below the keys and the version, in two dimensions or in three.
+fn plain_sum(points: &[Point], three: bool, keys: &[u64; 3], version: u32) -> u128 {
     let mut sum = 0_u128;
     for point in points {
-        if point.keys[0] <= keys[0] && point.keys[1] <= keys[1] && point.version <= version {
+        if point.keys[0] <= keys[0]
+            && point.keys[1] <= keys[1]
+            && (!three || point.keys[2] <= keys[2])
+            && point.version <= version
+        {
             sum = sum.wrapping_add(point.weight);
         }
     }
@@ -172,18 +212,35 @@ fn plain_sum(points: &[Point], keys: &[u64; 3], version: u32) -> u128 {
 }
 
 /// Whether the tree has the plain sum at keys and versions that are drawn.
-fn sums_agree(stage: &mut MemStage, tree: &Tree, points: &[Point]) -> bool {
+fn sums_agree(stage: &mut MemStage, tree: &Tree, three: bool, points: &[Point]) -> bool {
     let mut state = 5;
     for _ in 0..200 {
         let first = point_key(draw(&mut state) % 100, 268435455);
         let second = point_key(draw(&mut state) % 100, 268435455);
-        if first > GREATEST || second > GREATEST {
+        let third = point_key(draw(&mut state) % 100, 268435455);
+        if first > GREATEST || second > GREATEST || third > GREATEST {
             return false;
         }
-        let keys = [first, second, 0];
+        let keys = [first, second, third];
         let version = draw(&mut state) % 400;
-        let plain = plain_sum(points, &keys, version);
-        if BaIndex::sum(stage, 2, tree, &keys, version) != Ok(plain) {
+        let plain = plain_sum(points, three, &keys, version);
+        let sum = if three {
+            BaIndex::sum(stage, 3, tree, &keys, version)
+        } else {
+            BaIndex::sum(stage, 2, tree, &keys, version)
+        };
+        if sum != Ok(plain) {
+            return false;
+        }
+    }
+    true
+}
+
+/// Whether no page of the stage is in use.
+fn holds_no_page(stage: &mut MemStage) -> bool {
+    let mut bytes = blank_page();
+    for page in 3..stage.allotted() {
+        if stage.get(page, &mut bytes) != Err(PageFault::Damaged(page)) {
             return false;
         }
     }
@@ -201,14 +258,30 @@ fn sums_of_drawn_points(rt: HostRuntime) -> Result<(), Fail> {
         add(rt.alloc(), &mut stage, &mut tree, &point)?;
         points.push(point)?;
         if number % 200 == 199 {
-            assert!(rt; sums_agree(&mut stage, &tree, points.as_slice()));
+            assert!(rt; sums_agree(&mut stage, &tree, false, points.as_slice()));
         }
     }
     drop_tree(&mut stage, 2, &tree)?;
-    let mut bytes = blank_page();
-    for page in 3..stage.allotted() {
-        assert_eq!(rt; stage.get(page, &mut bytes), Err(PageFault::Damaged(page)));
+    assert!(rt; holds_no_page(&mut stage));
+    Ok(())
+}
+
+#[test]
+fn sums_of_drawn_points_in_three_dimensions(rt: HostRuntime) -> Result<(), Fail> {
+    let mut stage = MemStage::new(rt.alloc(), 1000000);
+    let mut tree = Tree::default();
+    let mut points = Vec::new(rt.alloc());
+    let mut state = 17;
+    for number in 0..400u32 {
+        let point = drawn_point(&mut state, number);
+        add_in_three(rt.alloc(), &mut stage, &mut tree, &point)?;
+        points.push(point)?;
+        if number % 100 == 99 {
+            assert!(rt; sums_agree(&mut stage, &tree, true, points.as_slice()));
+        }
     }
+    drop_tree(&mut stage, 3, &tree)?;
+    assert!(rt; holds_no_page(&mut stage));
     Ok(())
 }
 
