@@ -34,11 +34,12 @@ damaged_point pages order tree key version page (inr (inl (inr (inr (inl d))))) 
 damaged_point pages order tree key version page (inr (inl (inr (inr (inr (inl d)))))) = inl (inr (inl (inr (inr (inr (inl d))))))
 damaged_point pages order tree key version page (inr (inl (inr (inr (inr (inr (inl d))))))) = inl (inr (inl (inr (inr (inr (inr (inl d)))))))
 damaged_point pages order tree key version page (inr (inl (inr (inr (inr (inr (inr d))))))) = inr d
-damaged_point pages order tree key version page (inr (inr (inl (inl d)))) = inl (inr (inr (inl (inl d))))
-damaged_point pages order tree key version page (inr (inr (inl (inr (inl d))))) = inl (inr (inr (inl (inr (inl d)))))
-damaged_point pages order tree key version page (inr (inr (inl (inr (inr (inl d)))))) = inl (inr (inr (inl (inr (inr (inl d))))))
-damaged_point pages order tree key version page (inr (inr (inl (inr (inr (inr d)))))) = inr d
-damaged_point pages order tree key version page (inr (inr (inr shared))) = inl (inr (inr (inr shared)))
+damaged_point pages order tree key version page (inr (inr later)) = elim later.2 [
+  | inl d ↦ inl (inr (inr (later.0, later.1, inl d)))
+  | inr (inl d) ↦ inl (inr (inr (later.0, later.1, inr (inl d))))
+  | inr (inr (inl d)) ↦ inl (inr (inr (later.0, later.1, inr (inr (inl d)))))
+  | inr (inr (inr d)) ↦ inr d
+]
 
 some_or_none : (o : Option (List ℕ)) → IsSome o ⊎ (o ≡ None)
 some_or_none None = inr refl

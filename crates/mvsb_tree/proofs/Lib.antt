@@ -20,12 +20,12 @@ pub mod Intervals
 pub mod Joining
 pub mod Landing
 pub mod Lasting
+pub mod Later
 pub mod Leading
 pub mod Nodes
 pub mod Past
 pub mod Putting
 pub mod Raising
-pub mod Sharing
 pub mod Sound
 pub mod Sounding
 pub mod Splitting

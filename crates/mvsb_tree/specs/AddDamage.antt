@@ -1,8 +1,7 @@
 -- What an addition to a multiversion tree may find damaged.
-use Rattle.std.specs.Prelude.{◌≡◌, ℕ, zero, suc, ◌+◌, ◌-◌, ◌⊎◌, ◌<◌, ◌≤◌, ◌^◌, true, List, [], ◌∷◌, None, IsSome}
+use Rattle.std.specs.Prelude.{◌≡◌, ℕ, ◌+◌, ◌-◌, ◌⊎◌, ◌<◌, ◌≤◌, ◌^◌, List, length, None, IsSome}
 use Rattle.bw_types.specs.declared.tree.Tree.{Tree}
 use Rattle.page_ports.specs.Pages.{PageMap}
-use Rattle.page_ports.specs.Frame.{names_page}
 use Rattle.page_layout.specs.Damage.{IsDamagedBelow, NothingBeside}
 use Rattle.page_layout.specs.Spelled.{SpellsNone}
 use Rattle.page_layout.specs.declared.mv_node.MvNode.{MvNode}
@@ -10,6 +9,7 @@ use Rattle.mv_pages.specs.Alive.{IsChangeable}
 use Rattle.mvsb_tree.specs.declared.place.Place.{Place}
 use Rattle.sb_tree.specs.Damage as over_versions
 use Rattle.sb_tree.specs.Steps as steps_over_versions
+use Rattle.sb_tree.specs.Stored.{OthersStay}
 use Rattle.mvsb_tree.specs.Damage.{FitsPlace, LeadsTo, mv_pages, root_place}
 use Rattle.mvsb_tree.specs.Steps.{directory, node_on, root_at, root_level}
 use Rattle.mvsb_tree.specs.Ways.{way_pages}
@@ -52,16 +52,6 @@ pub record KeepsPlaces (more : ℕ) (before after : PageMap) (last new_last : �
 abbrev pub IsPlacedAs : PageMap → ℕ → MvNode → Type 0
 IsPlacedAs pages page node = (node.place ≡ (node_on pages page).place) × (node.place < 2 ^ 32) × (node.before < 2 ^ 64)
 
--- the pages on the way of a version through a tree over versions, from this page of the level down
-abbrev pub path_pages : ℕ → PageMap → ℕ → ℕ → List ℕ
-path_pages zero pages page version = []
-path_pages (suc level) pages page version =
-    page ∷ path_pages level pages (steps_over_versions.child_at (steps_over_versions.entries_on pages page) version) version
-
--- the pages on the way of the version through the directory
-abbrev pub directory_way : PageMap → Tree → ℕ → List ℕ
-directory_way pages tree version = path_pages tree.levels pages tree.root version
-
 -- the pages of the directory
 abbrev pub directory_pages : PageMap → Tree → List ℕ
 directory_pages pages tree = steps_over_versions.tree_pages pages (directory tree)
@@ -70,9 +60,13 @@ directory_pages pages tree = steps_over_versions.tree_pages pages (directory tre
 abbrev pub node_way : PageMap → Tree → ℕ → ℕ → List ℕ
 node_way pages tree key version = way_pages (root_level pages (root_at pages tree version)) pages (root_at pages tree version) key version
 
--- A page on the way through the directory is on the way through the nodes as well, or is missing.
-abbrev pub IsShared : List ℕ → List ℕ → PageMap → Type 0
-IsShared path way pages = (page : ℕ) × (names_page path page ≡ true) × ((names_page way page ≡ true) ⊎ (pages page ≡ None))
+-- so many places of the chain an addition below this root may take before it needs another one: two a level
+abbrev pub places_taken : PageMap → ℕ → ℕ
+places_taken pages root = root_level pages root + root_level pages root
+
+-- The root has level 16, and may have to be split: an addition puts three entries at most into it, and it has room for 96.
+abbrev pub IsFullAtTop : PageMap → ℕ → Type 0
+IsFullAtTop pages root = (root_level pages root ≡ 16) × (94 ≤ length (node_on pages root).entries.items)
 
 -- What an addition may find damaged before the directory changes: what reading the root of the version does; a page
 -- on the way from it down that is missing, does not keep to its place, or may not be changed at the version; the
@@ -83,16 +77,21 @@ IsDamagedInNodes pages free_in_order tree key version damaged =
     over_versions.IsDamagedOnPath pages (directory tree) version damaged
     ⊎ ((damaged ≡ tree.root) × (2 ^ 64 ≤ root_at pages tree version))
     ⊎ IsDamagedFromRootForAdd pages (root_at pages tree version) (root_place key version) damaged
-    ⊎ IsEndDamaged 33 pages tree.last damaged
-    ⊎ ((damaged ≡ tree.root) × (root_level pages (root_at pages tree version) ≡ 16))
+    ⊎ IsEndDamaged (places_taken pages (root_at pages tree version)) pages tree.last damaged
+    ⊎ ((damaged ≡ tree.root) × IsFullAtTop pages (root_at pages tree version))
     ⊎ (¬ free_in_order)
 
+-- What an addition to the directory finds damaged once the nodes have changed: of the pages that were in the map, those on
+-- the way of the key and the version through the nodes, and no others.
+abbrev pub IsDamagedInDirectory : PageMap → Type 0 → Tree → ℕ → ℕ → ℕ → Type 0
+IsDamagedInDirectory pages free_in_order tree key version damaged =
+    (later : PageMap) × OthersStay (node_way pages tree key version) pages later
+    × over_versions.IsDamagedForAdd later free_in_order (directory tree) version damaged
+
 -- What an addition may call damaged: the directory's root, where the tree has 2^31 additions or changes of the root;
--- what it finds in the nodes; what an addition to the directory does; and any page, where the two share one on the
--- ways of the key and the version, or one is missing.
+-- what it finds in the nodes; and what it finds in the directory after them.
 abbrev pub IsDamagedForAdd : PageMap → Type 0 → Tree → ℕ → ℕ → ℕ → Type 0
 IsDamagedForAdd pages free_in_order tree key version damaged =
     ((damaged ≡ tree.root) × ((2 ^ 31 ≤ tree.count) ⊎ (2 ^ 31 ≤ tree.changes)))
     ⊎ IsDamagedInNodes pages free_in_order tree key version damaged
-    ⊎ over_versions.IsDamagedForAdd pages free_in_order (directory tree) version damaged
-    ⊎ IsShared (directory_way pages tree version) (node_way pages tree key version) pages
+    ⊎ IsDamagedInDirectory pages free_in_order tree key version damaged

@@ -1,5 +1,5 @@
 //! Additions to a node and below it.
-ghost use Rattle.std.specs.Prelude.{◌≡◌, ◌≢◌, ◌⊎◌, ◌+◌, ◌^◌, ◌<◌, ◌≤◌, ℕ, Bool, Err, IsTrue, IfOk, Some};
+ghost use Rattle.std.specs.Prelude.{◌≡◌, ◌≢◌, ◌⊎◌, ◌+◌, ◌^◌, ◌<◌, ◌≤◌, ℕ, Bool, Err, IsTrue, IsSome, IfOk, Some, length};
 ghost use Rattle.page_layout.specs.MvNode.{IsMvNode, IsTyped, mv_node_page};
 ghost use Rattle.page_ports.specs.Calls.{Grows};
 ghost use Rattle.mv_pages.specs.Alive.{IsChangeable};
@@ -49,6 +49,8 @@ pub fn add_on<S: Stage>(
         → OthersStay (way_pages node.level (S.map stage.old) page place.key place.version) (S.map stage.old) (S.map stage.new)) }
     // Each page keeps its place, and the chain went on at its end by two pages a level at most.
     ensures kept { IfOk result (λ replaced. IsTrue (S.tells stage.old) → KeepsPlaces (node.level + node.level) (S.map stage.old) (S.map stage.new) last.old last.new) }
+    // Only a node that may come to have more than 96 entries is closed.
+    ensures full { IfOk result (λ replaced. IsTrue (S.tells stage.old) → IsSome replaced → 94 ≤ length node.entries.items) }
     ensures damaged { (p : ℕ) → result ≡ Err (StageFault.Damaged p) → IsTrue (S.tells stage.old)
         → IsDamagedPastForAdd (S.map stage.old) place node p ⊎ IsEndDamaged (node.level + node.level) (S.map stage.old) last.old p ⊎ (¬ S.free_in_order stage.old) }
     // On ways that stand no page is found damaged.

@@ -29,6 +29,7 @@ pub fn add_to_leaf(node: &mut MvNode, key: u64, version: u32, value: u128)
     ensures each { (test : ℕ → Bool) → IsTrue (test key) → All (λ l. IsTrue (test l)) (alive_lows node.old.entries.items version) → All (λ l. IsTrue (test l)) (alive_lows node.new.entries.items version) }
     ensures cut { (low least : ℕ) (high : Option ℕ) → LowsCut (alive_lows node.old.entries.items version) low high least → low ≤ key → IsTrue (ends_after high key)
         → LowsCut (alive_lows node.new.entries.items version) low high least }
+    ensures few { length node.new.entries.items ≤ length node.old.entries.items + 1 }
 {
     low_laws();
     add_at(node, key, version, value);
@@ -58,6 +59,7 @@ pub fn change(node: &mut MvNode, key: u64, version: u32, value: u128, replaced: 
         → All (λ l. IsTrue (test l)) (alive_lows node.new.entries.items version) }
     ensures cut { (low least : ℕ) (high : Option ℕ) → LowsCut (alive_lows node.old.entries.items version) low high least
         → OfCut (cut_of replaced) (λ cut. (low ≤ cut) × IsTrue (ends_after high cut)) → LowsCut (alive_lows node.new.entries.items version) low high least }
+    ensures few { length node.new.entries.items ≤ length node.old.entries.items + 3 }
 {
     low_laws();
     path_laws();
@@ -83,7 +85,7 @@ fn lead_on(node: &mut MvNode, key: u64, version: u32, replaced: Option<Replaced>
     ensures entries { AreEntriesOf node.new.level node.new.entries.items }
     ensures changeable { IsChangeable version node.new.entries.items }
     ensures typed { All IsMvEntryTyped node.old.entries.items → All IsMvEntryTyped node.new.entries.items }
-    ensures few { length node.new.entries.items ≤ 99 }
+    ensures few { length node.new.entries.items ≤ length node.old.entries.items + 2 }
 {
     path_laws();
     if let Some(replaced) = replaced {

@@ -3,7 +3,7 @@ use Rattle.std.proofs.lemmas.Result.{err_from_is_err_and}
 use Rattle.bw_types.specs.declared.point.Point.{Point}
 use Rattle.page_ports.specs.Pages.{PageMap}
 use Rattle.page_ports.specs.declared.page.StageFault.TheVariants.{Damaged}
-use Rattle.mvsb_tree.specs.AddDamage.{IsDamagedFromRootForAdd, IsEndDamaged}
+use Rattle.mvsb_tree.specs.AddDamage.{IsDamagedFromRootForAdd, IsEndDamaged, IsFullAtTop, places_taken}
 use Rattle.mvsb_tree.specs.Damage.{root_place}
 use Rattle.mvsb_tree.specs.Grown.{NodesHold}
 use Rattle.mvsb_tree.specs.Stands.{ChainStands, StandsOnWay, is_marked}
@@ -103,7 +103,7 @@ returns-in_err-top-2-clause-damaged g c = λ page e tells. (
     let root_is : root ≡ root_at m0 tree v = c.in_ok-root.ensures.root tells in
     elim (c.in_err-top-2.ensures.damaged page (ap Err same) (read.tells ∙ tells)) [
       | inl way ↦ inr (inr (inl (subst (λ (r : ℕ). IsDamagedFromRootForAdd m0 r (root_place key v) page) root_is (subst (λ (m : PageMap). IsDamagedFromRootForAdd m root (root_place key v) page) read.map way))))
-      | inr (inl end) ↦ inr (inr (inr (inl (subst (λ (l : ℕ). IsEndDamaged 33 m0 l page) c.requires.last (subst (λ (m : PageMap). IsEndDamaged 33 m c.args.last.now page) read.map end)))))
-      | inr (inr (inl high)) ↦ inr (inr (inr (inr (inl (high.0, subst (λ (r : ℕ). root_level m0 r ≡ 16) root_is (subst (λ (m : PageMap). root_level m root ≡ 16) read.map high.1))))))
+      | inr (inl end) ↦ inr (inr (inr (inl (subst (λ (r : ℕ). IsEndDamaged (places_taken m0 r) m0 tree.last page) root_is (subst (λ (l : ℕ). IsEndDamaged (places_taken m0 root) m0 l page) c.requires.last (subst (λ (m : PageMap). IsEndDamaged (places_taken m root) m c.args.last.now page) read.map end))))))
+      | inr (inr (inl high)) ↦ inr (inr (inr (inr (inl (high.0, subst (λ (r : ℕ). IsFullAtTop m0 r) root_is (subst (λ (m : PageMap). IsFullAtTop m root) read.map high.1))))))
       | inr (inr (inr unordered)) ↦ inr (inr (inr (inr (inr (λ ordered. unordered (read.free_in_order ordered))))))
     ])

@@ -11,7 +11,7 @@ use Rattle.sb_tree.specs.Damage as damage
 use Rattle.sb_tree.specs.Steps as dir_steps
 use Rattle.sb_tree.specs.Stored.{OthersStay}
 use Rattle.mvsb_tree.specs.AddDamage.{node_way}
-use Rattle.mvsb_tree.proofs.Sharing.{both_stay, damage_before}
+use Rattle.mvsb_tree.proofs.Later.{both_stay, damaged_alike}
 use Rattle.mvsb_tree.specs.Led.{Led}
 use Rattle.mvsb_tree.specs.Stands.{MvStands, is_marked, key_of}
 use Rattle.mvsb_tree.specs.Steps.{directory, place_count, root_level}
@@ -165,10 +165,7 @@ returns-in_err-lead_to-clause-damaged g c = λ page e tells. (
     let grows = c.add_to_nodes.ensures.grows.went_on in
     let d0 = c.in_err-lead_to.ensures.damaged page (ap Err same) (grows.tells ∙ tells) in
     let d1 = subst (λ (t : Tree). damage.IsDamagedForAdd m1 order1 t c.args.version page) c.directory-roots.ensures d0 in
-    elim (damage_before m0 m1 (node_way m0 tree c.args.key c.args.version) (c.in_ok-ends.ensures.apart tells) order0 order1 (directory tree) c.args.version page (λ ordered. grows.free_in_order tells ordered) d1) [
-      | inl before ↦ inr (inr (inl before))
-      | inr shared ↦ inr (inr (inr shared))
-    ])
+    inr (inr (m1, c.in_ok-ends.ensures.apart tells, damaged_alike m1 order0 order1 (directory tree) c.args.version page (λ ordered. grows.free_in_order tells ordered) d1)))
 
 pub returns-clause-apart : goal.returns-clause-apart
 returns-clause-apart g c = λ tells there apart. (

@@ -25,6 +25,7 @@ use Rattle.mvsb_tree.proofs.Sound.{root_spelled}
 use Rattle.mvsb_tree.proofs.Sounding.{Fails, changeable_where_stands, child_fits, child_undamaged}
 use Rattle.mvsb_tree.proofs.Assembling.{AddsBelow, both_apart, cut_inside_too, first_apart, index_added, leaf_added, leaf_here, of_cut, outer_fits, stored_apart}
 use Rattle.mvsb_tree.proofs.Splitting.{lies_in, lows_within, split_fits}
+use Rattle.mvsb_tree.proofs.Storing.{closed_full}
 use Rattle.mvsb_tree.proofs.below.+add_on.Goals as goal
 
 pub returns-in_default-clause-fits : goal.returns-in_default-clause-fits
@@ -33,6 +34,14 @@ returns-in_default-clause-fits g t c = IfOk-weaker c.store.result _ _ (λ r spli
     (c.add_to_leaf.ensures.each (lies_in c.args.place.low c.args.place.high)
     (and_from (nat_le c.args.place.low c.args.place.key) (ends_after c.args.place.high c.args.place.key) (le-leb c.args.place.low c.args.place.key c.requires.key.0) c.requires.key.1)
     (lows_within c.args.place c.args.node.entries.items c.requires.placed.within)) split) c.store.ensures.split
+
+pub returns-in_default-clause-full : goal.returns-in_default-clause-full
+returns-in_default-clause-full g t c = IfOk-weaker c.store.result _ _ (λ r stored tells some.
+    omega (arith, closed_full _ _ c.args.page c.add_to_leaf.new.node c.args.place.version c.args.last.now c.store.new.last r (stored tells) some, c.add_to_leaf.ensures.few)) c.store.ensures.stored
+
+pub returns-clause-full : goal.returns-clause-full
+returns-clause-full g t c = IfOk-weaker c.store-2.result _ _ (λ r stored tells some.
+    omega (arith, closed_full _ _ c.args.page c.change.new.node c.args.place.version c.add_on.new.last c.store-2.new.last r (stored (search rules)) some, c.change.ensures.few)) c.store-2.ensures.stored
 
 pub change-requires-clause-replaced : goal.change-requires-clause-replaced
 change-requires-clause-replaced g t c =

@@ -1,15 +1,16 @@
-use Rattle.std.proofs.Common.{◌≡◌, ◌≢◌, ◌+◌, ◌-◌, ◌^◌, ◌<◌, inl, inr, IsSome, ℕ, Some, None, Err, List, refl, sym, ap, ◌∙◌, subst, arith, rules}
+use Rattle.std.proofs.Common.{◌≡◌, ◌≢◌, ◌+◌, ◌-◌, ◌^◌, ◌<◌, ◌≤◌, inl, inr, IsSome, ℕ, Some, None, Err, List, length, refl, sym, ap, ◌∙◌, subst, arith, rules}
 use Rattle.std.proofs.lemmas.Result.{IfOk-weaker, err_from_is_err_and}
 use Rattle.std.proofs.lemmas.Bool.{iff_false}
 use Rattle.page_ports.specs.Pages.{PageMap}
 use Rattle.page_ports.specs.declared.page.StageFault.TheVariants.{Damaged}
 use Rattle.page_layout.specs.MvNode.{mv_node_page}
+use Rattle.page_layout.specs.declared.mv_node.MvNode.{MvNode}
 use Rattle.mvsb_tree.specs.declared.place.Place.{Place}
 use Rattle.mvsb_tree.specs.Stands.{StandsOnWay}
 use Rattle.mvsb_tree.specs.Steps.{chain_from, node_on, root_level}
 use Rattle.mv_pages.specs.Alive.{IsChangeable}
 use Rattle.sb_tree.specs.Stored.{OthersStay}
-use Rattle.mvsb_tree.specs.AddDamage.{IsDamagedPastForAdd, IsEndDamaged, KeepsPlaces}
+use Rattle.mvsb_tree.specs.AddDamage.{IsDamagedPastForAdd, IsEndDamaged, KeepsPlaces, places_taken}
 use Rattle.mvsb_tree.specs.Damage.{IsInPlace, root_place}
 use Rattle.mvsb_tree.specs.Ways.{way_pages}
 use Rattle.mvsb_tree.proofs.AddPast.{root_add_past, root_add_unfit, top_stays}
@@ -19,6 +20,7 @@ use Rattle.mvsb_tree.proofs.Assembling.{AddsBelow}
 use Rattle.mvsb_tree.proofs.Exits.{both_if, err_same_staged, exit_error, read_damaged}
 use Rattle.mvsb_tree.proofs.Growing.{named_second}
 use Rattle.mvsb_tree.proofs.Lasting.{some_by_name}
+use Rattle.mvsb_tree.proofs.Nodes.{node_on-spelled}
 use Rattle.mvsb_tree.proofs.Sound.{root_spelled}
 use Rattle.mvsb_tree.proofs.Sounding.{Fails, changeable_where_stands, root_in_place}
 use Rattle.mvsb_tree.proofs.Topping.{tops}
@@ -168,10 +170,11 @@ returns-in_err-replaced-clause-damaged g c = λ p e tells. (
     let read = c.read_page.ensures.reads.read in
     let told = err_from_is_err_and c.from_residual-in_err-replaced.result c.from_residual-in_err-replaced.ensures.1 in
     let same = exit_error c.from_residual-in_err-replaced.result c.in_err-replaced.field-0.0 (Damaged p) told e in
+    let level : root_level m0 root ≡ node.level = level_of_root m0 root node some spells.typed spells.rules there in
     elim (c.in_err-replaced.ensures.damaged p (ap Err same) (read.tells ∙ tells)) [
       | inl past ↦ inl (root_add_past m0 root (root_place key v) node p some spells.typed spells.rules there inside can
           (subst (λ (q : Place). IsDamagedPastForAdd m0 q node p) c.root_place-place.ensures (subst (λ (m : PageMap). IsDamagedPastForAdd m c.root_place-place.result node p) read.map past)))
-      | inr (inl last) ↦ inr (inl (end_more (node.level + node.level) 33 m0 c.args.last.now p (omega (arith, spells.rules.high_level)) (subst (λ (m : PageMap). IsEndDamaged (node.level + node.level) m c.args.last.now p) read.map last)))
+      | inr (inl last) ↦ inr (inl (end_more (node.level + node.level) (places_taken m0 root) m0 c.args.last.now p (omega (arith, level)) (subst (λ (m : PageMap). IsEndDamaged (node.level + node.level) m c.args.last.now p) read.map last)))
       | inr (inr unordered) ↦ inr (inr (inr (λ ordered. unordered (read.free_in_order ordered))))
     ])
 
@@ -215,7 +218,11 @@ returns-clause-damaged g c = λ p e tells. (
     let k0 : KeepsPlaces (node.level + node.level) (g.S.Pages.map c.read_page.new.pages) m1 last last1 = c.in_ok-replaced.ensures.kept (read.tells ∙ tells) in
     let kept : KeepsPlaces (node.level + node.level) m0 m1 last last1 = subst (λ (m : PageMap). KeepsPlaces (node.level + node.level) m m1 last last1) read.map k0 in
     elim (c.top_of.ensures.damaged p e (grows.tells ∙ read.tells ∙ tells)) [
-      | inl high ↦ inr (inr (inl (high.0, (let is : root_level m0 root ≡ 16 = omega (arith, level, high.1, spells.rules.high_level) in is))))
-      | inr (inl end) ↦ inr (inl (end_more (node.level + node.level + 0) 33 m0 last p (omega (arith, spells.rules.high_level)) (end_before (node.level + node.level) 0 m0 m1 last last1 p kept (end_of_last m1 last1 p end))))
+      | inl high ↦
+          let is : root_level m0 root ≡ 16 = omega (arith, level, high.1, spells.rules.high_level) in
+          let many : 94 ≤ length node.entries.items = c.in_ok-replaced.ensures.full (read.tells ∙ tells) high.2 in
+          let on : node_on m0 root ≡ node = node_on-spelled m0 root node spells.typed spells.rules there in
+          inr (inr (inl (high.0, (is, subst (λ (n : MvNode). 94 ≤ length n.entries.items) (sym on) many))))
+      | inr (inl end) ↦ inr (inl (end_more (node.level + node.level + 0) (places_taken m0 root) m0 last p (omega (arith, level)) (end_before (node.level + node.level) 0 m0 m1 last last1 p kept (end_of_last m1 last1 p end))))
       | inr (inr unordered) ↦ inr (inr (inr (λ ordered. unordered (grows.free_in_order (read.tells ∙ tells) (read.free_in_order ordered)))))
     ])
