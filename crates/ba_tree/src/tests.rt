@@ -2,7 +2,7 @@
 use crate::BaIndex;
 use ba_build::{built_height, drop_tree};
 use bw_types::{BaEntry, Outside, Point, Tree, point_key};
-use dom_index::DomIndex;
+use dom_index::{DomIndex, PointList};
 use page_access::{read_level, read_page};
 use page_layout::{CutPage, PointLeaf};
 use page_ports::{MemStage, PageFault, Pages, StageFault, blank_page};
@@ -33,6 +33,20 @@ fn add(
         return Err(StageFault::Damaged(0));
     }
     BaIndex::add(alloc, stage, 2, tree, point)
+}
+
+/// Adds the point to a plain list of points.
+fn add_to_list(
+    alloc: Global,
+    stage: &mut MemStage,
+    tree: &mut Tree,
+    point: &Point,
+) -> Result<(), StageFault> {
+    let below = point.keys[0] <= GREATEST && point.keys[1] <= GREATEST;
+    if !below || point.version >= u32::MAX {
+        return Err(StageFault::Damaged(0));
+    }
+    PointList::add(alloc, stage, 2, tree, point)
 }
 
 fn total(stage: &mut MemStage, tree: &Tree) -> Result<u128, PageFault> {
@@ -73,6 +87,12 @@ fn a_leaf_is_split(rt: HostRuntime) -> Result<(), Fail> {
     }
     add(rt.alloc(), &mut stage, &mut tree, &twice(5, 64, 1))?;
     assert_eq!(rt; (tree.levels, tree.count), (2, 65));
+    // It is cut in dimension 0, at the key of the point in the middle.
+    let root: CutPage = read_level(&mut stage, tree.root, 2)?;
+    let Some(cut) = root.cuts.as_slice().first() else {
+        return Err(Fail::from(StageFault::Damaged(tree.root)));
+    };
+    assert_eq!(rt; (cut.dimension, cut.key), (0, point_key(5, 32)));
     let [low, high] = two_entries(&mut stage, &tree)?;
     assert_eq!(rt; leaf_points(&mut stage, low.child), Ok(32));
     assert_eq!(rt; leaf_points(&mut stage, high.child), Ok(33));
@@ -236,6 +256,30 @@ fn sums_agree(stage: &mut MemStage, tree: &Tree, three: bool, points: &[Point]) 
     true
 }
 
+/// Whether the tree and the plain list, each on its stage, have the same sums over two dimensions, at keys and versions that are drawn.
+fn is_as_the_list(
+    stage: &mut MemStage,
+    tree: &Tree,
+    list_stage: &mut MemStage,
+    list: &Tree,
+) -> bool {
+    let mut state = 7;
+    for _ in 0..200 {
+        let first = point_key(draw(&mut state) % 100, 268435455);
+        let second = point_key(draw(&mut state) % 100, 268435455);
+        if first > GREATEST || second > GREATEST {
+            return false;
+        }
+        let keys = [first, second, 0];
+        let version = draw(&mut state) % 400;
+        let listed = PointList::sum(list_stage, 2, list, &keys, version);
+        if listed.is_err() || BaIndex::sum(stage, 2, tree, &keys, version) != listed {
+            return false;
+        }
+    }
+    true
+}
+
 /// Whether no page of the stage is in use.
 fn holds_no_page(stage: &mut MemStage) -> bool {
     let mut bytes = blank_page();
@@ -253,12 +297,16 @@ fn sums_of_drawn_points(rt: HostRuntime) -> Result<(), Fail> {
     let mut tree = Tree::default();
     let mut points = Vec::new(rt.alloc());
     let mut state = 17;
+    let mut list_stage = MemStage::new(rt.alloc(), 1000000);
+    let mut list = Tree::default();
     for number in 0..1000u32 {
         let point = drawn_point(&mut state, number);
         add(rt.alloc(), &mut stage, &mut tree, &point)?;
+        add_to_list(rt.alloc(), &mut list_stage, &mut list, &point)?;
         points.push(point)?;
         if number % 200 == 199 {
             assert!(rt; sums_agree(&mut stage, &tree, false, points.as_slice()));
+            assert!(rt; is_as_the_list(&mut stage, &tree, &mut list_stage, &list));
         }
     }
     drop_tree(&mut stage, 2, &tree)?;

@@ -2,9 +2,9 @@
 
 use crate::run::run;
 use crate::status::{Ran, Status};
-use crate::tests::{Step, failing_at, first_wrong, new_warehouse, run_over, words_of};
+use crate::tests::{KINDS, Step, failing_at, first_wrong, new_warehouse, run_over, words_of};
 use byte_ports::{MemSink, MemSource};
-use page_disk::{MemDisk, PlainDisk, Torn};
+use page_disk::{MemDisk, PlainDisk};
 use std::alloc::Global;
 use std::test::Fail;
 
@@ -329,13 +329,7 @@ fn a_commit_that_is_stopped(rt: HostRuntime) -> Result<(), Fail> {
     let after = ran.disk.calls();
     assert!(rt; before < after && after < 1000);
     let all = after - before;
-    for torn in [
-        Torn::Lost,
-        Torn::Landed,
-        Torn::Filled(0),
-        Torn::Filled(1),
-        Torn::Filled(255),
-    ] {
+    for torn in KINDS {
         let mut was_there = false;
         for calls in 0..all + 1 {
             let mut disk = new_warehouse(alloc)?;

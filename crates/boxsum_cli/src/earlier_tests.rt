@@ -3,8 +3,8 @@
 use crate::disk_tests::TOUCHING;
 use crate::hostile_tests::pages_of;
 use crate::status::{Ran, Status};
-use crate::tests::{new_warehouse, run_over};
-use page_disk::{Area, MemDisk, Torn};
+use crate::tests::{KINDS, new_warehouse, run_over};
+use page_disk::{Area, MemDisk};
 use page_ports::{Page, blank_page};
 use std::alloc::Global;
 use std::test::Fail;
@@ -110,13 +110,7 @@ fn the_first_commit_is_stopped(rt: HostRuntime) -> Result<(), Fail> {
     let after = ran.disk.calls();
     assert!(rt; before < after && after < 1000);
     let all = after - before;
-    for torn in [
-        Torn::Lost,
-        Torn::Landed,
-        Torn::Filled(0),
-        Torn::Filled(1),
-        Torn::Filled(255),
-    ] {
+    for torn in KINDS {
         let mut was_there = false;
         for calls in 0..all + 1 {
             let (disk, _) = earlier(alloc)?;

@@ -2,7 +2,7 @@
 
 use crate::disk_tests::{TOUCHING, has_batch, many_adds};
 use crate::status::{Ran, Status};
-use crate::tests::{failing_run, new_warehouse, run_over};
+use crate::tests::{KINDS, failing_run, new_warehouse, run_over};
 use page_disk::{Area, Disk, MemDisk, Torn};
 use page_ports::{Page, blank_page};
 use std::alloc::Global;
@@ -173,19 +173,21 @@ fn an_opening_that_is_stopped(rt: HostRuntime) -> Result<(), Fail> {
     }
     assert!(rt; synced.is_some());
     let synced = synced.unwrap_or(0);
-    for calls in 0..40 {
-        let mut disk = new_warehouse(alloc)?;
-        disk.stop_after(synced);
-        let (ran, _) = run_over(alloc, "run", TOUCHING.as_bytes(), disk)?;
-        let mut disk = ran.disk.crash(Torn::Lost);
-        disk.stop_after(calls);
-        let (ran, _) = run_over(alloc, "run", b"sum,now,5,5", disk)?;
-        let Ran { status: _, disk } = ran;
-        assert_eq!(rt;
-            has_batch(alloc, disk.crash(Torn::Lost))?,
-            Some(true),
-            "call {calls}"
-        );
+    for torn in KINDS {
+        for calls in 0..40 {
+            let mut disk = new_warehouse(alloc)?;
+            disk.stop_after(synced);
+            let (ran, _) = run_over(alloc, "run", TOUCHING.as_bytes(), disk)?;
+            let mut disk = ran.disk.crash(Torn::Lost);
+            disk.stop_after(calls);
+            let (ran, _) = run_over(alloc, "run", b"sum,now,5,5", disk)?;
+            let Ran { status: _, disk } = ran;
+            assert_eq!(rt;
+                has_batch(alloc, disk.crash(torn))?,
+                Some(true),
+                "call {calls}"
+            );
+        }
     }
     Ok(())
 }

@@ -2,9 +2,9 @@
 
 use crate::run::run;
 use crate::status::{Ran, Status};
-use crate::tests::{failing_at, run_over, words_of};
+use crate::tests::{KINDS, failing_at, run_over, words_of};
 use byte_ports::{MemSink, MemSource};
-use page_disk::{MemDisk, PlainDisk, Torn};
+use page_disk::{MemDisk, PlainDisk};
 use std::alloc::Global;
 use std::test::Fail;
 
@@ -88,7 +88,7 @@ fn a_sample_that_is_stopped(rt: HostRuntime) -> Result<(), Fail> {
     let (ran, _) = run_over(alloc, "sample 5 9", b"", MemDisk::blank(alloc))?;
     let all = ran.disk.calls();
     assert!(rt; all < 1000);
-    for torn in [Torn::Lost, Torn::Landed, Torn::Filled(0), Torn::Filled(255)] {
+    for torn in KINDS {
         for calls in 0..all + 1 {
             let mut disk = MemDisk::blank(alloc);
             disk.stop_after(calls);

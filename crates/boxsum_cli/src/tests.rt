@@ -269,7 +269,24 @@ pub(crate) fn run_over<D: Disk + Drop>(
     run_pieces(alloc, words, input, 4096, None, None, disk)
 }
 
-// Whether rows that come in such pieces are answered by this text, in memory and on a disk.
+// Whether a new warehouse on the blank disk answers rows that come in such pieces by this text.
+fn answers_on<D: Disk + Drop>(
+    alloc: Global,
+    params: &str,
+    input: &[u8],
+    piece: usize,
+    text: &[u8],
+    blank: D,
+) -> Result<bool, Fail>
+    requires { 0 < piece }
+{
+    let words = format!(in alloc; "create {params}")?;
+    let (ran, _) = run_over(alloc, words.as_str(), b"", blank)?;
+    let (ran, sink) = run_pieces(alloc, "run", input, piece, None, None, ran.disk)?;
+    Ok(ran.status == Status::Fine && sink.bytes() == text)
+}
+
+// Whether rows that come in such pieces are answered by this text, in memory and on both disks.
 fn answers_with(
     alloc: Global,
     params: &str,
@@ -284,10 +301,12 @@ fn answers_with(
     if status != Status::Fine || sink.bytes() != text {
         return Ok(false);
     }
-    let words = format!(in alloc; "create {params}")?;
-    let (ran, _) = run_over(alloc, words.as_str(), b"", PlainDisk::blank(alloc))?;
-    let (ran, sink) = run_pieces(alloc, "run", input, piece, None, None, ran.disk)?;
-    Ok(ran.status == Status::Fine && sink.bytes() == text)
+    let plain = PlainDisk::blank(alloc);
+    let recording = MemDisk::blank(alloc);
+    Ok(
+        answers_on(alloc, params, input, piece, text, plain)?
+            && answers_on(alloc, params, input, piece, text, recording)?,
+    )
 }
 
 // A further run over the disk that the one before left; `create` begins with a new disk.
@@ -321,6 +340,15 @@ pub(crate) fn first_wrong(alloc: Global, steps: &[Step]) -> Result<Option<usize>
     }
     Ok(None)
 }
+
+// What may become of the writes that a stop finds under way.
+pub(crate) const KINDS: [Torn; 5] = [
+    Torn::Lost,
+    Torn::Landed,
+    Torn::Filled(0),
+    Torn::Filled(1),
+    Torn::Filled(255),
+];
 
 // A recording disk with a new warehouse of one dimension.
 pub(crate) fn new_warehouse(alloc: Global) -> Result<MemDisk, Fail> {
@@ -671,7 +699,7 @@ fn each_call_on_the_disk_fails(rt: HostRuntime) -> Result<(), Fail> {
 #[test]
 fn a_creation_that_is_stopped(rt: HostRuntime) -> Result<(), Fail> {
     let alloc = rt.alloc();
-    for torn in [Torn::Lost, Torn::Landed, Torn::Filled(0), Torn::Filled(1)] {
+    for torn in KINDS {
         for calls in 0..16 {
             let mut disk = MemDisk::blank(alloc);
             disk.stop_after(calls);

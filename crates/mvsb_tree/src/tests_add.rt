@@ -1,6 +1,8 @@
 //! Trees in memory: additions against plain sums.
 use crate::{mv_add, mv_free, mv_value};
 use bw_types::Tree;
+use page_access::read_page;
+use page_layout::MvNode;
 use page_ports::{MemStage, PageFault, Pages, Stage, StageFault, blank_page};
 use std::alloc::{AllocError, Global};
 use std::test::Fail;
@@ -26,6 +28,12 @@ fn three_additions(rt: HostRuntime) -> Result<(), Fail> {
     Ok(())
 }
 
+// How many entries the node on the page has.
+fn entries_on(stage: &mut MemStage, page: u64) -> Result<usize, PageFault> {
+    let node: MvNode = read_page(stage, page)?;
+    Ok(node.entries.len())
+}
+
 #[test]
 fn a_root_that_splits_in_one_version(rt: HostRuntime) -> Result<(), Fail> {
     let mut stage = MemStage::new(rt.alloc(), 20);
@@ -38,6 +46,10 @@ fn a_root_that_splits_in_one_version(rt: HostRuntime) -> Result<(), Fail> {
     assert_eq!(rt; mv_value(&mut stage, &tree, 0, 1), Ok(0));
     assert_eq!(rt; mv_value(&mut stage, &tree, 50, 1), Ok(50));
     assert_eq!(rt; mv_value(&mut stage, &tree, 96, 1), Ok(96));
+    // The first node, which keeps its page, and the directory; the second node and the root.
+    assert_eq!(rt; stage.allotted(), 7);
+    assert_eq!(rt; entries_on(&mut stage, 3), Ok(48));
+    assert_eq!(rt; entries_on(&mut stage, 5), Ok(49));
     mv_free(&mut stage, &tree)?;
     assert!(rt; holds_no_pages(&mut stage));
     Ok(())
@@ -54,6 +66,8 @@ fn one_key_at_many_versions(rt: HostRuntime) -> Result<(), Fail> {
     assert_eq!(rt; mv_value(&mut stage, &tree, 5, 1), Ok(1));
     assert_eq!(rt; mv_value(&mut stage, &tree, 5, 95), Ok(95));
     assert_eq!(rt; mv_value(&mut stage, &tree, 5, 96), Ok(96));
+    // Of its entries two are alive, so one new page takes its part.
+    assert_eq!(rt; stage.allotted(), 6);
     Ok(())
 }
 

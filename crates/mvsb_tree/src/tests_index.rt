@@ -33,7 +33,9 @@ fn three_points(rt: HostRuntime) -> Result<(), Fail> {
     MvIndex::add(rt.alloc(), &mut stage, 1, &mut tree, &point_at(5, 2, 1))?;
     assert_eq!(rt; sum_at(&mut stage, &tree, 25, 0), Ok(0));
     assert_eq!(rt; sum_at(&mut stage, &tree, 9, 1), Ok(0));
+    assert_eq!(rt; sum_at(&mut stage, &tree, 10, 1), Ok(5));
     assert_eq!(rt; sum_at(&mut stage, &tree, 25, 1), Ok(12));
+    assert_eq!(rt; sum_at(&mut stage, &tree, 4, 2), Ok(0));
     assert_eq!(rt; sum_at(&mut stage, &tree, 5, 2), Ok(1));
     assert_eq!(rt; sum_at(&mut stage, &tree, 25, 2), Ok(13));
     Ok(())
