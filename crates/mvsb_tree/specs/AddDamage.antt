@@ -1,5 +1,5 @@
 -- What an addition to a multiversion tree may find damaged.
-use Rattle.std.specs.Prelude.{◌≡◌, ℕ, ◌+◌, ◌-◌, ◌⊎◌, ◌<◌, ◌≤◌, ◌^◌, List, length, None, IsSome}
+use Rattle.std.specs.Prelude.{◌≡◌, ◌≢◌, ℕ, ◌+◌, ◌-◌, ◌⊎◌, ◌<◌, ◌≤◌, ◌^◌, List, length, None, IsSome}
 use Rattle.bw_types.specs.declared.tree.Tree.{Tree}
 use Rattle.page_ports.specs.Pages.{PageMap}
 use Rattle.page_layout.specs.Damage.{IsDamagedBelow, NothingBeside}
@@ -30,8 +30,8 @@ IsDamagedFromRootForAdd pages root place damaged =
     ((damaged ≡ root) × SpellsNone mv_pages pages root)
     ⊎ IsDamagedBelow FitsForAdd LeadsTo NothingBeside pages (root_level pages root) place root damaged
 
--- The chain's last page spells no node; or so many places more pass the last one that there is, and the page
--- is the last one of the chain, or one that was put to its end, and was not in the map before.
+-- The chain's last page spells no node; or fewer than so many places are left, and the page is the last one of the chain, or
+-- one that was put to its end, and was not in the map before.
 abbrev pub IsEndDamaged : ℕ → PageMap → ℕ → ℕ → Type 0
 IsEndDamaged more pages last damaged =
     ((damaged ≡ last) × SpellsNone mv_pages pages last)
@@ -68,18 +68,16 @@ places_taken pages root = root_level pages root + root_level pages root
 abbrev pub IsFullAtTop : PageMap → ℕ → Type 0
 IsFullAtTop pages root = (root_level pages root ≡ 16) × (94 ≤ length (node_on pages root).entries.items)
 
--- What an addition may find damaged before the directory changes: what reading the root of the version does; a page
--- on the way from it down that is missing, does not keep to its place, or may not be changed at the version; the
--- end of the chain; the directory's root, where a root of level 16 would be split; any page where the free pages
--- are not in order.
-abbrev pub IsDamagedInNodes : PageMap → Type 0 → Tree → ℕ → ℕ → ℕ → Type 0
-IsDamagedInNodes pages free_in_order tree key version damaged =
+-- What an addition may find damaged in the nodes of a tree that has some: what reading the root of the version does; a page on
+-- the way from it down that is missing, does not keep to its place, or may not be changed at the version; the end of the chain;
+-- the directory's root, where a root of level 16 has 94 entries or more.
+abbrev pub IsDamagedInNodes : PageMap → Tree → ℕ → ℕ → ℕ → Type 0
+IsDamagedInNodes pages tree key version damaged =
     over_versions.IsDamagedOnPath pages (directory tree) version damaged
     ⊎ ((damaged ≡ tree.root) × (2 ^ 64 ≤ root_at pages tree version))
     ⊎ IsDamagedFromRootForAdd pages (root_at pages tree version) (root_place key version) damaged
     ⊎ IsEndDamaged (places_taken pages (root_at pages tree version)) pages tree.last damaged
     ⊎ ((damaged ≡ tree.root) × IsFullAtTop pages (root_at pages tree version))
-    ⊎ (¬ free_in_order)
 
 -- What an addition to the directory finds damaged once the nodes have changed: of the pages that were in the map, those on
 -- the way of the key and the version through the nodes, and no others.
@@ -88,10 +86,11 @@ IsDamagedInDirectory pages free_in_order tree key version damaged =
     (later : PageMap) × OthersStay (node_way pages tree key version) pages later
     × over_versions.IsDamagedForAdd later free_in_order (directory tree) version damaged
 
--- What an addition may call damaged: the directory's root, where the tree has 2^31 additions or changes of the root;
--- what it finds in the nodes; and what it finds in the directory after them.
+-- What an addition may call damaged: the directory's root, where the tree has 2^31 additions or changes of the root; what it
+-- finds in the nodes; what it finds in the directory after them; any page where the free pages are not in order.
 abbrev pub IsDamagedForAdd : PageMap → Type 0 → Tree → ℕ → ℕ → ℕ → Type 0
 IsDamagedForAdd pages free_in_order tree key version damaged =
     ((damaged ≡ tree.root) × ((2 ^ 31 ≤ tree.count) ⊎ (2 ^ 31 ≤ tree.changes)))
-    ⊎ IsDamagedInNodes pages free_in_order tree key version damaged
+    ⊎ ((tree.levels ≢ 0) × IsDamagedInNodes pages tree key version damaged)
     ⊎ IsDamagedInDirectory pages free_in_order tree key version damaged
+    ⊎ (¬ free_in_order)

@@ -1,5 +1,5 @@
 //! Additions.
-ghost use Rattle.std.specs.Prelude.{◌≡◌, ◌≢◌, ◌+◌, ◌^◌, ◌<◌, ◌≤◌, ℕ, List, ◌∷◌, ◌++◌, length, Err, IsTrue, IfOk, OnOk, OnErr};
+ghost use Rattle.std.specs.Prelude.{◌≡◌, ◌≢◌, ◌⊎◌, ◌+◌, ◌^◌, ◌<◌, ◌≤◌, ℕ, List, ◌∷◌, ◌++◌, length, Err, IsTrue, IfOk, OnOk, OnErr};
 ghost use Rattle.std.specs.List.{All};
 ghost use Rattle.bw_types.specs.declared.point.Point.{Point};
 ghost use Rattle.page_ports.specs.Calls.{Grows};
@@ -27,7 +27,10 @@ use sb_tree::tree_laws;
 /// most 24 pages are given out then, and no page is found damaged where the free pages are in order.
 /// After a refusal the tree value is as it was, and the stage is to be abandoned. `Disk` comes only
 /// where the count of faults rose, and `PageLimit` only where as many pages are given out as the limit
-/// allows.
+/// allows. `Damaged` names the directory's root where it counts `2^31` additions or changes of the root, or
+/// where the root of the version has level 16 and is full; the first page on the way of the key and the version
+/// that holds no node for its place, or one that may not be changed at the version; the end of the chain of
+/// places, where it holds no node or has too few places left; or what the directory's own tree finds damaged.
 pub fn mv_add<S: Stage>(
     stage: &mut S,
     tree: &mut Tree,
@@ -105,7 +108,7 @@ fn add_to_nodes<S: Stage>(
         → RootAdded (is_marked (p ∷ points)) (S.map stage.old) (S.map stage.new) ends.root ends.top version key value (place_count (S.map stage.old) tree.now) last.old last.new) }
     ensures apart { IfOk result (λ ends. IsTrue (S.tells stage.old) → OthersStay (node_way (S.map stage.old) tree.now key version) (S.map stage.old) (S.map stage.new)) }
     ensures damaged { (page : ℕ) → result ≡ Err (StageFault.Damaged page) → IsTrue (S.tells stage.old)
-        → IsDamagedInNodes (S.map stage.old) (S.free_in_order stage.old) tree.now key version page }
+        → ((tree.now.levels ≢ 0) × IsDamagedInNodes (S.map stage.old) tree.now key version page) ⊎ (¬ S.free_in_order stage.old) }
     ensures sound { (points : List Point) (page : ℕ) → IsTrue (S.tells stage.old) → MvStands (S.map stage.old) tree.now points
         → length points < 2 ^ 31 → All (λ q. q.version ≤ version) points → IsBalanced (S.map stage.old) tree.now
         → S.free_in_order stage.old → result ≢ Err (StageFault.Damaged page) }

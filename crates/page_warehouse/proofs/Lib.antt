@@ -19,3 +19,4 @@ pub mod Drafted
 pub mod Same
 pub mod Small
 pub mod Telling
+pub mod Leads

@@ -5,6 +5,7 @@ use Rattle.std.proofs.lemmas.Grind.{flat_map-append}
 use Rattle.std.proofs.lemmas.List.{append-nil}
 use Rattle.std.proofs.lemmas.List.Sorted.{IsPermutation-sym, length_permutation}
 use Rattle.bw_types.specs.History.{History, changes}
+use Rattle.bw_types.specs.Lawful.{IsLawful, IsLawfulBatch}
 use Rattle.bw_types.specs.Lives.{lives}
 use Rattle.bw_types.specs.declared.change.Change.{Change}
 use Rattle.bw_types.specs.declared.dated.Dated.{Dated}
@@ -21,6 +22,9 @@ use Rattle.corner_forest.specs.Enters.{entry_of}
 use Rattle.corner_forest.specs.Entries.{IsNextEntry}
 use Rattle.poly_moments.specs.PlaneSums.{Entered}
 use Rattle.change_laws.specs.Begun.{begun_life, next_event, next_version, with_changes}
+use Rattle.change_laws.specs.Next.{FrontsAreLawful}
+use Rattle.history_entries.specs.Entries.{history_entries}
+use Rattle.history_entries.specs.Growing.{EntriesAreChanges}
 use Rattle.change_laws.specs.Ids.{LivesEndWithTheGreatest}
 
 -- how many changes there are with the batch so far
@@ -28,6 +32,12 @@ pub changes_so_far : (h : History) (done : List Change) → length (changes (wit
 changes_so_far h done =
     ap length (flat_map-append (λ (b : List Change). b) h (done ∷ []))
     ∙ length-append (changes h) (done ++ []) ∙ ap (λ (l : List Change). length (changes h) + length l) (append-nil done)
+
+-- how many entries there are with the batch
+pub entries_then : EntriesAreChanges → FrontsAreLawful → (params : Params) (h : History) (batch : List Change) → IsLawful params h → IsLawfulBatch params h batch
+    → length (history_entries (with_changes h batch)) ≡ length (changes h) + length batch
+entries_then entries fronts params h batch lawful is =
+    entries params (with_changes h batch) (fronts params h batch [] lawful (subst (λ (l : List Change). IsLawfulBatch params h l) (sym (append-nil batch)) is)).1 ∙ changes_so_far h batch
 
 -- the table tells the last life of an id in the history
 pub last_told : LastInAnyOrder → LivesEndWithTheGreatest → (pages : PageMap) (table : Tree) (kept : List Dated) (h : History) (id : ℕ) → TableStands ByLives pages table kept → IsPermutation kept (lives h)

@@ -15,10 +15,12 @@ use Rattle.object_table.specs.Stands.{TableStands}
 use Rattle.object_table.specs.declared.form.Form.TheVariants.{ByLives}
 use Rattle.poly_moments.specs.PlaneSums.{Entered}
 use Rattle.dom_index.specs.declared.index.DomIndex.{Ghosts}
+use Rattle.corner_forest.specs.Enters.{ForestEnters}
 use Rattle.corner_forest.specs.Laws.{EntryStandsAnywhere, ForestPagesAreThere, ForestStandsByItsPages}
+use Rattle.corner_forest.specs.declared.forest.Forest.{Forest}
 use Rattle.corner_forest.specs.Stands.{AreBalanced, ForestStands, forest_pages}
-use Rattle.history_entries.specs.Entries.{history_entries}
-use Rattle.page_warehouse.specs.Entering.{PagesKeep}
+use Rattle.page_warehouse.specs.Entering.{PagesTell}
+use Rattle.page_warehouse.specs.Waiting.{HasOneMore}
 use Rattle.page_warehouse.specs.declared.roots.Roots.{Roots}
 
 module _ {X : Type 0} (g : Ghosts X) where
@@ -69,27 +71,59 @@ module _ {X : Type 0} (g : Ghosts X) where
         subst (λ (ps : List ℕ). NamesNoneTwice (ps ++ new)) (sym at.1) ((laws.parts pages new).1 (own, once, stays.1)),
       )
 
-  -- what is kept, of a forest for the same params
-  pub keeps : (pages : PageMap) (roots : Roots) (params : Params) (h : History) → roots.forest.params ≡ params → (kept : List Dated) → TableStands ByLives pages roots.table kept
-      → IsPermutation kept (lives h) → ForestStands g pages params roots.forest.roots.items (history_entries h) → AreBalanced g pages params roots.forest.roots.items
-      → NamesNoneTwice (table_pages ByLives pages roots.table ++ forest_pages g pages params roots.forest.roots.items) → PagesKeep g pages roots h
-  keeps pages roots params h same kept stands all forest balanced apart =
+  -- what the pages tell, of a forest for the same params
+  pub tells : (pages : PageMap) (roots : Roots) (params : Params) (h : History) (entries : List Entered) → roots.forest.params ≡ params → (kept : List Dated) → TableStands ByLives pages roots.table kept
+      → IsPermutation kept (lives h) → ForestStands g pages params roots.forest.roots.items entries → AreBalanced g pages params roots.forest.roots.items
+      → NamesNoneTwice (table_pages ByLives pages roots.table ++ forest_pages g pages params roots.forest.roots.items) → PagesTell g pages roots h entries
+  tells pages roots params h entries same kept stands all forest balanced apart =
       let at : params ≡ roots.forest.params = sym same in
       record {
         kept = kept;
         stands = stands;
         all = all;
-        forest = subst (λ (p : Params). ForestStands g pages p roots.forest.roots.items (history_entries h)) at forest;
+        forest = subst (λ (p : Params). ForestStands g pages p roots.forest.roots.items entries) at forest;
         balanced = subst (λ (p : Params). AreBalanced g pages p roots.forest.roots.items) at balanced;
         apart = subst (λ (p : Params). NamesNoneTwice (table_pages ByLives pages roots.table ++ forest_pages g pages p roots.forest.roots.items)) at apart;
       }
 
-  -- an entry that was made at the front, put in its place
-  pub entry_placed : PageLaws → (pages : PageMap) (params : Params) (roots : List Tree) (e : Entered) (before after es fs : List Entered) → es ≡ before ++ after → fs ≡ before ++ e ∷ after
-      → ForestStands g pages params roots (e ∷ es) → ForestStands g pages params roots fs
-  entry_placed laws pages params roots e before after es fs was is stands =
-      subst (λ (l : List Entered). ForestStands g pages params roots l) (sym is)
-      ((laws.anywhere pages params roots before after e).0 (subst (λ (l : List Entered). ForestStands g pages params roots (e ∷ l)) was stands))
+  -- what they tell where the trees stand beside a table that changed
+  pub tells_beside : PageLaws → (pages : PageMap) (old new : Roots) (h : History) (entries : List Entered) → new.forest ≡ old.forest → (kept : List Dated) → TableStands ByLives pages new.table kept
+      → IsPermutation kept (lives h) → ForestThere old.forest.params pages old.forest.roots.items entries (table_pages ByLives pages new.table) → PagesTell g pages new h entries
+  tells_beside laws pages old new h entries same kept stands all beside =
+      let own : List ℕ = table_pages ByLives pages new.table in
+      let trees : List ℕ = forest_pages g pages old.forest.params old.forest.roots.items in
+      let once : NamesNoneTwice own = stands.once in
+      let apart = (laws.parts own trees).1 (once, beside.once, laws.both trees own beside.apart) in
+      let at : old.forest ≡ new.forest = sym same in
+      record {
+        kept = kept;
+        stands = stands;
+        all = all;
+        forest = subst (λ (f : Forest). ForestStands g pages f.params f.roots.items entries) at beside.stands;
+        balanced = subst (λ (f : Forest). AreBalanced g pages f.params f.roots.items) at beside.balanced;
+        apart = subst (λ (f : Forest). NamesNoneTwice (own ++ forest_pages g pages f.params f.roots.items)) at apart;
+      }
+
+  -- the trees' pages are named once
+  pub trees_once : PageLaws → (pages : PageMap) (roots : Roots) (h : History) (entries : List Entered) → PagesTell g pages roots h entries → NamesNoneTwice (forest_pages g pages roots.forest.params roots.forest.roots.items)
+  trees_once laws pages roots h entries tell =
+      let split = (laws.parts (table_pages ByLives pages roots.table) (forest_pages g pages roots.forest.params roots.forest.roots.items)).0 tell.apart in
+      split.1
+
+  -- The trees have the entry too, at its place, and the table is as before.
+  pub entered_then : PageLaws → (before after : PageMap) (old new : Roots) (h : History) (es fs : List Entered) (e : Entered) → new.table ≡ old.table → new.forest.params ≡ old.forest.params
+      → PagesTell g before old h es → HasOneMore es fs e → ForestEnters g old.forest.params before after old.forest.roots.items new.forest.roots.items es e → PagesTell g after new h fs
+  entered_then laws before after old new h es fs e table same tell more enters =
+      let trees : List ℕ = forest_pages g before old.forest.params old.forest.roots.items in
+      let split = (laws.parts (table_pages ByLives before old.table) trees).0 tell.apart in
+      let both = table_stays laws before after old.table tell.kept trees (forest_pages g after old.forest.params new.forest.roots.items) tell.stands (laws.both (table_pages ByLives before old.table) trees split.2) enters.change enters.once in
+      let front : ForestStands g after old.forest.params new.forest.roots.items (e ∷ (more.front ++ more.back)) =
+      subst (λ (l : List Entered). ForestStands g after old.forest.params new.forest.roots.items (e ∷ l)) more.was enters.stands in
+      let placed : ForestStands g after old.forest.params new.forest.roots.items fs =
+      subst (λ (l : List Entered). ForestStands g after old.forest.params new.forest.roots.items l) (sym more.is) ((laws.anywhere after old.forest.params new.forest.roots.items more.front more.back e).0 front) in
+      let at : old.table ≡ new.table = sym table in
+      tells after new old.forest.params h fs same tell.kept (subst (λ (t : Tree). TableStands ByLives after t tell.kept) at both.0) tell.all placed (enters.balanced tell.balanced)
+      (subst (λ (t : Tree). NamesNoneTwice (table_pages ByLives after t ++ forest_pages g after old.forest.params new.forest.roots.items)) at both.1)
 
 -- One life more, at the end of the one list and at its place in the other.
 pub one_more : (d : Dated) (kept with_d others all : List Dated) → IsPermutation kept others → IsPermutation (d ∷ kept) with_d → all ≡ others ++ d ∷ [] → IsPermutation with_d all

@@ -15,13 +15,14 @@ use Rattle.page_ports.specs.Calls.{WentOn}
 use Rattle.page_ports.specs.declared.pages.Pages.{Ghosts as PageGhosts}
 use Rattle.dom_index.specs.declared.index.DomIndex.{Ghosts}
 use Rattle.change_laws.specs.Begun.{with_changes}
-use Rattle.page_warehouse.specs.Entering.{PagesKeep}
+use Rattle.page_warehouse.specs.Entering.{PagesWait}
 use Rattle.page_warehouse.specs.declared.roots.Roots.{Roots}
+use Rattle.page_warehouse.specs.declared.waiting.Waiting.{Waiting}
 
--- With these changes entered so much is given out for each, and the history with them is kept.
-pub record KeptSoFar {P X : Type 0} (s : PageGhosts P) (g : Ghosts X) (each : ℕ) (old now : P) (roots : Roots) (h : History) (done : List Change) : Type 0 where
-  pub went : WentOn s (length done * each) old now
-  pub keep : PagesKeep g (s.map now) roots (with_changes h done)
+-- With these changes in the table so much is given out for each, and the trees wait.
+pub record ToldSoFar {P X : Type 0} (s : PageGhosts P) (g : Ghosts X) (old now : P) (roots : Roots) (version : ℕ) (h : History) (done : List Change) (waiting : List Waiting) : Type 0 where
+  pub went : WentOn s (8 * length done) old now
+  pub wait : PagesWait g (s.map now) roots version (with_changes h done) waiting
 
 -- one row more
 pub flat-more : (rows : List Row) (i : ℕ) (d : Row) → i < length rows → flat (take (i + 1) rows) ≡ flat (take i rows) ++ flat_row (get_or rows i d)
@@ -53,9 +54,9 @@ length-at rows i d within =
 pub length-more : (rows : List Row) (i : ℕ) (d : Row) → i < length rows → length (flat (take (i + 1) rows)) ≡ length (flat (take i rows)) + length (flat_row (get_or rows i d))
 length-more rows i d within = ap length (flat-more rows i d within) ∙ length-append (flat (take i rows)) (flat_row (get_or rows i d))
 
--- so much for each of the parts, and for all
-pub each-part : (a b c n each : ℕ) → n ≡ a + b + c → a * each + b * each ≤ n * each
-each-part a b c n each is = subst (λ (m : ℕ). a * each + b * each ≤ m * each) (sym is) (let whole : (a + b + c) * each ≡ a * each + b * each + c * each = grind arith in omega (arith, whole))
+-- so much for each in the table, and so much for each in the trees
+pub for_both : (n trees : ℕ) → 8 * n + n * trees ≤ n * (8 + trees)
+for_both n trees = let whole : n * (8 + trees) ≡ 8 * n + n * trees = grind arith in omega (arith, whole)
 
 -- what stands at a place outside of a list of rows
 abbrev pub blank_row : Row

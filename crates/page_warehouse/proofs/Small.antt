@@ -1,5 +1,5 @@
 -- Trees that stay one page each.
-use Rattle.std.proofs.Common.{◌≡◌, ℕ, ◌+◌, ◌*◌, ◌≤◌, Result, Ok, Err, OnOk, List, length, get_or, sym, subst, arith}
+use Rattle.std.proofs.Common.{◌≡◌, ℕ, ◌+◌, ◌*◌, ◌≤◌, Result, Err, OnOk, List, length, get_or, sym, subst, arith}
 use Rattle.std.proofs.Math.Nat.{mul-le-mul_right}
 use Rattle.std.specs.List.{All}
 use Rattle.bw_types.specs.Empty.{empty_tree}
@@ -51,21 +51,12 @@ module _ {P : Type 0} (s : PageGhosts P) where
       → Changes s c old new q × OnOk q R
   low_refused {T} a c old new q fault R told le h = (refused s c old new q fault told (widened s a c old new (Err fault) le h), let is = told.1 in subst (λ r. OnOk r R) (sym is) tt)
 
-  pub low_ok : {T U : Type 0} (a c : ℕ) (old new : P) (v : T) (w : U) (R : Type 0) → a ≤ c → Changes s a old new (Ok v) × R → Changes s c old new (Ok w) × R
-  low_ok a c old new v w R le h = (record { went_on = (widened s a c old new (Ok v) le h.0).went_on; disk = λ e. cc; page_limit = λ n e. cc }, h.1)
-
   pub low_then : {T : Type 0} (a b c : ℕ) (old mid new : P) (r : Result T StageFault) (R : Type 0) → WentOn s a old mid → a + b ≤ c → Changes s b mid new r × R → Changes s c old new r × R
   low_then a b c old mid new r R went le h = (changes_then s a b c old mid new r went h.0 le, h.1)
 
--- With so many changes entered 8 pages are given out for each, and the first pages that are no more to come.
-pub record LowSoFar {P : Type 0} (s : PageGhosts P) (params : Params) (most n : ℕ) (before : List Tree) (old now : P) (roots : List Tree) : Type 0 where
+-- So far the first pages are given out that are no more to come.
+pub record LowSoFar {P : Type 0} (s : PageGhosts P) (params : Params) (most : ℕ) (before : List Tree) (old now : P) (roots : List Tree) : Type 0 where
   pub given : ℕ
   pub went : WentOn s given old now
-  pub bound : given + first_pages params roots ≤ 8 * n + first_pages params before
+  pub bound : given + first_pages params roots ≤ first_pages params before
   pub stay : StayOnePage params most roots
-
-pub low_done : {P T : Type 0} (s : PageGhosts P) (params : Params) (most n m : ℕ) (before : List Tree) (old now : P) (roots : List Tree) (v : T) → n ≡ m → LowSoFar s params most n before old now roots
-    → Changes s (8 * m + first_pages params before) old now (Ok v)
-low_done s params most n m before old now roots v same low =
-    let bound = low.bound in
-    widened s low.given (8 * m + first_pages params before) old now (Ok v) (omega (arith, same, bound)) (record { went_on = low.went; disk = λ e. cc; page_limit = λ k e. cc })

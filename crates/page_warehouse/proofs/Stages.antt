@@ -74,6 +74,11 @@ pub ok_anyway : {T E : Type 0} (r : Result T E) (Q : Type 0) → Q → OnOk r Q
 ok_anyway (Ok v) Q q = q
 ok_anyway (Err e) Q q = tt
 
+-- a call after which only memory may be wanting
+pub only_memory : {P T : Type 0} (g : Ghosts P) (most : ℕ) (old new : P) (r : Result T StageFault) → OnErr r (r ≡ Err NoMemory) → WentOn g most old new → Changes g most old new r
+only_memory g most old new (Ok v) p went = record { went_on = went; disk = λ e. cc; page_limit = λ n e. cc }
+only_memory g most old new (Err f) p went = record { went_on = went; disk = λ e. cc; page_limit = λ n e. cc }
+
 -- where only memory is wanting no page is damaged
 pub not_damaged : {T : Type 0} (r : Result T StageFault) → OnErr r (r ≡ Err NoMemory) → (page : ℕ) → r ≡ Err (Damaged page) → ⊥
 not_damaged (Ok v) p page asked = cc

@@ -11,8 +11,9 @@ use Rattle.page_ports.specs.declared.page.StageFault.TheVariants.{Damaged}
 use Rattle.page_ports.specs.declared.pages.Pages.{Ghosts as PageGhosts}
 use Rattle.dom_index.specs.declared.index.DomIndex.{Ghosts}
 use Rattle.change_laws.specs.Begun.{next_event, with_changes}
-use Rattle.page_warehouse.specs.Entering.{KeepsOn, PagesKeep}
+use Rattle.page_warehouse.specs.Entering.{KeepsOn, PagesWait}
 use Rattle.page_warehouse.specs.declared.roots.Roots.{Roots}
+use Rattle.page_warehouse.specs.declared.waiting.Waiting.{Waiting}
 use Rattle.page_warehouse.proofs.Exits.{exit_error}
 use Rattle.page_warehouse.proofs.Stages.{changes_then, refused}
 
@@ -67,5 +68,6 @@ batch_on params h done later c batch = subst (λ (l : List Change). IsLawfulBatc
 pub event_on : (h : History) (done : List Change) (c : Change) (event : ℕ) → event ≡ next_event h done → event + 1 ≡ next_event h (done ++ c ∷ [])
 event_on h done c event ev = let long = length-append done (c ∷ []) in omega (arith, ev, long)
 
-pub kept_on : {X : Type 0} (g : Ghosts X) (pages : PageMap) (roots : Roots) (h : History) (done : List Change) (c d : Change) → PagesKeep g pages roots (with_changes h ((done ++ c ∷ []) ++ d ∷ [])) → PagesKeep g pages roots (with_changes h (done ++ (c ∷ d ∷ [])))
-kept_on g pages roots h done c d keep = subst (λ (l : List Change). PagesKeep g pages roots (with_changes h l)) (append_assoc done (c ∷ []) (d ∷ [])) keep
+pub waits_on : {X : Type 0} (g : Ghosts X) (pages : PageMap) (roots : Roots) (version : ℕ) (h : History) (done : List Change) (c d : Change) (waiting : List Waiting)
+    → PagesWait g pages roots version (with_changes h ((done ++ c ∷ []) ++ d ∷ [])) waiting → PagesWait g pages roots version (with_changes h (done ++ (c ∷ d ∷ []))) waiting
+waits_on g pages roots version h done c d waiting keep = subst (λ (l : List Change). PagesWait g pages roots version (with_changes h l) waiting) (append_assoc done (c ∷ []) (d ∷ [])) keep

@@ -1,5 +1,5 @@
 -- What the pages of a stage keep while the changes of a batch are entered, one by one.
-use Rattle.std.specs.Prelude.{◌≡◌, ◌≢◌, ℕ, ◌≤◌, Bool, true, false, IsTrue, List, ◌++◌, length, Result, Err, OnOk, IsPermutation}
+use Rattle.std.specs.Prelude.{◌≡◌, ◌≢◌, ℕ, ◌≤◌, Bool, true, false, IsTrue, List, ◌++◌, length, map, Result, Err, OnOk, IsPermutation}
 use Rattle.std.specs.List.{All}
 use Rattle.bw_types.specs.Fits.{IsInRange}
 use Rattle.bw_types.specs.History.{History}
@@ -13,24 +13,38 @@ use Rattle.page_ports.specs.declared.pages.Pages.{Ghosts as PageGhosts}
 use Rattle.page_layout.specs.Footprint.{NamesNoneTwice}
 use Rattle.page_layout.specs.TreeValue.{plain_tree_fits, tree_fits}
 use Rattle.corner_forest.specs.Entries.{root_count}
+use Rattle.poly_moments.specs.PlaneSums.{Entered}
 use Rattle.object_table.specs.Lives.{table_pages}
 use Rattle.object_table.specs.Stands.{TableStands}
 use Rattle.object_table.specs.declared.form.Form.TheVariants.{ByIds, ByLives}
 use Rattle.dom_index.specs.declared.index.DomIndex.{Ghosts}
 use Rattle.corner_forest.specs.Stands.{AreBalanced, ForestStands, forest_pages}
 use Rattle.history_entries.specs.Entries.{history_entries}
+use Rattle.page_warehouse.specs.Waiting.{LeadTo, entered_at}
 use Rattle.page_warehouse.specs.declared.roots.Roots.{Roots}
+use Rattle.page_warehouse.specs.declared.waiting.Waiting.{Waiting}
 
 module _ {X : Type 0} (g : Ghosts X) where
-  -- In these pages the table keeps exactly the lives of the history, by lives, and the trees stand for its entries, each as low as
+  -- In these pages the table keeps exactly the lives of the history, by lives, and the trees stand for the entries, each as low as
   -- the index keeps it. No page belongs to two of them.
-  pub record PagesKeep (pages : PageMap) (roots : Roots) (h : History) : Type 0 where
+  pub record PagesTell (pages : PageMap) (roots : Roots) (h : History) (entries : List Entered) : Type 0 where
     pub kept : List Dated
     pub stands : TableStands ByLives pages roots.table kept
     pub all : IsPermutation kept (lives h)
-    pub forest : ForestStands g pages roots.forest.params roots.forest.roots.items (history_entries h)
+    pub forest : ForestStands g pages roots.forest.params roots.forest.roots.items entries
     pub balanced : AreBalanced g pages roots.forest.params roots.forest.roots.items
     pub apart : NamesNoneTwice (table_pages ByLives pages roots.table ++ forest_pages g pages roots.forest.params roots.forest.roots.items)
+
+  -- The trees stand for the history's own entries.
+  abbrev pub PagesKeep : PageMap → Roots → History → Type 0
+  PagesKeep pages roots h = PagesTell pages roots h (history_entries h)
+
+  -- The table is ahead of the trees: those that wait, in this order, lead from the entries that the trees stand for to those of the
+  -- history.
+  pub record PagesWait (pages : PageMap) (roots : Roots) (version : ℕ) (h : History) (waiting : List Waiting) : Type 0 where
+    pub entered : List Entered
+    pub tell : PagesTell pages roots h entered
+    pub lead : LeadTo roots.forest.params entered (map (entered_at version) waiting) (history_entries h)
 
   -- The same of a table of the earlier form.
   pub record OldPagesKeep (pages : PageMap) (roots : Roots) (h : History) : Type 0 where

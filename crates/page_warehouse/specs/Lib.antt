@@ -7,3 +7,4 @@ pub mod Needs
 pub mod NextMeta
 pub mod Opened
 pub mod Shown
+pub mod Waiting

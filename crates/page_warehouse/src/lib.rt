@@ -13,6 +13,8 @@ mod creating;
 mod drafting;
 mod entering;
 mod house;
+mod in_table;
+mod in_trees;
 mod laws;
 mod masses;
 mod opening;
@@ -23,6 +25,7 @@ mod state;
 #[cfg(test)]
 mod tests;
 mod upgrading;
+mod waiting;
 
 pub use creating::{Created, create};
 pub use laws::{created_holds, holding_laws, table_tells};

@@ -90,6 +90,18 @@ returns-in_err-top-2-clause-sound g c = λ points page tells s few past b ordere
     f1 (marked_own points p key refl) (subst (λ (l : ℕ). ChainStands places m0 l) last_is s.chain) (subst (λ (l : ℕ). NodesHold v test m0 (chain_from places m0 l)) last_is (nodes_hold m0 tree points p v s past))
     (subst (λ (l : ℕ). (q : ℕ) → q < 2 ^ 64 → StandsOnWay (root_level m0 root) m0 (chain_from places m0 l) root v q 0 None 1) last_is ways) (omega (arith, low)))
 
+pub returns-in_err-root-clause-damaged : goal.returns-in_err-root-clause-damaged
+returns-in_err-root-clause-damaged g c = λ page e tells. (
+    let told = err_from_is_err_and c.from_residual-in_err-root.result c.from_residual-in_err-root.ensures.1 in
+    let same = read_damaged c.from_residual-in_err-root.result c.in_err-root.field-0.0 page told e in
+    inl (
+      c.if-tree-eq0.false,
+      elim (c.in_err-root.ensures.damaged page (ap Err same) tells) [
+        | inl path ↦ inl path
+        | inr high ↦ inr (inl high)
+      ],
+    ))
+
 pub returns-in_err-top-2-clause-damaged : goal.returns-in_err-top-2-clause-damaged
 returns-in_err-top-2-clause-damaged g c = λ page e tells. (
     let m0 : PageMap = g.S.Pages.map c.args.stage.now in
@@ -102,8 +114,8 @@ returns-in_err-top-2-clause-damaged g c = λ page e tells. (
     let read = c.root_at.ensures.reads.read in
     let root_is : root ≡ root_at m0 tree v = c.in_ok-root.ensures.root tells in
     elim (c.in_err-top-2.ensures.damaged page (ap Err same) (read.tells ∙ tells)) [
-      | inl way ↦ inr (inr (inl (subst (λ (r : ℕ). IsDamagedFromRootForAdd m0 r (root_place key v) page) root_is (subst (λ (m : PageMap). IsDamagedFromRootForAdd m root (root_place key v) page) read.map way))))
-      | inr (inl end) ↦ inr (inr (inr (inl (subst (λ (r : ℕ). IsEndDamaged (places_taken m0 r) m0 tree.last page) root_is (subst (λ (l : ℕ). IsEndDamaged (places_taken m0 root) m0 l page) c.requires.last (subst (λ (m : PageMap). IsEndDamaged (places_taken m root) m c.args.last.now page) read.map end))))))
-      | inr (inr (inl high)) ↦ inr (inr (inr (inr (inl (high.0, subst (λ (r : ℕ). IsFullAtTop m0 r) root_is (subst (λ (m : PageMap). IsFullAtTop m root) read.map high.1))))))
-      | inr (inr (inr unordered)) ↦ inr (inr (inr (inr (inr (λ ordered. unordered (read.free_in_order ordered))))))
+      | inl way ↦ inl (c.if-tree-eq0.false, inr (inr (inl (subst (λ (r : ℕ). IsDamagedFromRootForAdd m0 r (root_place key v) page) root_is (subst (λ (m : PageMap). IsDamagedFromRootForAdd m root (root_place key v) page) read.map way)))))
+      | inr (inl end) ↦ inl (c.if-tree-eq0.false, inr (inr (inr (inl (subst (λ (r : ℕ). IsEndDamaged (places_taken m0 r) m0 tree.last page) root_is (subst (λ (l : ℕ). IsEndDamaged (places_taken m0 root) m0 l page) c.requires.last (subst (λ (m : PageMap). IsEndDamaged (places_taken m root) m c.args.last.now page) read.map end)))))))
+      | inr (inr (inl high)) ↦ inl (c.if-tree-eq0.false, inr (inr (inr (inr (high.0, subst (λ (r : ℕ). IsFullAtTop m0 r) root_is (subst (λ (m : PageMap). IsFullAtTop m root) read.map high.1))))))
+      | inr (inr (inr unordered)) ↦ inr (λ ordered. unordered (read.free_in_order ordered))
     ])

@@ -151,7 +151,10 @@ pub returns-in_err-ends-clause-damaged : goal.returns-in_err-ends-clause-damaged
 returns-in_err-ends-clause-damaged g c = λ page e tells. (
     let told = err_from_is_err_and c.from_residual.result c.from_residual.ensures.1 in
     let same = exit_error c.from_residual.result c.in_err-ends.field-0.0 (Damaged page) told e in
-    inr (inl (c.in_err-ends.ensures.damaged page (ap Err same) tells)))
+    elim (c.in_err-ends.ensures.damaged page (ap Err same) tells) [
+      | inl d ↦ inr (inl d)
+      | inr unordered ↦ inr (inr (inr unordered))
+    ])
 
 pub returns-in_err-lead_to-clause-damaged : goal.returns-in_err-lead_to-clause-damaged
 returns-in_err-lead_to-clause-damaged g c = λ page e tells. (
@@ -165,7 +168,7 @@ returns-in_err-lead_to-clause-damaged g c = λ page e tells. (
     let grows = c.add_to_nodes.ensures.grows.went_on in
     let d0 = c.in_err-lead_to.ensures.damaged page (ap Err same) (grows.tells ∙ tells) in
     let d1 = subst (λ (t : Tree). damage.IsDamagedForAdd m1 order1 t c.args.version page) c.directory-roots.ensures d0 in
-    inr (inr (m1, c.in_ok-ends.ensures.apart tells, damaged_alike m1 order0 order1 (directory tree) c.args.version page (λ ordered. grows.free_in_order tells ordered) d1)))
+    inr (inr (inl (m1, c.in_ok-ends.ensures.apart tells, damaged_alike m1 order0 order1 (directory tree) c.args.version page (λ ordered. grows.free_in_order tells ordered) d1))))
 
 pub returns-clause-apart : goal.returns-clause-apart
 returns-clause-apart g c = λ tells there apart. (

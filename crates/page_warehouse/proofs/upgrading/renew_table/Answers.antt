@@ -8,7 +8,7 @@ use Rattle.corner_forest.specs.Stands.{forest_pages}
 use Rattle.history_entries.specs.Entries.{history_entries}
 use Rattle.page_warehouse.proofs.Exits.{exit_error}
 use Rattle.page_warehouse.proofs.Next.{few_kept}
-use Rattle.page_warehouse.proofs.Pages.{PageLaws, forest_stays, keeps}
+use Rattle.page_warehouse.proofs.Pages.{PageLaws, forest_stays, tells as telling}
 use Rattle.page_warehouse.proofs.Stages.{refused}
 use Rattle.page_warehouse.proofs.upgrading.renew_table.Goals as goal
 
@@ -52,6 +52,6 @@ returns-clause-keeps_on g c = λ tells h lawful keep.
     record {
       changes = record { went_on = grow.went_on; disk = λ e. cc; page_limit = λ n e. cc };
       sound = λ order page asked. cc;
-      left = keeps g.X.DomIndex m1 (record { table = c.in_ok-roots.field-0; forest = c.args.roots.now.forest }) params h refl keep.kept stands keep.all beside.stands beside.balanced
+      left = telling g.X.DomIndex m1 (record { table = c.in_ok-roots.field-0; forest = c.args.roots.now.forest }) params h (history_entries h) refl keep.kept stands keep.all beside.stands beside.balanced
           ((laws.parts new pages).1 (stands.once, beside.once, laws.both pages new beside.apart));
     }
