@@ -7,6 +7,8 @@
 mod inside;
 mod leaf;
 mod page;
+#[cfg(test)]
+mod page_tests;
 mod redo;
 mod split;
 #[cfg(test)]
