@@ -67,6 +67,12 @@ abbrev pub with_second : ℕ → Option Cut → List MvEntry → List MvEntry
 with_second version None entries = entries
 with_second version (Some second) entries = put_in (new_entry second.0 version 0 second.1) entries
 
+-- The last entry that reaches the key at the version leads to the child from the version on, and an entry is put in for the
+-- second page, where there is one.
+abbrev pub LeadsOn : List MvEntry → List MvEntry → ℕ → ℕ → ℕ → Option Cut → Type 0
+LeadsOn old new key version child second =
+    (led : List MvEntry) × LeadsAnew old led key version child × (new ≡ with_second version second led)
+
 -- The key is at or above where the entry begins, and there is one.
 abbrev pub BeginsBy : Option MvEntry → ℕ → Type 0
 BeginsBy None key = ⊥

@@ -29,6 +29,7 @@ pub fn add_at(node: &mut MvNode, key: u64, version: u32, value: u128)
     requires entries { AreEntriesOf node.old.level node.old.entries.items }
     requires changeable { IsChangeable version node.old.entries.items }
     requires room { length node.old.entries.items ≤ 99 }
+    ensures taken { TakesIn node.old.entries.items node.new.entries.items key version value }
     // From the version on the value at each key from there on has so much more, and nothing else changes.
     ensures value { (q v : ℕ) → node_value node.new q v ≡ (node_value node.old q v + added key version value q v) % 2 ^ 128 }
     ensures entries { AreEntriesOf node.new.level node.new.entries.items }
@@ -68,6 +69,7 @@ pub fn add_beside(node: &mut MvNode, key: u64, version: u32, value: u128)
     requires entries { AreEntriesOf node.old.level node.old.entries.items }
     requires changeable { IsChangeable version node.old.entries.items }
     requires room { length node.old.entries.items ≤ 99 }
+    ensures taken { TakesAbove node.old.entries.items node.new.entries.items key version value }
     // From the version on the value at each key from the next entry on has so much more.
     ensures value { (q v : ℕ) → node_value node.new q v ≡ (node_value node.old q v + value_above (next_entry node.old.entries.items key version) version value q v) % 2 ^ 128 }
     // Every key leads to the same child at every version.

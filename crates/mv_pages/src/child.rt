@@ -3,7 +3,7 @@ ghost use Rattle.std.specs.Prelude.{◌≡◌, ◌+◌, ◌<◌, ◌≤◌, ℕ,
 ghost use Rattle.std.specs.List.{All};
 ghost use Rattle.page_layout.specs.MvNode.{IsMvEntryTyped};
 ghost use Rattle.mv_pages.specs.Alive.{AreEntriesOf, IsChangeable, alive_count, child_of, next_entry, node_value, path_child, path_entry};
-ghost use Rattle.mv_pages.specs.Edits.{BeginsBy, CutsWithin, EndsAfter, LeadsAnew, OfCut, count_with, new_entry, page_for, put_in, with_second};
+ghost use Rattle.mv_pages.specs.Edits.{BeginsBy, CutsWithin, EndsAfter, LeadsAnew, LeadsOn, OfCut, count_with, new_entry, page_for, put_in, with_second};
 ghost use Rattle.mv_pages.specs.Lows.{alive_lows, with_cut};
 
 use crate::edit::{Entries, change, new_entry, put_in};
@@ -59,6 +59,7 @@ pub fn new_child(node: &mut MvNode, key: u64, version: u32, child: u64, second: 
     requires path { IsSome (child_of node.old key version) }
     requires child { 3 ≤ child }
     requires second { CutsWithin (path_entry node.old.entries.items key version) (next_entry node.old.entries.items key version) second }
+    ensures leads { LeadsOn node.old.entries.items node.new.entries.items key version child second }
     ensures value { (q v : ℕ) → node_value node.new q v ≡ node_value node.old q v }
     // The past stays, and from the version on the keys from the path's entry to before the next one lead to
     // the new pages, and the others to where they did.

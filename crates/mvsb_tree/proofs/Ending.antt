@@ -1,13 +1,15 @@
 -- The end of the chain from call to call, whatever the pages hold.
-use Rattle.std.proofs.Common.{◌≡◌, ◌⊎◌, ℕ, ◌+◌, ◌<◌, ◌≤◌, ◌^◌, ◌==◌, inl, inr, Bool, true, false, List, Option, Some, None, IsSome, refl, sym, ap, ◌∙◌, subst, arith}
+use Rattle.std.proofs.Common.{◌≡◌, ◌⊎◌, ℕ, ◌+◌, ◌<◌, ◌≤◌, ◌^◌, ◌==◌, ◌||◌, nat_le, if◌then◌else◌, inl, inr, Bool, true, false, List, length, Option, Some, None, IsSome, refl, sym, ap, ◌∙◌, subst, arith}
 use Rattle.std.specs.List.{All}
-use Rattle.std.proofs.lemmas.Bool.{cases_Bool, eqb-true}
+use Rattle.std.proofs.lemmas.Bool.{cases_Bool, eqb-true, le-leb, lt-leb}
 use Rattle.page_ports.specs.Pages.{PageMap, put_page}
 use Rattle.page_layout.specs.MvNode.{IsMvEntryTyped, IsMvNode, IsTyped, mv_node_page}
 use Rattle.page_layout.specs.Spelled.{SpellsNone}
 use Rattle.page_layout.specs.declared.mv_node.MvNode.{MvNode}
 use Rattle.mvsb_tree.specs.declared.replaced.Replaced.{Replaced}
+use Rattle.mv_pages.specs.Alive.{alive_at}
 use Rattle.mvsb_tree.specs.AddDamage.{IsEndDamaged, IsEndOf, IsPlacedAs, KeepsPlaces}
+use Rattle.mvsb_tree.specs.Becoming.{new_pages}
 use Rattle.mvsb_tree.specs.Damage.{mv_pages}
 use Rattle.mvsb_tree.specs.Steps.{node_on}
 use Rattle.mvsb_tree.specs.Stored.{IsClosedBy, IsFirstStored, IsLastDamaged, IsNext, IsStored, all_start_at}
@@ -23,22 +25,24 @@ some_or_none : (o : Option (List ℕ)) → IsSome o ⊎ (o ≡ None)
 some_or_none None = inr refl
 some_or_none (Some bytes) = inl refl
 
-pub end_more : (a b : ℕ) (m : PageMap) (last p : ℕ) → a ≤ b → IsEndDamaged a m last p → IsEndDamaged b m last p
-end_more a b m last p le (inl none) = inl none
-end_more a b m last p le (inr full) = inr (omega (arith, full.0, le), full.1)
-
-pub end_of_last : (m : PageMap) (last p : ℕ) → IsLastDamaged m last p → IsEndDamaged 0 m last p
-end_of_last m last p damaged = elim damaged.1 [
-  | inl none ↦ inl (damaged.0, none)
-  | inr full ↦ inr (omega (arith, full), inl damaged.0)
-]
+pub end_of_last : (needed : ℕ) (m : PageMap) (last p : ℕ) → 1 ≤ needed → IsLastDamaged m last p → IsEndDamaged needed m last p
+end_of_last needed m last p some damaged = (
+  some,
+  elim damaged.1 [
+    | inl none ↦ inl (damaged.0, none)
+    | inr full ↦ inr (omega (arith, full, some), inl damaged.0)
+  ],
+)
 
 -- What ends the chain later ends it before, by so many places.
 pub end_before : (a b : ℕ) (m0 m1 : PageMap) (last0 last1 p : ℕ) → KeepsPlaces a m0 m1 last0 last1 → IsEndDamaged b m1 last1 p → IsEndDamaged (a + b) m0 last0 p
-end_before a b m0 m1 last0 last1 p k d = elim k.ends [
-  | inl same ↦ before_same same (subst (λ (x : ℕ). IsEndDamaged b m1 x p) same.0 d)
-  | inr new ↦ before_new new d
-]
+end_before a b m0 m1 last0 last1 p k d = (
+  omega (arith, d.0),
+  elim k.ends [
+    | inl same ↦ before_same same.0 (same.2, same.3) (subst (λ (x : ℕ). IsEndDamaged b m1 x p) same.1 d).1
+    | inr new ↦ before_new (new.1, new.2, new.3) d.1
+  ],
+)
   where
     missing : m1 p ≡ None → m0 p ≡ None
     missing none = elim (some_or_none (m0 p)) [
@@ -46,17 +50,20 @@ end_before a b m0 m1 last0 last1 p k d = elim k.ends [
       | inr gone ↦ gone
     ]
 
-    before_same : (last1 ≡ last0) × ((node_on m1 last0).place ≡ (node_on m0 last0).place) × (SpellsNone mv_pages m1 last0 → SpellsNone mv_pages m0 last0) → IsEndDamaged b m1 last0 p → IsEndDamaged (a + b) m0 last0 p
-    before_same same (inl none) = inl (none.0, same.2 none.1)
-    before_same same (inr full) = inr (
-      omega (arith, full.0, same.1),
+    Out : ℕ → PageMap → ℕ → Type 0
+    Out needed m last = ((p ≡ last) × SpellsNone mv_pages m last) ⊎ ((4294967295 < (node_on m last).place + needed) × ((p ≡ last) ⊎ (m p ≡ None)))
+
+    before_same : a ≡ 0 → ((node_on m1 last0).place ≡ (node_on m0 last0).place) × (SpellsNone mv_pages m1 last0 → SpellsNone mv_pages m0 last0) → Out b m1 last0 → Out (a + b) m0 last0
+    before_same zero_a same (inl none) = inl (none.0, same.1 none.1)
+    before_same zero_a same (inr full) = inr (
+      omega (arith, full.0, same.0),
       elim full.1 [
         | inl here ↦ inl here
         | inr gone ↦ inr (missing gone)
       ],
     )
 
-    before_new : (m0 last1 ≡ None) × (SpellsNone mv_pages m1 last1 → ⊥) × ((node_on m1 last1).place ≤ (node_on m0 last0).place + a) → IsEndDamaged b m1 last1 p → IsEndDamaged (a + b) m0 last0 p
+    before_new : (m0 last1 ≡ None) × (SpellsNone mv_pages m1 last1 → ⊥) × ((node_on m1 last1).place ≡ (node_on m0 last0).place + a) → Out b m1 last1 → Out (a + b) m0 last0
     before_new new (inl none) = absurd (new.1 none.1)
     before_new new (inr full) = inr (
       omega (arith, full.0, new.2),
@@ -73,8 +80,8 @@ keeps_then a b m0 m1 m2 last0 last1 last2 f g = record {
       let second = g.kept page first.0 in
       (second.0, second.1 ∙ first.1);
   ends = elim g.ends [
-    | inl same ↦ by_first same.0 (subst (λ (x : ℕ). ((node_on m2 x).place ≡ (node_on m1 x).place) × (SpellsNone mv_pages m2 x → SpellsNone mv_pages m1 x)) refl (same.1, same.2))
-    | inr new ↦ inr (missing last2 new.0, new.1, (let e : (node_on m2 last2).place ≤ (node_on m0 last0).place + (a + b) = omega (arith, new.2, reach) in e))
+    | inl same ↦ by_first same.0 same.1 (same.2, same.3)
+    | inr new ↦ inr (omega (arith, new.0), missing last2 new.1, new.2, (let e : (node_on m2 last2).place ≡ (node_on m0 last0).place + (a + b) = omega (arith, new.3, reach) in e))
   ];
 }
   where
@@ -84,21 +91,22 @@ keeps_then a b m0 m1 m2 last0 last1 last2 f g = record {
       | inr gone ↦ gone
     ]
 
-    reach : (node_on m1 last1).place ≤ (node_on m0 last0).place + a
+    reach : (node_on m1 last1).place ≡ (node_on m0 last0).place + a
     reach = elim f.ends [
-      | inl same ↦ (let e : (node_on m1 last1).place ≡ (node_on m0 last0).place = ap (λ (x : ℕ). (node_on m1 x).place) same.0 ∙ same.1 in omega (arith, e))
-      | inr new ↦ new.2
+      | inl same ↦ (let e : (node_on m1 last1).place ≡ (node_on m0 last0).place = ap (λ (x : ℕ). (node_on m1 x).place) same.1 ∙ same.2 in omega (arith, e, same.0))
+      | inr new ↦ new.3
     ]
 
-    by_first : last2 ≡ last1 → ((node_on m2 last1).place ≡ (node_on m1 last1).place) × (SpellsNone mv_pages m2 last1 → SpellsNone mv_pages m1 last1) → IsEndOf (a + b) m0 m2 last0 last2
-    by_first is g_same = elim f.ends [
+    by_first : b ≡ 0 → last2 ≡ last1 → ((node_on m2 last1).place ≡ (node_on m1 last1).place) × (SpellsNone mv_pages m2 last1 → SpellsNone mv_pages m1 last1) → IsEndOf (a + b) m0 m2 last0 last2
+    by_first none is g_same = elim f.ends [
       | inl same ↦
-          let moved = subst (λ (x : ℕ). ((node_on m2 x).place ≡ (node_on m1 x).place) × (SpellsNone mv_pages m2 x → SpellsNone mv_pages m1 x)) same.0 g_same in
-          inl (is ∙ same.0, moved.0 ∙ same.1, λ none. same.2 (moved.1 none))
+          let moved = subst (λ (x : ℕ). ((node_on m2 x).place ≡ (node_on m1 x).place) × (SpellsNone mv_pages m2 x → SpellsNone mv_pages m1 x)) same.1 g_same in
+          inl (omega (arith, none, same.0), is ∙ same.1, moved.0 ∙ same.2, λ spells_none. same.3 (moved.1 spells_none))
       | inr new ↦ inr (
-        ap m0 is ∙ new.0,
-        λ none. new.1 (g_same.1 (subst (λ (x : ℕ). SpellsNone mv_pages m2 x) is none)),
-        (let e : (node_on m2 last2).place ≤ (node_on m0 last0).place + (a + b) = omega (arith, ap (λ (x : ℕ). (node_on m2 x).place) is, g_same.0, new.2) in e),
+        omega (arith, new.0),
+        ap m0 is ∙ new.1,
+        λ spells_none. new.2 (g_same.1 (subst (λ (x : ℕ). SpellsNone mv_pages m2 x) is spells_none)),
+        (let e : (node_on m2 last2).place ≡ (node_on m0 last0).place + (a + b) = omega (arith, none, ap (λ (x : ℕ). (node_on m2 x).place) is, g_same.0, new.3) in e),
       )
     ]
 
@@ -129,6 +137,7 @@ put_keeps m0 m1 page last node is rules typed placed =
       );
       ends = inl (
         refl,
+        refl,
         place last,
         elim (cases_Bool (page == last)) [
           | inl same ↦ λ none. absurd (subst (λ (x : ℕ). SpellsNone mv_pages m1 x → ⊥) (eqb-true page last same)
@@ -152,44 +161,64 @@ next_keeps a b last node page next typed =
       kept = λ p some.
           let same = next.others p (not_new a page p next.fresh some) in
           (subst IsSome (sym same) some, ap (λ (n : MvNode). n.place) (same_node a b p same));
-      ends = inr (next.fresh, spelled_there b page spells.0, (let e : (node_on b page).place ≤ (node_on a last).place + 1 = omega (arith, ap (λ (n : MvNode). n.place) spells.1) in e));
+      ends = inr (omega arith, next.fresh, spelled_there b page spells.0, ap (λ (n : MvNode). n.place) spells.1);
     }
 
-more_keeps : (a b : ℕ) (m0 m1 : PageMap) (last0 last1 : ℕ) → a ≤ b → KeepsPlaces a m0 m1 last0 last1 → KeepsPlaces b m0 m1 last0 last1
-more_keeps a b m0 m1 last0 last1 le k = record {
-  kept = k.kept;
-  ends = elim k.ends [
-    | inl same ↦ inl same
-    | inr new ↦ inr (new.0, new.1, (let e : (node_on m1 last1).place ≤ (node_on m0 last0).place + b = omega (arith, new.2, le) in e))
-  ];
-}
-
-pub keeps_more : (a b : ℕ) (m0 m1 : PageMap) (last0 last1 : ℕ) → a ≤ b → KeepsPlaces a m0 m1 last0 last1 → KeepsPlaces b m0 m1 last0 last1
-keeps_more a b m0 m1 last0 last1 le k = more_keeps a b m0 m1 last0 last1 le k
+-- how many new pages the first of two copies takes
+abbrev pub first_pages : Bool → ℕ
+first_pages true = 0
+first_pages false = 1
 
 -- The first of two copies was stored.
 pub first_keeps : (starts : Bool) (a b : PageMap) (page last new_last : ℕ) (node : MvNode) (first : ℕ) → IsPlacedAs a page node → All IsMvEntryTyped node.entries.items
-    → IsFirstStored starts a b page last new_last node first → KeepsPlaces 1 a b last new_last
+    → IsFirstStored starts a b page last new_last node first → KeepsPlaces (first_pages starts) a b last new_last
 first_keeps true a b page last new_last node first placed typed stored =
-    subst (λ (x : ℕ). KeepsPlaces 1 a b last x) (sym stored.1) (more_keeps 0 1 a b last last (omega arith) (put_keeps a b page last node stored.2 stored.3 typed placed))
+    subst (λ (x : ℕ). KeepsPlaces 0 a b last x) (sym stored.1) (put_keeps a b page last node stored.2 stored.3 typed placed)
 first_keeps false a b page last new_last node first placed typed stored =
     subst (λ (x : ℕ). KeepsPlaces 1 a b last x) (sym stored.0) (next_keeps a b last node first stored.1 typed)
 
+-- how many new pages take a node's part, where it fits its page, has few entries alive, and they all start at the version
+abbrev choose : Bool → Bool → Bool → ℕ
+choose fits few starts = if fits then 0 else if few || starts then 1 else 2
+
+two_chosen : (starts : Bool) → choose false false starts ≡ first_pages starts + 1
+two_chosen true = refl
+two_chosen false = refl
+
+pub none_needed : (node : MvNode) (v : ℕ) → length node.entries.items ≤ 96 → new_pages node v ≡ 0
+none_needed node v few = ap (λ (fits : Bool). choose fits (nat_le (length (alive_at node.entries.items v)) 48) (all_start_at v node.entries.items)) (le-leb (length node.entries.items) 96 few)
+
+pub one_needed : (node : MvNode) (v : ℕ) → 96 < length node.entries.items → length (alive_at node.entries.items v) ≤ 48 → new_pages node v ≡ 1
+one_needed node v full few =
+    ap (λ (fits : Bool). choose fits (nat_le (length (alive_at node.entries.items v)) 48) (all_start_at v node.entries.items)) (lt-leb (length node.entries.items) 96 full)
+    ∙ ap (λ (lives : Bool). choose false lives (all_start_at v node.entries.items)) (le-leb (length (alive_at node.entries.items v)) 48 few)
+
+pub two_needed : (node : MvNode) (v : ℕ) → 96 < length node.entries.items → 48 < length (alive_at node.entries.items v) → new_pages node v ≡ first_pages (all_start_at v node.entries.items) + 1
+two_needed node v full many =
+    ap (λ (fits : Bool). choose fits (nat_le (length (alive_at node.entries.items v)) 48) (all_start_at v node.entries.items)) (lt-leb (length node.entries.items) 96 full)
+    ∙ ap (λ (lives : Bool). choose false lives (all_start_at v node.entries.items)) (lt-leb (length (alive_at node.entries.items v)) 48 many)
+    ∙ two_chosen (all_start_at v node.entries.items)
+
 -- A node was stored.
 pub stored_keeps : (a b : PageMap) (page : ℕ) (node : MvNode) (v last new_last : ℕ) (r : Option Replaced) → IsPlacedAs a page node → All IsMvEntryTyped node.entries.items → IsStored a b page node v last new_last r
-    → KeepsPlaces 2 a b last new_last
+    → KeepsPlaces (new_pages node v) a b last new_last
 stored_keeps a b page node v last new_last None placed typed st =
-    subst (λ (x : ℕ). KeepsPlaces 2 a b last x) (sym st.1) (more_keeps 0 2 a b last last (omega arith) (put_keeps a b page last node st.2 st.3 typed placed))
+    subst (λ (n : ℕ). KeepsPlaces n a b last new_last) (sym (none_needed node v st.0))
+    (subst (λ (x : ℕ). KeepsPlaces 0 a b last x) (sym st.1) (put_keeps a b page last node st.2 st.3 typed placed))
 stored_keeps a b page node v last new_last (Some r) placed typed st = by_second r.second st.1
   where
-    by_second : (o : Option (ℕ × ℕ)) → IsClosedBy a b page node v last new_last r.first o → KeepsPlaces 2 a b last new_last
-    by_second None c = subst (λ (x : ℕ). KeepsPlaces 2 a b last x) (sym c.4) (more_keeps 1 2 a b last r.first (omega arith) (next_keeps a b last c.0 r.first c.3 c.2))
+    by_second : (o : Option (ℕ × ℕ)) → IsClosedBy a b page node v last new_last r.first o → KeepsPlaces (new_pages node v) a b last new_last
+    by_second None c =
+        subst (λ (n : ℕ). KeepsPlaces n a b last new_last) (sym (one_needed node v st.0 c.1.few))
+        (subst (λ (x : ℕ). KeepsPlaces 1 a b last x) (sym c.4) (next_keeps a b last c.0 r.first c.3 c.2))
     by_second (Some pair) t =
         let first_placed : IsPlacedAs a page t.first_node = (
           ap (λ (n : MvNode). n.place) t.copies.first_made ∙ placed.0,
           subst (λ (x : ℕ). x < 2 ^ 32) (sym (ap (λ (n : MvNode). n.place) t.copies.first_made)) placed.1,
           subst (λ (x : ℕ). x < 2 ^ 64) (sym (ap (λ (n : MvNode). n.before) t.copies.first_made)) placed.2,
         ) in
-        let first = first_keeps (all_start_at v node.entries.items) a t.between page last t.between_last t.first_node r.first first_placed t.typed.0 t.stored in
+        let starts : Bool = all_start_at v node.entries.items in
+        let first = first_keeps starts a t.between page last t.between_last t.first_node r.first first_placed t.typed.0 t.stored in
         let second = next_keeps t.between b t.between_last t.second_node pair.1 t.next t.typed.1 in
-        subst (λ (x : ℕ). KeepsPlaces 2 a b last x) (sym t.ends) (keeps_then 1 1 a t.between b last t.between_last pair.1 first second)
+        subst (λ (n : ℕ). KeepsPlaces n a b last new_last) (sym (two_needed node v st.0 t.copies.many))
+        (subst (λ (x : ℕ). KeepsPlaces (first_pages starts + 1) a b last x) (sym t.ends) (keeps_then (first_pages starts) 1 a t.between b last t.between_last pair.1 first second))

@@ -25,17 +25,14 @@ one_key_sum (suc zero) points [] version some few long = absurd (omega (arith, l
 one_key_sum (suc zero) points (key ∷ keys) version some few long = refl
 one_key_sum (suc (suc dims)) points keys version some few long = absurd (omega (arith, few))
 
-pub damaged_point : (pages : PageMap) (order : Type 0) (tree : Tree) (key version page : ℕ) → IsDamagedForAdd pages order tree key version page
-    → IsDamagedForAdd pages (Unit {0}) tree key version page ⊎ (order → ⊥)
-damaged_point pages order tree key version page (inl many) = inl (inl many)
-damaged_point pages order tree key version page (inr (inl d)) = inl (inr (inl d))
-damaged_point pages order tree key version page (inr (inr (inl later))) = elim later.2 [
-  | inl d ↦ inl (inr (inr (inl (later.0, later.1, inl d))))
-  | inr (inl d) ↦ inl (inr (inr (inl (later.0, later.1, inr (inl d)))))
-  | inr (inr (inl d)) ↦ inl (inr (inr (inl (later.0, later.1, inr (inr (inl d))))))
-  | inr (inr (inr d)) ↦ inr d
-]
-damaged_point pages order tree key version page (inr (inr (inr d))) = inr d
+pub damaged_point : (pages : PageMap) (order : Type 0) (tree : Tree) (key version value page : ℕ) → IsDamagedForAdd pages order tree key version value page
+    → IsDamagedForAdd pages (Unit {0}) tree key version value page ⊎ (order → ⊥)
+damaged_point pages order tree key version value page (inl many) = inl (inl many)
+damaged_point pages order tree key version value page (inr (inl d)) = inl (inr (inl d))
+damaged_point pages order tree key version value page (inr (inr (inl d))) = inl (inr (inr (inl d)))
+damaged_point pages order tree key version value page (inr (inr (inr (inl d)))) = inl (inr (inr (inr (inl d))))
+damaged_point pages order tree key version value page (inr (inr (inr (inr (inl d))))) = inl (inr (inr (inr (inr (inl d)))))
+damaged_point pages order tree key version value page (inr (inr (inr (inr (inr d))))) = inr d
 
 some_or_none : (o : Option (List ℕ)) → IsSome o ⊎ (o ≡ None)
 some_or_none None = inr refl

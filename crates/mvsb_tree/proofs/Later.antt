@@ -1,22 +1,13 @@
 -- The directory, which changes after the nodes.
-use Rattle.std.proofs.Common.{◌≡◌, ℕ, inl, inr, List, ◌++◌, IsSome, sym, ap, ◌∙◌, subst}
+use Rattle.std.proofs.Common.{◌≡◌, ℕ, List, ◌++◌, IsSome, sym, ap, ◌∙◌, subst}
 use Rattle.std.proofs.lemmas.Bool.{or_parts}
 use Rattle.bw_types.specs.declared.tree.Tree.{Tree}
 use Rattle.page_ports.specs.Pages.{PageMap}
 use Rattle.page_ports.specs.Frame.{names_page, AgreeOn, AreApart, AreInMap}
 use Rattle.page_ports.specs.FrameLaws.{names_page-append}
-use Rattle.sb_tree.specs.Damage.{IsDamagedForAdd}
 use Rattle.sb_tree.specs.Steps.{tree_pages}
 use Rattle.sb_tree.specs.Stored.{OthersStay}
 use Rattle.sb_tree.proofs.Frames.{same_pages}
-
--- Free pages that are out of order later were so before.
-pub damaged_alike : (pages : PageMap) (order0 order1 : Type 0) (tree : Tree) (version damaged : ℕ) → (order0 → order1)
-    → IsDamagedForAdd pages order1 tree version damaged → IsDamagedForAdd pages order0 tree version damaged
-damaged_alike pages order0 order1 tree version damaged keeps (inl path) = inl path
-damaged_alike pages order0 order1 tree version damaged keeps (inr (inl many)) = inr (inl many)
-damaged_alike pages order0 order1 tree version damaged keeps (inr (inr (inl full))) = inr (inr (inl full))
-damaged_alike pages order0 order1 tree version damaged keeps (inr (inr (inr unordered))) = inr (inr (inr (λ ordered. unordered (keeps ordered))))
 
 -- The directory changes beside the nodes: what neither leads to stays.
 pub both_stay : (m0 m1 m2 : PageMap) (tree : Tree) (way : List ℕ) → AreInMap m0 (tree_pages m0 tree) → AreApart (tree_pages m0 tree) way → OthersStay way m0 m1

@@ -1,6 +1,7 @@
 pub mod AddPast
 pub mod Adding
 pub mod Assembling
+pub mod Becoming
 pub mod Beginning
 pub mod Chains
 pub mod Costs
@@ -8,6 +9,7 @@ pub mod Counting
 pub mod Cutting
 pub mod DamageBefore
 pub mod Descending
+pub mod Directories
 pub mod Dropping
 pub mod Ending
 pub mod Exits

@@ -1,5 +1,5 @@
 -- Nodes that are stored.
-use Rattle.std.proofs.Common.{◌≡◌, ℕ, ◌+◌, ◌<◌, ◌≤◌, ◌^◌, ◌==◌, false, length, Option, Some, None, IsSome, ◌∙◌, arith, nat_le}
+use Rattle.std.proofs.Common.{◌≡◌, ℕ, ◌+◌, ◌<◌, ◌≤◌, ◌^◌, ◌==◌, false, length, ◌∙◌, arith, nat_le}
 use Rattle.std.specs.List.{All}
 use Rattle.std.proofs.lemmas.Bool.{ne_eqb, le-leb, cond-false}
 use Rattle.page_ports.specs.Pages.{PageMap}
@@ -7,8 +7,7 @@ use Rattle.page_layout.specs.MvNode.{IsMvNode, IsTyped, IsMvEntryTyped}
 use Rattle.page_layout.specs.declared.mv_node.MvNode.{MvNode}
 use Rattle.mv_pages.specs.Alive.{AreEntriesOf}
 use Rattle.mvsb_tree.specs.Steps.{node_on}
-use Rattle.mvsb_tree.specs.Stored.{IsStored, next_node}
-use Rattle.mvsb_tree.specs.declared.replaced.Replaced.{Replaced}
+use Rattle.mvsb_tree.specs.Stored.{next_node}
 
 pub same_next : (m : PageMap) (last : ℕ) (node made : MvNode) → made.level ≡ node.level → made.place ≡ (node_on m last).place + 1 → made.before ≡ last → made.entries ≡ node.entries
     → made ≡ next_node m last node
@@ -30,9 +29,3 @@ next_rules m last node {place} some is_place some_last low high least most entri
 
 pub next_typed : (m : PageMap) (last : ℕ) (node : MvNode) → (node_on m last).place + 1 < 4294967296 → last < 2 ^ 64 → All IsMvEntryTyped node.entries.items → IsTyped (next_node m last node)
 next_typed m last node place fits all = record { place = place; before = fits; entries = all }
-
--- Only a node of more than 96 entries is closed.
-pub closed_full : (m0 m1 : PageMap) (page : ℕ) (node : MvNode) (version last new_last : ℕ) (replaced : Option Replaced)
-    → IsStored m0 m1 page node version last new_last replaced → IsSome replaced → 96 < length node.entries.items
-closed_full m0 m1 page node version last new_last None stored some = (let none : IsSome {T = Replaced} None = some in cc)
-closed_full m0 m1 page node version last new_last (Some replaced) stored some = stored.0

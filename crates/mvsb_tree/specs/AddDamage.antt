@@ -1,15 +1,16 @@
 -- What an addition to a multiversion tree may find damaged.
-use Rattle.std.specs.Prelude.{◌≡◌, ◌≢◌, ℕ, ◌+◌, ◌-◌, ◌⊎◌, ◌<◌, ◌≤◌, ◌^◌, List, length, None, IsSome}
+use Rattle.std.specs.Prelude.{◌≡◌, ◌≢◌, ℕ, zero, suc, ◌+◌, ◌-◌, ◌⊎◌, ◌<◌, ◌≤◌, ◌^◌, List, length, Option, Some, None, IsSome}
 use Rattle.bw_types.specs.declared.tree.Tree.{Tree}
 use Rattle.page_ports.specs.Pages.{PageMap}
 use Rattle.page_layout.specs.Damage.{IsDamagedBelow, NothingBeside}
 use Rattle.page_layout.specs.Spelled.{SpellsNone}
 use Rattle.page_layout.specs.declared.mv_node.MvNode.{MvNode}
-use Rattle.mv_pages.specs.Alive.{IsChangeable}
+use Rattle.mv_pages.specs.Alive.{IsChangeable, alive_at, child_of}
 use Rattle.mvsb_tree.specs.declared.place.Place.{Place}
+use Rattle.mvsb_tree.specs.declared.replaced.Replaced.{Replaced}
 use Rattle.sb_tree.specs.Damage as over_versions
 use Rattle.sb_tree.specs.Steps as steps_over_versions
-use Rattle.sb_tree.specs.Stored.{OthersStay}
+use Rattle.mvsb_tree.specs.Becoming.{Becomes, TakesPart, new_pages}
 use Rattle.mvsb_tree.specs.Damage.{FitsPlace, LeadsTo, mv_pages, root_place}
 use Rattle.mvsb_tree.specs.Steps.{directory, node_on, root_at, root_level}
 use Rattle.mvsb_tree.specs.Ways.{way_pages}
@@ -30,23 +31,24 @@ IsDamagedFromRootForAdd pages root place damaged =
     ((damaged ≡ root) × SpellsNone mv_pages pages root)
     ⊎ IsDamagedBelow FitsForAdd LeadsTo NothingBeside pages (root_level pages root) place root damaged
 
--- The chain's last page spells no node; or fewer than so many places are left, and the page is the last one of the chain, or
--- one that was put to its end, and was not in the map before.
+-- Pages are needed, and the chain's last page spells no node; or fewer places are left than pages are needed, and the page is
+-- the last one of the chain, or one that was put to its end, and was not in the map before.
 abbrev pub IsEndDamaged : ℕ → PageMap → ℕ → ℕ → Type 0
-IsEndDamaged more pages last damaged =
-    ((damaged ≡ last) × SpellsNone mv_pages pages last)
-    ⊎ ((4294967295 ≤ (node_on pages last).place + more) × ((damaged ≡ last) ⊎ (pages damaged ≡ None)))
+IsEndDamaged needed pages last damaged =
+    (1 ≤ needed)
+    × (((damaged ≡ last) × SpellsNone mv_pages pages last)
+    ⊎ ((4294967295 < (node_on pages last).place + needed) × ((damaged ≡ last) ⊎ (pages damaged ≡ None))))
 
--- The last page of the chain is the one it was, at its place; or it is a new one, at most so many places on.
+-- The last page of the chain is the one it was, at its place; or it is a new one, so many places on.
 abbrev pub IsEndOf : ℕ → PageMap → PageMap → ℕ → ℕ → Type 0
-IsEndOf more before after last new_last =
-    ((new_last ≡ last) × ((node_on after last).place ≡ (node_on before last).place) × (SpellsNone mv_pages after last → SpellsNone mv_pages before last))
-    ⊎ ((before new_last ≡ None) × (SpellsNone mv_pages after new_last → ⊥) × ((node_on after new_last).place ≤ (node_on before last).place + more))
+IsEndOf taken before after last new_last =
+    ((taken ≡ 0) × (new_last ≡ last) × ((node_on after last).place ≡ (node_on before last).place) × (SpellsNone mv_pages after last → SpellsNone mv_pages before last))
+    ⊎ ((1 ≤ taken) × (before new_last ≡ None) × (SpellsNone mv_pages after new_last → ⊥) × ((node_on after new_last).place ≡ (node_on before last).place + taken))
 
--- Each page that was in the map keeps its place, and the chain went on at its end.
-pub record KeepsPlaces (more : ℕ) (before after : PageMap) (last new_last : ℕ) : Type 0 where
+-- Each page that was in the map keeps its place, and the chain went on at its end by so many pages.
+pub record KeepsPlaces (taken : ℕ) (before after : PageMap) (last new_last : ℕ) : Type 0 where
   pub kept : (page : ℕ) → IsSome (before page) → IsSome (after page) × ((node_on after page).place ≡ (node_on before page).place)
-  pub ends : IsEndOf more before after last new_last
+  pub ends : IsEndOf taken before after last new_last
 
 -- The node has the place that the page has.
 abbrev pub IsPlacedAs : PageMap → ℕ → MvNode → Type 0
@@ -60,37 +62,73 @@ directory_pages pages tree = steps_over_versions.tree_pages pages (directory tre
 abbrev pub node_way : PageMap → Tree → ℕ → ℕ → List ℕ
 node_way pages tree key version = way_pages (root_level pages (root_at pages tree version)) pages (root_at pages tree version) key version
 
--- so many places of the chain an addition below this root may take before it needs another one: two a level
-abbrev pub places_taken : PageMap → ℕ → ℕ
-places_taken pages root = root_level pages root + root_level pages root
+-- The node became another, which is kept in its page or in those that take its part, and the chain went on by the new pages of that
+-- and of what is below it.
+pub record IsMade (level : ℕ) (before after : PageMap) (node : MvNode) (key version value last new_last : ℕ) (replaced : Option Replaced) : Type 0 where
+  pub changed : MvNode
+  pub below : ℕ
+  pub becomes : Becomes level before node key version value changed below
+  pub part : TakesPart changed version replaced
+  pub places : KeepsPlaces (below + new_pages changed version) before after last new_last
 
--- The root has level 16, and may have to be split: an addition puts three entries at most into it, and it has room for 96.
-abbrev pub IsFullAtTop : PageMap → ℕ → Type 0
-IsFullAtTop pages root = (root_level pages root ≡ 16) × (94 ≤ length (node_on pages root).entries.items)
+-- The node of the level becomes another, of more entries than a page has room for, and the chain ends before the new pages of
+-- that and of what is below it.
+abbrev pub EndsAt : ℕ → PageMap → MvNode → ℕ → ℕ → ℕ → ℕ → ℕ → Type 0
+EndsAt level pages node key version value last damaged =
+    (changed : MvNode) × (taken : ℕ) × Becomes level pages node key version value changed taken
+    × (1 ≤ new_pages changed version) × IsEndDamaged (taken + new_pages changed version) pages last damaged
 
--- What an addition may find damaged in the nodes of a tree that has some: what reading the root of the version does; a page on
--- the way from it down that is missing, does not keep to its place, or may not be changed at the version; the end of the chain;
--- the directory's root, where a root of level 16 has 94 entries or more.
-abbrev pub IsDamagedInNodes : PageMap → Tree → ℕ → ℕ → ℕ → Type 0
-IsDamagedInNodes pages tree key version damaged =
+-- So it is with the node, or with one on the way of the key below it.
+abbrev pub EndsOnWay : ℕ → PageMap → MvNode → ℕ → ℕ → ℕ → ℕ → ℕ → Type 0
+EndsOnWay zero pages node key version value last damaged = ⊥
+EndsOnWay (suc level) pages node key version value last damaged =
+    EndsAt (suc level) pages node key version value last damaged
+    ⊎ ((child : ℕ) × (child_of node key version ≡ Some child) × EndsOnWay level pages (node_on pages child) key version value last damaged)
+
+-- The root becomes a node whose part two pages take, with so many new pages in all.
+pub record IsRootCut (pages : PageMap) (root key version value taken : ℕ) : Type 0 where
+  pub changed : MvNode
+  pub below : ℕ
+  pub becomes : Becomes (root_level pages root) pages (node_on pages root) key version value changed below
+  pub full : 96 < length changed.entries.items
+  pub many : 48 < length (alive_at changed.entries.items version)
+  pub all : taken ≡ below + new_pages changed version
+
+-- A root of level 16 would have to be split.
+abbrev pub IsFullAtTop : PageMap → ℕ → ℕ → ℕ → ℕ → Type 0
+IsFullAtTop pages root key version value = (root_level pages root ≡ 16) × (taken : ℕ) × IsRootCut pages root key version value taken
+
+-- The root is split, and the chain ends before the page for a new one.
+abbrev pub EndsAtTop : PageMap → ℕ → ℕ → ℕ → ℕ → ℕ → ℕ → Type 0
+EndsAtTop pages root key version value last damaged =
+    (taken : ℕ) × IsRootCut pages root key version value taken × IsEndDamaged (taken + 1) pages last damaged
+
+-- What an addition may find damaged from this root down: a page on the way that is missing, does not keep to its place, or may not be
+-- changed at the version; the end of the chain; the directory's root, where a root of level 16 would have to be split.
+abbrev pub IsDamagedAtRoot : PageMap → ℕ → ℕ → ℕ → ℕ → ℕ → ℕ → ℕ → Type 0
+IsDamagedAtRoot pages root key version value last directory damaged =
+    IsDamagedFromRootForAdd pages root (root_place key version) damaged
+    ⊎ EndsOnWay (root_level pages root) pages (node_on pages root) key version value last damaged
+    ⊎ EndsAtTop pages root key version value last damaged
+    ⊎ ((damaged ≡ directory) × IsFullAtTop pages root key version value)
+
+-- What an addition may find damaged in the nodes of a tree that has some: what reading the root of the version does, or what it
+-- finds from that root down.
+abbrev pub IsDamagedInNodes : PageMap → Tree → ℕ → ℕ → ℕ → ℕ → Type 0
+IsDamagedInNodes pages tree key version value damaged =
     over_versions.IsDamagedOnPath pages (directory tree) version damaged
     ⊎ ((damaged ≡ tree.root) × (2 ^ 64 ≤ root_at pages tree version))
-    ⊎ IsDamagedFromRootForAdd pages (root_at pages tree version) (root_place key version) damaged
-    ⊎ IsEndDamaged (places_taken pages (root_at pages tree version)) pages tree.last damaged
-    ⊎ ((damaged ≡ tree.root) × IsFullAtTop pages (root_at pages tree version))
+    ⊎ IsDamagedAtRoot pages (root_at pages tree version) key version value tree.last tree.root damaged
 
--- What an addition to the directory finds damaged once the nodes have changed: of the pages that were in the map, those on
--- the way of the key and the version through the nodes, and no others.
-abbrev pub IsDamagedInDirectory : PageMap → Type 0 → Tree → ℕ → ℕ → ℕ → Type 0
-IsDamagedInDirectory pages free_in_order tree key version damaged =
-    (later : PageMap) × OthersStay (node_way pages tree key version) pages later
-    × over_versions.IsDamagedForAdd later free_in_order (directory tree) version damaged
+-- Each page is as it was, or spells no node of a directory, neither before nor after.
+abbrev pub KeepsDirectories : PageMap → PageMap → Type 0
+KeepsDirectories before after =
+    (page : ℕ) → (after page ≡ before page) ⊎ (SpellsNone over_versions.sb_pages before page × SpellsNone over_versions.sb_pages after page)
 
 -- What an addition may call damaged: the directory's root, where the tree has 2^31 additions or changes of the root; what it
--- finds in the nodes; what it finds in the directory after them; any page where the free pages are not in order.
-abbrev pub IsDamagedForAdd : PageMap → Type 0 → Tree → ℕ → ℕ → ℕ → Type 0
-IsDamagedForAdd pages free_in_order tree key version damaged =
+-- finds in the nodes; what an addition to the directory does, which is any page where the free pages are not in order.
+abbrev pub IsDamagedForAdd : PageMap → Type 0 → Tree → ℕ → ℕ → ℕ → ℕ → Type 0
+IsDamagedForAdd pages free_in_order tree key version value damaged =
     ((damaged ≡ tree.root) × ((2 ^ 31 ≤ tree.count) ⊎ (2 ^ 31 ≤ tree.changes)))
-    ⊎ ((tree.levels ≢ 0) × IsDamagedInNodes pages tree key version damaged)
-    ⊎ IsDamagedInDirectory pages free_in_order tree key version damaged
-    ⊎ (¬ free_in_order)
+    ⊎ ((tree.levels ≢ 0) × IsDamagedInNodes pages tree key version value damaged)
+    ⊎ over_versions.IsDamagedForAdd pages free_in_order (directory tree) version damaged

@@ -19,4 +19,4 @@ MayChange pages tree page = (names_page (directory_pages pages tree) page ≡ tr
 
 -- What an addition at the point's key and version does, where the free pages are in order.
 abbrev pub IsDamagedForPoint : PageMap → Tree → Point → ℕ → Type 0
-IsDamagedForPoint pages tree point page = IsDamagedForAdd pages (Unit {0}) tree (key_of point) point.version page
+IsDamagedForPoint pages tree point page = IsDamagedForAdd pages (Unit {0}) tree (key_of point) point.version point.weight page

@@ -1,4 +1,5 @@
 pub mod AddDamage
+pub mod Becoming
 pub mod Changed
 pub mod Damage
 pub mod Gone

@@ -6,7 +6,7 @@ ghost use Rattle.page_ports.specs.Calls.{Grows};
 ghost use Rattle.page_ports.specs.Frame.{AreApart, AreInMap, Replaces};
 ghost use Rattle.page_layout.specs.TreeValue.{IsTreeTyped, tree_fits};
 ghost use Rattle.sb_tree.specs.Stored.{OthersStay};
-ghost use Rattle.mvsb_tree.specs.AddDamage.{IsDamagedForAdd, IsDamagedInNodes, directory_pages, node_way};
+ghost use Rattle.mvsb_tree.specs.AddDamage.{IsDamagedForAdd, IsDamagedInNodes, KeepsDirectories, directory_pages, node_way};
 ghost use Rattle.mvsb_tree.specs.Stands.{IsBalanced, MvStands, is_marked, key_of};
 ghost use Rattle.mvsb_tree.specs.Steps.{place_count, root_at as spec_root_at, root_level, tree_pages};
 ghost use Rattle.mvsb_tree.specs.Tops.{RootAdded};
@@ -60,7 +60,7 @@ pub fn mv_add<S: Stage>(
     ensures typed { IsTreeTyped tree.new }
     ensures unchanged { OnErr result (tree.new ≡ tree.old) }
     ensures damaged { (page : ℕ) → result ≡ Err (StageFault.Damaged page) → IsTrue (S.tells stage.old)
-        → IsDamagedForAdd (S.map stage.old) (S.free_in_order stage.old) tree.old key version page }
+        → IsDamagedForAdd (S.map stage.old) (S.free_in_order stage.old) tree.old key version value page }
     ensures sound { (points : List Point) (page : ℕ) → IsTrue (S.tells stage.old) → MvStands (S.map stage.old) tree.old points
         → length points < 2 ^ 31 → All (λ q. q.version ≤ version) points → IsBalanced (S.map stage.old) tree.old
         → S.free_in_order stage.old → result ≢ Err (StageFault.Damaged page) }
@@ -107,8 +107,9 @@ fn add_to_nodes<S: Stage>(
         → MvStands (S.map stage.old) tree.now points → All (λ q. q.version ≤ version) points → key_of p ≡ key
         → RootAdded (is_marked (p ∷ points)) (S.map stage.old) (S.map stage.new) ends.root ends.top version key value (place_count (S.map stage.old) tree.now) last.old last.new) }
     ensures apart { IfOk result (λ ends. IsTrue (S.tells stage.old) → OthersStay (node_way (S.map stage.old) tree.now key version) (S.map stage.old) (S.map stage.new)) }
+    ensures directories { IfOk result (λ ends. IsTrue (S.tells stage.old) → KeepsDirectories (S.map stage.old) (S.map stage.new)) }
     ensures damaged { (page : ℕ) → result ≡ Err (StageFault.Damaged page) → IsTrue (S.tells stage.old)
-        → ((tree.now.levels ≢ 0) × IsDamagedInNodes (S.map stage.old) tree.now key version page) ⊎ (¬ S.free_in_order stage.old) }
+        → ((tree.now.levels ≢ 0) × IsDamagedInNodes (S.map stage.old) tree.now key version value page) ⊎ (¬ S.free_in_order stage.old) }
     ensures sound { (points : List Point) (page : ℕ) → IsTrue (S.tells stage.old) → MvStands (S.map stage.old) tree.now points
         → length points < 2 ^ 31 → All (λ q. q.version ≤ version) points → IsBalanced (S.map stage.old) tree.now
         → S.free_in_order stage.old → result ≢ Err (StageFault.Damaged page) }

@@ -4,7 +4,7 @@ ghost use Rattle.page_layout.specs.MvNode.{IsMvNode, IsTyped, mv_node_page};
 ghost use Rattle.page_ports.specs.Calls.{Grows};
 ghost use Rattle.mv_pages.specs.Alive.{IsChangeable};
 ghost use Rattle.sb_tree.specs.Stored.{OthersStay};
-ghost use Rattle.mvsb_tree.specs.AddDamage.{IsDamagedPastForAdd, IsEndDamaged, KeepsPlaces};
+ghost use Rattle.mvsb_tree.specs.AddDamage.{EndsOnWay, IsDamagedPastForAdd, IsMade, KeepsDirectories};
 ghost use Rattle.mvsb_tree.specs.Changed.{ReplacedFits};
 ghost use Rattle.mvsb_tree.specs.Damage.{IsInPlace};
 ghost use Rattle.mvsb_tree.specs.Grown.{NodesHold};
@@ -47,12 +47,14 @@ pub fn add_on<S: Stage>(
         → IsAdded node.level test (S.map stage.old) (S.map stage.new) page place.version place.key value place.low place.high least places last.old last.new replaced) }
     ensures apart { IfOk result (λ replaced. IsTrue (S.tells stage.old)
         → OthersStay (way_pages node.level (S.map stage.old) page place.key place.version) (S.map stage.old) (S.map stage.new)) }
-    // Each page keeps its place, and the chain went on at its end by two pages a level at most.
-    ensures kept { IfOk result (λ replaced. IsTrue (S.tells stage.old) → KeepsPlaces (node.level + node.level) (S.map stage.old) (S.map stage.new) last.old last.new) }
-    // Only a node that may come to have more than 96 entries is closed.
-    ensures full { IfOk result (λ replaced. IsTrue (S.tells stage.old) → IsSome replaced → 94 ≤ length node.entries.items) }
+    // What the node becomes, the pages that take its part, and how many new ones that takes.
+    ensures made { IfOk result (λ replaced. IsTrue (S.tells stage.old)
+        → IsMade node.level (S.map stage.old) (S.map stage.new) node place.key place.version value last.old last.new replaced) }
+    // Pages that hold nodes of a directory stay, whatever leads to them.
+    ensures directories { IfOk result (λ replaced. IsTrue (S.tells stage.old) → KeepsDirectories (S.map stage.old) (S.map stage.new)) }
     ensures damaged { (p : ℕ) → result ≡ Err (StageFault.Damaged p) → IsTrue (S.tells stage.old)
-        → IsDamagedPastForAdd (S.map stage.old) place node p ⊎ IsEndDamaged (node.level + node.level) (S.map stage.old) last.old p ⊎ (¬ S.free_in_order stage.old) }
+        → IsDamagedPastForAdd (S.map stage.old) place node p
+        ⊎ EndsOnWay node.level (S.map stage.old) node place.key place.version value last.old p ⊎ (¬ S.free_in_order stage.old) }
     // On ways that stand no page is found damaged.
     ensures sound { (test : ℕ → Bool) (places least p : ℕ) → IsTrue (S.tells stage.old) → IsTrue (test place.key)
         → ChainStands places (S.map stage.old) last.old → NodesHold place.version test (S.map stage.old) (chain_from places (S.map stage.old) last.old)

@@ -3,8 +3,9 @@ ghost use Rattle.std.specs.Prelude.{◌≡◌, ◌+◌, ◌%◌, ◌^◌, ◌<�
 ghost use Rattle.std.specs.List.{All};
 ghost use Rattle.page_layout.specs.MvNode.{IsMvEntryTyped, IsMvNode, IsTyped};
 ghost use Rattle.mv_pages.specs.Alive.{AreEntriesOf, IsChangeable, child_of, node_value};
-ghost use Rattle.mv_pages.specs.Edits.{OfCut};
+ghost use Rattle.mv_pages.specs.Edits.{OfCut, TakesIn};
 ghost use Rattle.mv_pages.specs.Lows.{alive_lows, low_above, low_at, with_cut, with_low};
+ghost use Rattle.mvsb_tree.specs.Becoming.{IsLedOn, TakesBelow};
 ghost use Rattle.mvsb_tree.specs.Changed.{IsFrom, ReplacedFits, beside_value, cut_of, part_page, LowsPut};
 ghost use Rattle.mvsb_tree.specs.Stored.{IsStorable};
 ghost use Rattle.mvsb_tree.specs.Ways.{LowsCut, added_at};
@@ -21,6 +22,7 @@ pub fn add_to_leaf(node: &mut MvNode, key: u64, version: u32, value: u128)
     requires rules { IsMvNode node.old }
     requires typed { IsTyped node.old }
     requires changeable { IsChangeable version node.old.entries.items }
+    ensures taken { TakesIn node.old.entries.items node.new.entries.items key version value }
     ensures storable { IsStorable version node.new }
     ensures past { PastStays version node.old node.new }
     ensures value { (q : ℕ) → node_value node.new q version ≡ (node_value node.old q version + added_at key value q) % 2 ^ 128 }
@@ -44,6 +46,7 @@ pub fn change(node: &mut MvNode, key: u64, version: u32, value: u128, replaced: 
     requires changeable { IsChangeable version node.old.entries.items }
     requires path { IsSome (child_of node.old key version) }
     requires replaced { ReplacedFits (low_at (alive_lows node.old.entries.items version) key) (low_above (alive_lows node.old.entries.items version) key) replaced }
+    ensures taken { TakesBelow node.old.entries.items node.new.entries.items key version value replaced }
     ensures storable { IsStorable version node.new }
     ensures past { PastStays version node.old node.new }
     ensures value { (q : ℕ) → node_value node.new q version
@@ -75,6 +78,7 @@ fn lead_on(node: &mut MvNode, key: u64, version: u32, replaced: Option<Replaced>
     requires room { length node.old.entries.items ≤ 97 }
     requires path { IsSome (child_of node.old key version) }
     requires replaced { ReplacedFits (low_at (alive_lows node.old.entries.items version) key) (low_above (alive_lows node.old.entries.items version) key) replaced }
+    ensures led_on { IsLedOn node.old.entries.items node.new.entries.items key version replaced }
     ensures past { PastStays version node.old node.new }
     ensures value { (q : ℕ) → node_value node.new q version ≡ node_value node.old q version }
     ensures led { (q child : ℕ) → IsFrom (low_at (alive_lows node.old.entries.items version) key) q → IsTrue (ends_after (low_above (alive_lows node.old.entries.items version) key) q)

@@ -2,8 +2,7 @@
 ghost use Rattle.std.specs.Prelude.{◌≡◌, ◌≢◌, ◌⊎◌, ◌+◌, ◌^◌, ◌<◌, ◌≤◌, ℕ, Bool, List, Err, IsTrue, IfOk, None};
 ghost use Rattle.page_ports.specs.Calls.{Grows};
 ghost use Rattle.sb_tree.specs.Stored.{OthersStay};
-ghost use Rattle.mvsb_tree.specs.AddDamage.{IsDamagedFromRootForAdd, IsEndDamaged, IsFullAtTop, places_taken};
-ghost use Rattle.mvsb_tree.specs.Damage.{root_place as spec_root_place};
+ghost use Rattle.mvsb_tree.specs.AddDamage.{IsDamagedAtRoot, KeepsDirectories};
 ghost use Rattle.mvsb_tree.specs.Grown.{NodesHold};
 ghost use Rattle.mvsb_tree.specs.Stands.{ChainStands, StandsOnWay};
 ghost use Rattle.mvsb_tree.specs.Steps.{chain_from, root_level};
@@ -40,9 +39,9 @@ pub fn add_at_root<S: Stage>(
     // The pages that are not on the way of the key stay, whatever they hold.
     ensures apart { IfOk result (λ top. IsTrue (S.tells stage.old)
         → OthersStay (way_pages (root_level (S.map stage.old) root) (S.map stage.old) root key version) (S.map stage.old) (S.map stage.new)) }
+    ensures directories { IfOk result (λ top. IsTrue (S.tells stage.old) → KeepsDirectories (S.map stage.old) (S.map stage.new)) }
     ensures damaged { (p : ℕ) → result ≡ Err (StageFault.Damaged p) → IsTrue (S.tells stage.old)
-        → IsDamagedFromRootForAdd (S.map stage.old) root (spec_root_place key version) p ⊎ IsEndDamaged (places_taken (S.map stage.old) root) (S.map stage.old) last.old p
-        ⊎ ((p ≡ directory) × IsFullAtTop (S.map stage.old) root) ⊎ (¬ S.free_in_order stage.old) }
+        → IsDamagedAtRoot (S.map stage.old) root key version value last.old directory p ⊎ (¬ S.free_in_order stage.old) }
     ensures sound { (test : ℕ → Bool) (places p : ℕ) → IsTrue (S.tells stage.old) → IsTrue (test key)
         → ChainStands places (S.map stage.old) last.old → NodesHold version test (S.map stage.old) (chain_from places (S.map stage.old) last.old)
         → ((q : ℕ) → q < 2 ^ 64 → StandsOnWay (root_level (S.map stage.old) root) (S.map stage.old) (chain_from places (S.map stage.old) last.old) root version q 0 None 1)

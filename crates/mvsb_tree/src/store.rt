@@ -5,6 +5,7 @@ ghost use Rattle.page_layout.specs.MvNode.{before_fits};
 ghost use Rattle.mv_pages.specs.Alive.{AreEntriesOf};
 ghost use Rattle.page_ports.specs.Frame.{names_page};
 ghost use Rattle.mvsb_tree.specs.AddDamage.{IsEndDamaged, IsPlacedAs};
+ghost use Rattle.mvsb_tree.specs.Becoming.{new_pages};
 ghost use Rattle.mvsb_tree.specs.Stands.{ChainStands};
 ghost use Rattle.mvsb_tree.specs.Steps.{chain_from, node_on};
 ghost use Rattle.mvsb_tree.specs.Stored.{IsClosed, IsFirstStored, IsLastDamaged, IsSplitOf, IsStorable, IsStored, SplitCut, all_start_at as spec_all_start_at};
@@ -33,7 +34,7 @@ pub fn store<S: Stage>(
     ensures stored { IfOk result (λ replaced. IsTrue (S.tells stage.old)
         → IsStored (S.map stage.old) (S.map stage.new) page node.now version last.old last.new replaced) }
     ensures damaged { (p : ℕ) → result ≡ Err (StageFault.Damaged p) → IsTrue (S.tells stage.old) → IsPlacedAs (S.map stage.old) page node.now
-        → IsEndDamaged 1 (S.map stage.old) last.old p ⊎ (¬ S.free_in_order stage.old) }
+        → IsEndDamaged (new_pages node.now version) (S.map stage.old) last.old p ⊎ (¬ S.free_in_order stage.old) }
     ensures sound { (places p : ℕ) → IsTrue (S.tells stage.old) → ChainStands places (S.map stage.old) last.old → names_page (chain_from places (S.map stage.old) last.old) page ≡ true
         → node.now.place ≡ (node_on (S.map stage.old) page).place → node.now.before ≡ (node_on (S.map stage.old) page).before → S.free_in_order stage.old → result ≢ Err (StageFault.Damaged p) }
     ensures grows { Grows S.Pages 2 stage.old stage.new result }
@@ -63,7 +64,7 @@ fn close<S: Stage>(
     ensures closed { IfOk result (λ replaced. IsTrue (S.tells stage.old)
         → IsClosed (S.map stage.old) (S.map stage.new) page node.now version last.old last.new replaced) }
     ensures damaged { (p : ℕ) → result ≡ Err (StageFault.Damaged p) → IsTrue (S.tells stage.old) → IsPlacedAs (S.map stage.old) page node.now
-        → IsEndDamaged 1 (S.map stage.old) last.old p ⊎ (¬ S.free_in_order stage.old) }
+        → IsEndDamaged (new_pages node.now version) (S.map stage.old) last.old p ⊎ (¬ S.free_in_order stage.old) }
     ensures sound { (places p : ℕ) → IsTrue (S.tells stage.old) → ChainStands places (S.map stage.old) last.old → names_page (chain_from places (S.map stage.old) last.old) page ≡ true
         → node.now.place ≡ (node_on (S.map stage.old) page).place → node.now.before ≡ (node_on (S.map stage.old) page).before → S.free_in_order stage.old → result ≢ Err (StageFault.Damaged p) }
     ensures grows { Grows S.Pages 2 stage.old stage.new result }

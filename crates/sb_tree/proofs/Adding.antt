@@ -8,12 +8,13 @@ use Rattle.std.proofs.lemmas.List.Concat.{flat_map-append}
 use Rattle.page_ports.specs.Pages.{PageMap}
 use Rattle.page_layout.specs.Footprint.{NamesNoneTwice}
 use Rattle.page_layout.specs.SbNode.{sb_node_page}
+use Rattle.page_layout.specs.Spelled.{SpellsNone}
 use Rattle.page_layout.specs.declared.sb_node.SbNode.{SbNode}
 use Rattle.page_layout.specs.declared.sb_node.SbEntry.{SbEntry}
 use Rattle.sb_tree.specs.declared.place.Place.{Place}
 use Rattle.sb_tree.specs.declared.second.Second.{Second}
 use Rattle.sb_tree.specs.Cut.{IsCut}
-use Rattle.sb_tree.specs.Damage.{FitsPlace, IsFullBelow, low_from, next_from}
+use Rattle.sb_tree.specs.Damage.{FitsPlace, IsFullBelow, low_from, next_from, sb_pages}
 use Rattle.sb_tree.specs.Edits.{TakesIn, beside, second_entry, raised_first, raised_entry, leaf_entry}
 use Rattle.sb_tree.specs.Raised.{IsRaised, SecondFits, WasFull}
 use Rattle.sb_tree.specs.Steps.{entries_on, child_at, pages_below}
@@ -70,12 +71,13 @@ leaf_none_at es new v x few long (inr t) =
     let all = list_any_none (λ (e : SbEntry). e.low == v) (t.0 ++ t.1) (All-append P t.0 t.1 before after) in
     (omega (arith, a, b, few, long), ap (λ (xs : List SbEntry). list_any (λ (e : SbEntry). e.low == v) xs) t.2 ∙ all)
 
-pub leaf_full : (level : ℕ) (pages : PageMap) (page v x : ℕ) (es new : List SbEntry) (second : Option Second) → level ≡ 1 → entries_on pages page ≡ es → length es ≤ 64
+pub leaf_full : (level : ℕ) (pages : PageMap) (page v x : ℕ) (es new : List SbEntry) (second : Option Second) → level ≡ 1 → (SpellsNone sb_pages pages page → ⊥) → entries_on pages page ≡ es → length es ≤ 64
     → TakesIn es new v x → IsSecondOf new second → WasFull second (IsFullBelow level pages page v)
-leaf_full level pages page v x es new None leaf on few t s = tt
-leaf_full level pages page v x es new (Some second) leaf on few t s =
+leaf_full level pages page v x es new None leaf spelled on few t s = tt
+leaf_full level pages page v x es new (Some second) leaf spelled on few t s =
     let full = leaf_none_at es new v x few s.3 t in
-    subst (λ (l : ℕ). IsFullBelow l pages page v) (sym leaf) (subst (λ (xs : List SbEntry). (length xs ≡ 64) × (list_any (λ e. e.low == v) xs ≡ false)) (sym on) full)
+    subst (λ (l : ℕ). IsFullBelow l pages page v) (sym leaf)
+        (record { spelled = spelled; count = ap (λ (xs : List SbEntry). length xs) on ∙ full.0 }, subst (λ (xs : List SbEntry). list_any (λ e. e.low == v) xs ≡ false) (sym on) full.1)
 
 -- The leaf of a tree that stands is raised.
 leaf_step : (m0 m2 : PageMap) (page least x : ℕ) (place : Place) (node : SbNode) (new : List SbEntry) (second : Option Second)
@@ -162,12 +164,12 @@ full_second None full w h = absurd (omega (arith, h))
 full_second (Some s) full w h = w
 
 pub index_full : (level : ℕ) (pages : PageMap) (page v x k child sought : ℕ) (es new : List SbEntry) (s second : Option Second) → 1 ≤ level → level ≢ 1
-    → entries_on pages page ≡ es → length es ≤ 64 → new ≡ beside es k x s → IsSecondOf new second → child ≡ child_at es v → sought ≡ v
+    → (SpellsNone sb_pages pages page → ⊥) → entries_on pages page ≡ es → length es ≤ 64 → new ≡ beside es k x s → IsSecondOf new second → child ≡ child_at es v → sought ≡ v
     → WasFull s (IsFullBelow (level - 1) pages child sought) → WasFull second (IsFullBelow level pages page v)
-index_full zero pages page v x k child sought es new s second some index on few made is_second is_child same full = absurd (omega (arith, some))
-index_full (suc zero) pages page v x k child sought es new s second some index on few made is_second is_child same full = absurd (index refl)
-index_full (suc (suc l)) pages page v x k child sought es new s None some index on few made is_second is_child same full = tt
-index_full (suc (suc l)) pages page v x k child sought es new s (Some second) some index on few made is_second is_child same full =
+index_full zero pages page v x k child sought es new s second some index spelled on few made is_second is_child same full = absurd (omega (arith, some))
+index_full (suc zero) pages page v x k child sought es new s second some index spelled on few made is_second is_child same full = absurd (index refl)
+index_full (suc (suc l)) pages page v x k child sought es new s None some index spelled on few made is_second is_child same full = tt
+index_full (suc (suc l)) pages page v x k child sought es new s (Some second) some index spelled on few made is_second is_child same full =
     let count = ap (λ (xs : List SbEntry). length xs) made ∙ length-beside es k x s in
     let one = count_second s in
     let below = full_second s (IsFullBelow (suc (suc l) - 1) pages child sought) full (omega (arith, count, one, few, is_second.3)) in
@@ -175,7 +177,10 @@ index_full (suc (suc l)) pages page v x k child sought es new s (Some second) so
     let b1 = subst (λ (n : ℕ). IsFullBelow n pages child sought) less below in
     let b2 = subst (λ (c : ℕ). IsFullBelow (suc l) pages c sought) is_child b1 in
     let b3 = subst (λ (w : ℕ). IsFullBelow (suc l) pages (child_at es v) w) same b2 in
-    subst (λ (xs : List SbEntry). (length xs ≡ 64) × IsFullBelow (suc l) pages (child_at xs v) v) (sym on) (omega (arith, count, one, few, is_second.3), b3)
+    let all : length es ≡ 64 = omega (arith, count, one, few, is_second.3) in (
+      record { spelled = spelled; count = ap (λ (xs : List SbEntry). length xs) on ∙ all },
+      subst (λ (xs : List SbEntry). IsFullBelow (suc l) pages (child_at xs v) v) (sym on) b3,
+    )
 
 -- An index node of a tree that stands is raised.
 index_step : (l : ℕ) (m0 m1 m2 : PageMap) (page least x j : ℕ) (place : Place) (es new : List SbEntry) (s second : Option Second)

@@ -271,8 +271,8 @@ balanced_split (suc l) m new points root s some bound above stands three fits se
 
 full_count : (levels : ℕ) (m : PageMap) (page v : ℕ) → IsFullBelow levels m page v → length (entries_on m page) ≡ 64
 full_count zero m page v full = absurd full
-full_count (suc zero) m page v full = full.0
-full_count (suc (suc level)) m page v full = full.0
+full_count (suc zero) m page v full = full.0.count
+full_count (suc (suc level)) m page v full = full.0.count
 
 there_from : (o : Option (List ℕ)) → length (option_map_or sb_node_in o no_node).entries.items ≡ 64 → IsSome o
 there_from None h = absurd (omega (arith, h))

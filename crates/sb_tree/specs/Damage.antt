@@ -5,6 +5,7 @@ use Rattle.bw_types.specs.declared.tree.Tree.{Tree}
 use Rattle.page_ports.specs.Pages.{PageMap}
 use Rattle.page_layout.specs.Damage.{IsDamagedBelow, NothingBeside}
 use Rattle.page_layout.specs.Footprint.{IsNamedTwice}
+use Rattle.page_layout.specs.Spelled.{SpellsNone}
 use Rattle.page_layout.specs.TreePage as tree_page
 use Rattle.page_layout.specs.declared.spelled.Spelled.{Ghosts}
 use Rattle.page_layout.specs.SbNode.{IsSbNode, IsTyped, sb_node_page, sb_node_in}
@@ -73,14 +74,19 @@ IsDamagedInside pages tree damaged = IsDamagedFrom pages tree.levels tree.root d
 abbrev pub IsDamagedForFree : PageMap → Tree → ℕ → Type 0
 IsDamagedForFree pages tree damaged = IsDamagedInside pages tree damaged ⊎ IsNamedTwice (tree_pages pages tree) damaged
 
+-- The page spells a node, and that has as many entries as a page has room for.
+pub record IsFull (pages : PageMap) (page : ℕ) : Type 0 where
+  pub spelled : SpellsNone sb_pages pages page → ⊥
+  pub count : length (entries_on pages page) ≡ 64
+
 -- An addition at the version would split the page: each node on the way down is full, and no entry of the
 -- leaf begins at the version.
 abbrev pub IsFullBelow : ℕ → PageMap → ℕ → ℕ → Type 0
 IsFullBelow zero pages page version = ⊥
 IsFullBelow (suc zero) pages page version =
-    (length (entries_on pages page) ≡ 64) × (list_any (λ e. e.low == version) (entries_on pages page) ≡ false)
+    IsFull pages page × (list_any (λ e. e.low == version) (entries_on pages page) ≡ false)
 IsFullBelow (suc (suc level)) pages page version =
-    (length (entries_on pages page) ≡ 64) × IsFullBelow (suc level) pages (child_at (entries_on pages page) version) version
+    IsFull pages page × IsFullBelow (suc level) pages (child_at (entries_on pages page) version) version
 
 -- What an addition may call damaged: a page on its way; the root of a tree that has 2^31 points or more;
 -- the root of a tree of 16 levels that would have to split; any page where the free pages are not in order.

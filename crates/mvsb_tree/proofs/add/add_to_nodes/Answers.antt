@@ -3,8 +3,7 @@ use Rattle.std.proofs.lemmas.Result.{err_from_is_err_and}
 use Rattle.bw_types.specs.declared.point.Point.{Point}
 use Rattle.page_ports.specs.Pages.{PageMap}
 use Rattle.page_ports.specs.declared.page.StageFault.TheVariants.{Damaged}
-use Rattle.mvsb_tree.specs.AddDamage.{IsDamagedFromRootForAdd, IsEndDamaged, IsFullAtTop, places_taken}
-use Rattle.mvsb_tree.specs.Damage.{root_place}
+use Rattle.mvsb_tree.specs.AddDamage.{IsDamagedAtRoot, KeepsDirectories}
 use Rattle.mvsb_tree.specs.Grown.{NodesHold}
 use Rattle.mvsb_tree.specs.Stands.{ChainStands, StandsOnWay, is_marked}
 use Rattle.mvsb_tree.specs.Steps.{chain_from, place_count, root_at, root_level}
@@ -12,6 +11,7 @@ use Rattle.mvsb_tree.specs.Tops.{RootAdded}
 use Rattle.mvsb_tree.proofs.Beginning.{first_of_tree, root_ways}
 use Rattle.mvsb_tree.proofs.Whole.{marked_own, nodes_hold}
 use Rattle.mvsb_tree.proofs.Costs.{low_moved, root_named}
+use Rattle.mvsb_tree.proofs.Directories.{made_keeps}
 use Rattle.mvsb_tree.proofs.Exits.{exit_error, read_damaged}
 use Rattle.mvsb_tree.proofs.add.add_to_nodes.Goals as goal
 
@@ -114,8 +114,18 @@ returns-in_err-top-2-clause-damaged g c = λ page e tells. (
     let read = c.root_at.ensures.reads.read in
     let root_is : root ≡ root_at m0 tree v = c.in_ok-root.ensures.root tells in
     elim (c.in_err-top-2.ensures.damaged page (ap Err same) (read.tells ∙ tells)) [
-      | inl way ↦ inl (c.if-tree-eq0.false, inr (inr (inl (subst (λ (r : ℕ). IsDamagedFromRootForAdd m0 r (root_place key v) page) root_is (subst (λ (m : PageMap). IsDamagedFromRootForAdd m root (root_place key v) page) read.map way)))))
-      | inr (inl end) ↦ inl (c.if-tree-eq0.false, inr (inr (inr (inl (subst (λ (r : ℕ). IsEndDamaged (places_taken m0 r) m0 tree.last page) root_is (subst (λ (l : ℕ). IsEndDamaged (places_taken m0 root) m0 l page) c.requires.last (subst (λ (m : PageMap). IsEndDamaged (places_taken m root) m c.args.last.now page) read.map end)))))))
-      | inr (inr (inl high)) ↦ inl (c.if-tree-eq0.false, inr (inr (inr (inr (high.0, subst (λ (r : ℕ). IsFullAtTop m0 r) root_is (subst (λ (m : PageMap). IsFullAtTop m root) read.map high.1))))))
-      | inr (inr (inr unordered)) ↦ inr (λ ordered. unordered (read.free_in_order ordered))
+      | inl found ↦
+          let d0 = subst (λ (m : PageMap). IsDamagedAtRoot m root key v c.args.value c.args.last.now tree.root page) read.map found in
+          let d1 = subst (λ (r : ℕ). IsDamagedAtRoot m0 r key v c.args.value c.args.last.now tree.root page) root_is d0 in
+          inl (c.if-tree-eq0.false, inr (inr (subst (λ (l : ℕ). IsDamagedAtRoot m0 (root_at m0 tree v) key v c.args.value l tree.root page) c.requires.last d1)))
+      | inr unordered ↦ inr (λ ordered. unordered (read.free_in_order ordered))
     ])
+
+pub returns-clause-directories : goal.returns-clause-directories
+returns-clause-directories g c = λ tells.
+    subst (λ (m : PageMap). KeepsDirectories m (g.S.Pages.map c.add_at_root.new.stage)) c.root_at.ensures.reads.read.map (c.in_ok-top-2.ensures.directories (c.root_at.ensures.reads.read.tells ∙ tells))
+
+pub returns-then-tree-eq0-clause-directories : goal.returns-then-tree-eq0-clause-directories
+returns-then-tree-eq0-clause-directories g c = λ tells.
+    let made = c.in_ok-top.ensures.made tells in
+    made_keeps (g.S.Pages.map c.args.stage.now) (g.S.Pages.map c.first_leaf.new.stage) c.in_ok-top.top _ made.0 made.1 made.2

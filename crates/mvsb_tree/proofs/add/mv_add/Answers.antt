@@ -11,7 +11,8 @@ use Rattle.sb_tree.specs.Damage as damage
 use Rattle.sb_tree.specs.Steps as dir_steps
 use Rattle.sb_tree.specs.Stored.{OthersStay}
 use Rattle.mvsb_tree.specs.AddDamage.{node_way}
-use Rattle.mvsb_tree.proofs.Later.{both_stay, damaged_alike}
+use Rattle.mvsb_tree.proofs.Directories.{damaged_before}
+use Rattle.mvsb_tree.proofs.Later.{both_stay}
 use Rattle.mvsb_tree.specs.Led.{Led}
 use Rattle.mvsb_tree.specs.Stands.{MvStands, is_marked, key_of}
 use Rattle.mvsb_tree.specs.Steps.{directory, place_count, root_level}
@@ -153,7 +154,7 @@ returns-in_err-ends-clause-damaged g c = λ page e tells. (
     let same = exit_error c.from_residual.result c.in_err-ends.field-0.0 (Damaged page) told e in
     elim (c.in_err-ends.ensures.damaged page (ap Err same) tells) [
       | inl d ↦ inr (inl d)
-      | inr unordered ↦ inr (inr (inr unordered))
+      | inr unordered ↦ inr (inr (inr (inr (inr unordered))))
     ])
 
 pub returns-in_err-lead_to-clause-damaged : goal.returns-in_err-lead_to-clause-damaged
@@ -168,7 +169,7 @@ returns-in_err-lead_to-clause-damaged g c = λ page e tells. (
     let grows = c.add_to_nodes.ensures.grows.went_on in
     let d0 = c.in_err-lead_to.ensures.damaged page (ap Err same) (grows.tells ∙ tells) in
     let d1 = subst (λ (t : Tree). damage.IsDamagedForAdd m1 order1 t c.args.version page) c.directory-roots.ensures d0 in
-    inr (inr (inl (m1, c.in_ok-ends.ensures.apart tells, damaged_alike m1 order0 order1 (directory tree) c.args.version page (λ ordered. grows.free_in_order tells ordered) d1))))
+    inr (inr (damaged_before m0 m1 order0 order1 (directory tree) c.args.version page (c.in_ok-ends.ensures.directories tells) (λ ordered. grows.free_in_order tells ordered) d1)))
 
 pub returns-clause-apart : goal.returns-clause-apart
 returns-clause-apart g c = λ tells there apart. (

@@ -11,13 +11,17 @@ use Rattle.sb_tree.specs.Stored.{OthersStay}
 use Rattle.mvsb_tree.specs.Stands.{NodeStands, ends_after, inner_low}
 use Rattle.page_layout.specs.MvNode.{mv_node_page}
 use Rattle.mv_pages.specs.Alive.{IsChangeable}
-use Rattle.mvsb_tree.specs.AddDamage.{IsDamagedPastForAdd, IsEndDamaged, KeepsPlaces}
+use Rattle.mvsb_tree.specs.AddDamage.{EndsOnWay, IsDamagedPastForAdd, IsMade, KeepsDirectories}
+use Rattle.mvsb_tree.specs.Becoming.{new_pages}
 use Rattle.mvsb_tree.specs.Damage.{FitsPlace}
+use Rattle.mvsb_tree.specs.declared.place.Place.{Place}
+use Rattle.mvsb_tree.specs.declared.replaced.Replaced.{Replaced}
 use Rattle.mvsb_tree.specs.Steps.{chain_from, node_on}
 use Rattle.mvsb_tree.specs.Ways.{IsKeyIn, way_pages}
 use Rattle.mvsb_tree.proofs.Descending as descending
 use Rattle.mvsb_tree.proofs.AddPast.{add_past_further, add_past_here, placed_as, placed_later}
-use Rattle.mvsb_tree.proofs.Ending.{end_before, end_more, keeps_more, keeps_then, stored_keeps}
+use Rattle.mvsb_tree.proofs.Becoming.{ends_above, ends_below, ends_leaf, made_above, made_leaf}
+use Rattle.mvsb_tree.proofs.Directories as directories
 use Rattle.mvsb_tree.proofs.Exits.{err_same_staged, exit_error, read_damaged}
 use Rattle.mvsb_tree.proofs.Growing.{named_second}
 use Rattle.mvsb_tree.proofs.Nodes.{node_on-spelled, same_spelled}
@@ -25,7 +29,6 @@ use Rattle.mvsb_tree.proofs.Sound.{root_spelled}
 use Rattle.mvsb_tree.proofs.Sounding.{Fails, changeable_where_stands, child_fits, child_undamaged}
 use Rattle.mvsb_tree.proofs.Assembling.{AddsBelow, both_apart, cut_inside_too, first_apart, index_added, leaf_added, leaf_here, of_cut, outer_fits, stored_apart}
 use Rattle.mvsb_tree.proofs.Splitting.{lies_in, lows_within, split_fits}
-use Rattle.mvsb_tree.proofs.Storing.{closed_full}
 use Rattle.mvsb_tree.proofs.below.+add_on.Goals as goal
 
 pub returns-in_default-clause-fits : goal.returns-in_default-clause-fits
@@ -35,13 +38,69 @@ returns-in_default-clause-fits g t c = IfOk-weaker c.store.result _ _ (λ r spli
     (and_from (nat_le c.args.place.low c.args.place.key) (ends_after c.args.place.high c.args.place.key) (le-leb c.args.place.low c.args.place.key c.requires.key.0) c.requires.key.1)
     (lows_within c.args.place c.args.node.entries.items c.requires.placed.within)) split) c.store.ensures.split
 
-pub returns-in_default-clause-full : goal.returns-in_default-clause-full
-returns-in_default-clause-full g t c = IfOk-weaker c.store.result _ _ (λ r stored tells some.
-    omega (arith, closed_full _ _ c.args.page c.add_to_leaf.new.node c.args.place.version c.args.last.now c.store.new.last r (stored tells) some, c.add_to_leaf.ensures.few)) c.store.ensures.stored
+pub returns-in_default-clause-made : goal.returns-in_default-clause-made
+returns-in_default-clause-made g t c = IfOk-weaker c.store.result _ _ (λ r stored tells.
+    let m0 : PageMap = g.S.Pages.map c.args.stage.now in
+    let place = c.args.place in
+    let node = c.args.node in
+    let new = c.add_to_leaf.new.node in
+    let is : node_on m0 c.args.page ≡ node = node_on-spelled m0 c.args.page node c.requires.typed c.requires.rules (c.requires.there tells) in
+    made_leaf node.level m0 (g.S.Pages.map c.store.new.stage) c.args.page node new place.key place.version c.args.value c.args.last.now c.store.new.last r
+    (leaf_here node place.key place.version c.requires.placed.leads (c.in_default.ensures.none refl)) c.add_to_leaf.ensures.taken
+    (placed_as m0 c.args.page node new is c.requires.typed c.add_to_leaf.ensures.past) c.add_to_leaf.ensures.storable.typed (stored tells)) c.store.ensures.stored
 
-pub returns-clause-full : goal.returns-clause-full
-returns-clause-full g t c = IfOk-weaker c.store-2.result _ _ (λ r stored tells some.
-    omega (arith, closed_full _ _ c.args.page c.change.new.node c.args.place.version c.add_on.new.last c.store-2.new.last r (stored (search rules)) some, c.change.ensures.few)) c.store-2.ensures.stored
+pub returns-in_default-clause-directories : goal.returns-in_default-clause-directories
+returns-in_default-clause-directories g t c = IfOk-weaker c.store.result _ _ (λ r stored tells.
+    let m0 : PageMap = g.S.Pages.map c.args.stage.now in
+    directories.stored_keeps m0 (g.S.Pages.map c.store.new.stage) c.args.page c.add_to_leaf.new.node c.args.place.version c.args.last.now c.store.new.last r
+    (directories.no_directory m0 c.args.page c.args.node (c.requires.there tells)) (stored tells)) c.store.ensures.stored
+
+-- What was made of the child, of the map before it was read.
+child_made : (m mr m1 : PageMap) (l : ℕ) (below : MvNode) (step : Place) (key v value last last1 : ℕ) (r : Option Replaced) → mr ≡ m → below.level ≡ l → step.key ≡ key → step.version ≡ v
+    → IsMade below.level mr m1 below step.key step.version value last last1 r → IsMade l m m1 below key v value last last1 r
+child_made m mr m1 l below step key v value last last1 r read level key_is version_is made =
+    subst (λ (w : ℕ). IsMade l m m1 below key w value last last1 r) version_is (subst (λ (k : ℕ). IsMade l m m1 below k step.version value last last1 r) key_is
+    (subst (λ (x : ℕ). IsMade x m m1 below step.key step.version value last last1 r) level (subst (λ (n : PageMap). IsMade below.level n m1 below step.key step.version value last last1 r) read made)))
+
+pub returns-clause-made : goal.returns-clause-made
+returns-clause-made g t c = IfOk-weaker c.store-2.result _ _ (λ r stored tells.
+    let m0 : PageMap = g.S.Pages.map c.args.stage.now in
+    let m1 : PageMap = g.S.Pages.map c.add_on.new.stage in
+    let m2 : PageMap = g.S.Pages.map c.store-2.new.stage in
+    let place = c.args.place in
+    let node = c.args.node in
+    let step = c.in-Some.step in
+    let child = c.in_ok-child.child in
+    let new = c.change.new.node in
+    let last = c.args.last.now in
+    let last1 = c.add_on.new.last in
+    let replaced = c.in_ok-replaced.replaced in
+    let read = c.read_in_place.ensures.reads.read in
+    let grows = c.add_on.ensures.grows.went_on in
+    let level : ℕ = node.level - 2 in
+    let at_level : node.level ≡ suc (suc level) = omega (arith, c.in-Some.ensures.level) in
+    let child_level : child.level ≡ suc level = c.in_ok-child.ensures.node.fits.at_level ∙ (let e : node.level - 1 ≡ suc level = omega (arith, c.in-Some.ensures.level) in e) in
+    let is : node_on m0 c.args.page ≡ node = node_on-spelled m0 c.args.page node c.requires.typed c.requires.rules (c.requires.there tells) in
+    let spelled = c.in_ok-child.ensures.node.fits in
+    let child_is : node_on m0 step.child ≡ child = node_on-spelled m0 step.child child spelled.typed spelled.rules (c.in_ok-child.ensures.found tells) in
+    let made = child_made m0 (g.S.Pages.map c.read_in_place.new.pages) m1 (suc level) child step.place place.key place.version c.args.value last last1 replaced read.map child_level
+    c.in-Some.ensures.leads.key c.in-Some.ensures.leads.version (c.in_ok-replaced.ensures.made (read.tells ∙ tells)) in
+    let placed = placed_later m0 m1 c.args.page node new (made.below + new_pages made.changed place.version) last last1 is c.requires.typed (subst IsSome (sym (c.requires.there tells)) refl) made.places c.change.ensures.past in
+    subst (λ (l : ℕ). IsMade l m0 m2 node place.key place.version c.args.value last c.store-2.new.last r) (sym at_level)
+    (made_above level m0 m1 m2 c.args.page step.child node child new place.key place.version c.args.value last last1 c.store-2.new.last replaced r
+    c.in-Some.ensures.leads.child_is child_is made c.change.ensures.taken placed c.change.ensures.storable.typed (stored (grows.tells ∙ read.tells ∙ tells)))) c.store-2.ensures.stored
+
+pub returns-clause-directories : goal.returns-clause-directories
+returns-clause-directories g t c = IfOk-weaker c.store-2.result _ _ (λ r stored tells.
+    let m0 : PageMap = g.S.Pages.map c.args.stage.now in
+    let m1 : PageMap = g.S.Pages.map c.add_on.new.stage in
+    let read = c.read_in_place.ensures.reads.read in
+    let grows = c.add_on.ensures.grows.went_on in
+    let first : KeepsDirectories m0 m1 = subst (λ (m : PageMap). KeepsDirectories m m1) read.map (c.in_ok-replaced.ensures.directories (read.tells ∙ tells)) in
+    let none = directories.still_none m0 m1 c.args.page first (directories.no_directory m0 c.args.page c.args.node (c.requires.there tells)) in
+    directories.keeps_both m0 m1 (g.S.Pages.map c.store-2.new.stage) first
+    (directories.stored_keeps m1 (g.S.Pages.map c.store-2.new.stage) c.args.page c.change.new.node c.args.place.version c.add_on.new.last c.store-2.new.last r none
+    (stored (grows.tells ∙ read.tells ∙ tells)))) c.store-2.ensures.stored
 
 pub change-requires-clause-replaced : goal.change-requires-clause-replaced
 change-requires-clause-replaced g t c =
@@ -274,16 +333,6 @@ returns-clause-sound g t c = λ test places least p tells key_test s h ways orde
     c.store-2.ensures.sound done.new_places p (grows.tells ∙ read.tells ∙ tells) done.grown.stands listed (c.change.ensures.past.place ∙ sym (ap (λ (n : MvNode). n.place) still))
     (c.change.ensures.past.before ∙ sym (ap (λ (n : MvNode). n.before) still)) (grows.free_in_order (read.tells ∙ tells) (read.free_in_order ordered)))
 
-pub returns-in_default-clause-kept : goal.returns-in_default-clause-kept
-returns-in_default-clause-kept g t c = IfOk-weaker c.store.result _ _ (λ r stored tells.
-    let m0 : PageMap = g.S.Pages.map c.args.stage.now in
-    let place = c.args.place in
-    let node = c.args.node in
-    let is : node_on m0 c.args.page ≡ node = node_on-spelled m0 c.args.page node c.requires.typed c.requires.rules (c.requires.there tells) in
-    let new = c.add_to_leaf.new.node in
-    let kept = stored_keeps m0 (g.S.Pages.map c.store.new.stage) c.args.page new place.version c.args.last.now c.store.new.last r (placed_as m0 c.args.page node new is c.requires.typed c.add_to_leaf.ensures.past) c.add_to_leaf.ensures.storable.typed (stored tells) in
-    keeps_more 2 (node.level + node.level) m0 (g.S.Pages.map c.store.new.stage) c.args.last.now c.store.new.last (omega (arith, c.requires.rules.low_level)) kept) c.store.ensures.stored
-
 pub returns-in_default-clause-damaged : goal.returns-in_default-clause-damaged
 returns-in_default-clause-damaged g t c = λ p e tells. (
     let m0 : PageMap = g.S.Pages.map c.args.stage.now in
@@ -291,7 +340,8 @@ returns-in_default-clause-damaged g t c = λ p e tells. (
     let node = c.args.node in
     let is : node_on m0 c.args.page ≡ node = node_on-spelled m0 c.args.page node c.requires.typed c.requires.rules (c.requires.there tells) in
     elim (c.store.ensures.damaged p e tells (placed_as m0 c.args.page node c.add_to_leaf.new.node is c.requires.typed c.add_to_leaf.ensures.past)) [
-      | inl last ↦ inr (inl (end_more 1 (node.level + node.level) m0 c.args.last.now p (omega (arith, c.requires.rules.low_level)) last))
+      | inl end ↦ inr (inl (ends_leaf node.level m0 node c.add_to_leaf.new.node place.key place.version c.args.value c.args.last.now p
+          (leaf_here node place.key place.version c.requires.placed.leads (c.in_default.ensures.none refl)) c.add_to_leaf.ensures.taken end))
       | inr unordered ↦ inr (inr unordered)
     ])
 
@@ -320,6 +370,13 @@ returns-then-not-is_changeable-clause-damaged g t c = λ p e tells. (
     let can = subst (λ (w : ℕ). IsChangeable w other.entries.items) c.in-Some.ensures.leads.version fits.1 in
     never (subst (λ (n : MvNode). IsChangeable c.args.place.version n.entries.items) (sym is) can))))
 
+-- The chain ends on the way below the child, of the map before it was read.
+child_ends : (m mr : PageMap) (l : ℕ) (below : MvNode) (step : Place) (key v value last p : ℕ) → mr ≡ m → below.level ≡ l → step.key ≡ key → step.version ≡ v
+    → EndsOnWay below.level mr below step.key step.version value last p → EndsOnWay l m below key v value last p
+child_ends m mr l below step key v value last p read level key_is version_is ends =
+    subst (λ (w : ℕ). EndsOnWay l m below key w value last p) version_is (subst (λ (k : ℕ). EndsOnWay l m below k step.version value last p) key_is
+    (subst (λ (x : ℕ). EndsOnWay x m below step.key step.version value last p) level (subst (λ (n : PageMap). EndsOnWay below.level n below step.key step.version value last p) read ends)))
+
 pub returns-in_err-replaced-clause-damaged : goal.returns-in_err-replaced-clause-damaged
 returns-in_err-replaced-clause-damaged g t c = λ p e tells. (
     let m0 : PageMap = g.S.Pages.map c.args.stage.now in
@@ -335,48 +392,45 @@ returns-in_err-replaced-clause-damaged g t c = λ p e tells. (
     elim (c.in_err-replaced.ensures.damaged p (ap Err same) (read.tells ∙ tells)) [
       | inl past ↦ inl (add_past_further m0 c.args.place step.place node child step.child p (mv_node_page child) some c.in-Some.ensures.leads (c.in_ok-child.ensures.found tells) (c.in_ok-child.ensures.node, can)
           (subst (λ (m : PageMap). IsDamagedPastForAdd m step.place child p) read.map past))
-      | inr (inl last) ↦ inr (inl (end_more (child.level + child.level) (node.level + node.level) m0 c.args.last.now p (omega (arith, child_level)) (subst (λ (m : PageMap). IsEndDamaged (child.level + child.level) m c.args.last.now p) read.map last)))
+      | inr (inl ends) ↦
+          let place = c.args.place in
+          let last = c.args.last.now in
+          let level : ℕ = node.level - 1 in
+          let at_level : node.level ≡ suc level = omega (arith, c.in-Some.ensures.level) in
+          let spelled = c.in_ok-child.ensures.node.fits in
+          let child_is : node_on m0 step.child ≡ child = node_on-spelled m0 step.child child spelled.typed spelled.rules (c.in_ok-child.ensures.found tells) in
+          let here = child_ends m0 (g.S.Pages.map c.read_in_place.new.pages) level child step.place place.key place.version c.args.value last p read.map child_level
+          c.in-Some.ensures.leads.key c.in-Some.ensures.leads.version ends in
+          inr (inl (subst (λ (l : ℕ). EndsOnWay l m0 node place.key place.version c.args.value last p) (sym at_level)
+          (ends_below level m0 step.child node child place.key place.version c.args.value last p c.in-Some.ensures.leads.child_is child_is here)))
       | inr (inr unordered) ↦ inr (inr (λ ordered. unordered (read.free_in_order ordered)))
     ])
-
-pub returns-clause-kept : goal.returns-clause-kept
-returns-clause-kept g t c = IfOk-weaker c.store-2.result _ _ (λ r stored tells.
-    let m0 : PageMap = g.S.Pages.map c.args.stage.now in
-    let place = c.args.place in
-    let node = c.args.node in
-    let is : node_on m0 c.args.page ≡ node = node_on-spelled m0 c.args.page node c.requires.typed c.requires.rules (c.requires.there tells) in
-    let m1 : PageMap = g.S.Pages.map c.add_on.new.stage in
-    let m2 : PageMap = g.S.Pages.map c.store-2.new.stage in
-    let child = c.in_ok-child.child in
-    let new = c.change.new.node in
-    let last = c.args.last.now in
-    let last1 = c.add_on.new.last in
-    let read = c.read_in_place.ensures.reads.read in
-    let child_level : child.level ≡ node.level - 1 = c.in_ok-child.ensures.node.fits.at_level in
-    let k0 : KeepsPlaces (child.level + child.level) (g.S.Pages.map c.read_in_place.new.pages) m1 last last1 = c.in_ok-replaced.ensures.kept (read.tells ∙ tells) in
-    let k1 : KeepsPlaces (child.level + child.level) m0 m1 last last1 = subst (λ (m : PageMap). KeepsPlaces (child.level + child.level) m m1 last last1) read.map k0 in
-    let placed = placed_later m0 m1 c.args.page node new (child.level + child.level) last last1 is c.requires.typed (subst IsSome (sym (c.requires.there tells)) refl) k1 c.change.ensures.past in
-    let second = stored_keeps m1 m2 c.args.page new place.version last1 c.store-2.new.last r placed c.change.ensures.storable.typed (stored (search rules)) in
-    keeps_more (child.level + child.level + 2) (node.level + node.level) m0 m2 last c.store-2.new.last (omega (arith, child_level, c.in-Some.ensures.level)) (keeps_then (child.level + child.level) 2 m0 m1 m2 last last1 c.store-2.new.last k1 second)) c.store-2.ensures.stored
 
 pub returns-clause-damaged : goal.returns-clause-damaged
 returns-clause-damaged g t c = λ p e tells. (
     let m0 : PageMap = g.S.Pages.map c.args.stage.now in
+    let m1 : PageMap = g.S.Pages.map c.add_on.new.stage in
     let place = c.args.place in
     let node = c.args.node in
-    let is : node_on m0 c.args.page ≡ node = node_on-spelled m0 c.args.page node c.requires.typed c.requires.rules (c.requires.there tells) in
-    let m1 : PageMap = g.S.Pages.map c.add_on.new.stage in
+    let step = c.in-Some.step in
     let child = c.in_ok-child.child in
     let new = c.change.new.node in
     let last = c.args.last.now in
     let last1 = c.add_on.new.last in
+    let replaced = c.in_ok-replaced.replaced in
     let read = c.read_in_place.ensures.reads.read in
     let grows = c.add_on.ensures.grows.went_on in
-    let child_level : child.level ≡ node.level - 1 = c.in_ok-child.ensures.node.fits.at_level in
-    let k0 : KeepsPlaces (child.level + child.level) (g.S.Pages.map c.read_in_place.new.pages) m1 last last1 = c.in_ok-replaced.ensures.kept (read.tells ∙ tells) in
-    let k1 : KeepsPlaces (child.level + child.level) m0 m1 last last1 = subst (λ (m : PageMap). KeepsPlaces (child.level + child.level) m m1 last last1) read.map k0 in
-    let placed = placed_later m0 m1 c.args.page node new (child.level + child.level) last last1 is c.requires.typed (subst IsSome (sym (c.requires.there tells)) refl) k1 c.change.ensures.past in
+    let level : ℕ = node.level - 2 in
+    let at_level : node.level ≡ suc (suc level) = omega (arith, c.in-Some.ensures.level) in
+    let child_level : child.level ≡ suc level = c.in_ok-child.ensures.node.fits.at_level ∙ (let e : node.level - 1 ≡ suc level = omega (arith, c.in-Some.ensures.level) in e) in
+    let is : node_on m0 c.args.page ≡ node = node_on-spelled m0 c.args.page node c.requires.typed c.requires.rules (c.requires.there tells) in
+    let spelled = c.in_ok-child.ensures.node.fits in
+    let child_is : node_on m0 step.child ≡ child = node_on-spelled m0 step.child child spelled.typed spelled.rules (c.in_ok-child.ensures.found tells) in
+    let made = child_made m0 (g.S.Pages.map c.read_in_place.new.pages) m1 (suc level) child step.place place.key place.version c.args.value last last1 replaced read.map child_level
+    c.in-Some.ensures.leads.key c.in-Some.ensures.leads.version (c.in_ok-replaced.ensures.made (read.tells ∙ tells)) in
+    let placed = placed_later m0 m1 c.args.page node new (made.below + new_pages made.changed place.version) last last1 is c.requires.typed (subst IsSome (sym (c.requires.there tells)) refl) made.places c.change.ensures.past in
     elim (c.store-2.ensures.damaged p e (grows.tells ∙ read.tells ∙ tells) placed) [
-      | inl end ↦ inr (inl (end_more (child.level + child.level + 1) (node.level + node.level) m0 last p (omega (arith, child_level, c.in-Some.ensures.level)) (end_before (child.level + child.level) 1 m0 m1 last last1 p k1 end)))
+      | inl end ↦ inr (inl (subst (λ (l : ℕ). EndsOnWay l m0 node place.key place.version c.args.value last p) (sym at_level)
+          (ends_above level m0 m1 step.child node child new place.key place.version c.args.value last last1 p replaced c.in-Some.ensures.leads.child_is child_is made c.change.ensures.taken end)))
       | inr unordered ↦ inr (inr (λ ordered. unordered (grows.free_in_order (read.tells ∙ tells) (read.free_in_order ordered))))
     ])

@@ -1,4 +1,4 @@
-use Rattle.std.proofs.Common.{◌≡◌, ◌≢◌, ◌+◌, ◌-◌, ◌^◌, ◌<◌, ◌≤◌, inl, inr, IsSome, ℕ, Some, None, Err, List, length, refl, sym, ap, ◌∙◌, subst, arith, rules}
+use Rattle.std.proofs.Common.{◌≡◌, ◌≢◌, ◌+◌, ◌-◌, ◌^◌, ◌<◌, inl, inr, IsSome, ℕ, Some, None, Err, List, refl, sym, ap, ◌∙◌, subst, arith, rules}
 use Rattle.std.proofs.lemmas.Result.{IfOk-weaker, err_from_is_err_and}
 use Rattle.std.proofs.lemmas.Bool.{iff_false}
 use Rattle.page_ports.specs.Pages.{PageMap}
@@ -10,11 +10,13 @@ use Rattle.mvsb_tree.specs.Stands.{StandsOnWay}
 use Rattle.mvsb_tree.specs.Steps.{chain_from, node_on, root_level}
 use Rattle.mv_pages.specs.Alive.{IsChangeable}
 use Rattle.sb_tree.specs.Stored.{OthersStay}
-use Rattle.mvsb_tree.specs.AddDamage.{IsDamagedPastForAdd, IsEndDamaged, KeepsPlaces, places_taken}
+use Rattle.mvsb_tree.specs.AddDamage.{EndsOnWay, IsDamagedPastForAdd, IsMade, KeepsDirectories}
+use Rattle.mvsb_tree.specs.Becoming.{new_pages}
 use Rattle.mvsb_tree.specs.Damage.{IsInPlace, root_place}
 use Rattle.mvsb_tree.specs.Ways.{way_pages}
 use Rattle.mvsb_tree.proofs.AddPast.{root_add_past, root_add_unfit, top_stays}
-use Rattle.mvsb_tree.proofs.Ending.{end_before, end_more, end_of_last}
+use Rattle.mvsb_tree.proofs.Becoming.{ends_at_top, root_cut}
+use Rattle.mvsb_tree.proofs.Directories as directories
 use Rattle.mvsb_tree.specs.Changed.{ReplacedFits}
 use Rattle.mvsb_tree.proofs.Assembling.{AddsBelow}
 use Rattle.mvsb_tree.proofs.Exits.{both_if, err_same_staged, exit_error, read_damaged}
@@ -150,10 +152,10 @@ returns-then-not-admits-clause-damaged g c = λ p e tells. (
     let spells = c.in_ok-node.ensures.spells in
     let there = c.in_ok-node.ensures.found tells in
     let some : root ≢ 0 = λ none. omega (arith, none, c.if-root-lt3.false) in
-    inl (root_add_unfit m0 root (root_place key v) node p some spells.typed spells.rules there (λ inside can. elim c.then-not-admits.branch [
+    inl (inl (root_add_unfit m0 root (root_place key v) node p some spells.typed spells.rules there (λ inside can. elim c.then-not-admits.branch [
       | then-not-admits-via-then-not-admits w ↦ iff_false c.admits.ensures w.if-not-admits.true (subst (λ (q : Place). IsInPlace node.level q node) (sym c.root_place-place.ensures) inside)
       | then-not-admits-via-else-not-admits+then-not-is_changeable w ↦ iff_false w.is_changeable.ensures w.if-not-is_changeable.true can
-    ]) (sym (err_same_staged root p e))))
+    ]) (sym (err_same_staged root p e)))))
 
 pub returns-in_err-replaced-clause-damaged : goal.returns-in_err-replaced-clause-damaged
 returns-in_err-replaced-clause-damaged g c = λ p e tells. (
@@ -172,10 +174,17 @@ returns-in_err-replaced-clause-damaged g c = λ p e tells. (
     let same = exit_error c.from_residual-in_err-replaced.result c.in_err-replaced.field-0.0 (Damaged p) told e in
     let level : root_level m0 root ≡ node.level = level_of_root m0 root node some spells.typed spells.rules there in
     elim (c.in_err-replaced.ensures.damaged p (ap Err same) (read.tells ∙ tells)) [
-      | inl past ↦ inl (root_add_past m0 root (root_place key v) node p some spells.typed spells.rules there inside can
-          (subst (λ (q : Place). IsDamagedPastForAdd m0 q node p) c.root_place-place.ensures (subst (λ (m : PageMap). IsDamagedPastForAdd m c.root_place-place.result node p) read.map past)))
-      | inr (inl last) ↦ inr (inl (end_more (node.level + node.level) (places_taken m0 root) m0 c.args.last.now p (omega (arith, level)) (subst (λ (m : PageMap). IsEndDamaged (node.level + node.level) m c.args.last.now p) read.map last)))
-      | inr (inr unordered) ↦ inr (inr (inr (λ ordered. unordered (read.free_in_order ordered))))
+      | inl past ↦ inl (inl (root_add_past m0 root (root_place key v) node p some spells.typed spells.rules there inside can
+          (subst (λ (q : Place). IsDamagedPastForAdd m0 q node p) c.root_place-place.ensures (subst (λ (m : PageMap). IsDamagedPastForAdd m c.root_place-place.result node p) read.map past))))
+      | inr (inl ends) ↦
+          let last = c.args.last.now in
+          let value = c.args.value in
+          let on : node_on m0 root ≡ node = node_on-spelled m0 root node spells.typed spells.rules there in
+          let e1 = subst (λ (m : PageMap). EndsOnWay node.level m node c.root_place-place.result.key c.root_place-place.result.version value last p) read.map ends in
+          let e2 = subst (λ (q : Place). EndsOnWay node.level m0 node q.key q.version value last p) c.root_place-place.ensures e1 in
+          let e3 = subst (λ (l : ℕ). EndsOnWay l m0 node key v value last p) (sym level) e2 in
+          inl (inr (inl (subst (λ (n : MvNode). EndsOnWay (root_level m0 root) m0 n key v value last p) (sym on) e3)))
+      | inr (inr unordered) ↦ inr (λ ordered. unordered (read.free_in_order ordered))
     ])
 
 pub returns-clause-apart : goal.returns-clause-apart
@@ -199,30 +208,56 @@ returns-clause-apart g c = IfOk-weaker c.top_of.result _ _ (λ top is_top tells 
     let first = a3 p off there_before in
     top_stays m1 m2 root node.level v c.in_ok-replaced.replaced c.add_on.new.last c.top_of.new.last top (is_top (search rules)) p (subst IsSome (sym first) there_before) ∙ first) c.top_of.ensures.top
 
+pub returns-clause-directories : goal.returns-clause-directories
+returns-clause-directories g c = IfOk-weaker c.top_of.result _ _ (λ top is_top tells.
+    let m0 : PageMap = g.S.Pages.map c.args.stage.now in
+    let m1 : PageMap = g.S.Pages.map c.add_on.new.stage in
+    let read = c.read_page.ensures.reads.read in
+    let first : KeepsDirectories m0 m1 = subst (λ (m : PageMap). KeepsDirectories m m1) read.map (c.in_ok-replaced.ensures.directories (read.tells ∙ tells)) in
+    directories.keeps_both m0 m1 (g.S.Pages.map c.top_of.new.stage) first
+    (directories.top_keeps m1 (g.S.Pages.map c.top_of.new.stage) c.args.root c.in_ok-node.node.level c.args.version c.in_ok-replaced.replaced c.add_on.new.last c.top_of.new.last top (is_top (search rules)))) c.top_of.ensures.top
+
 pub returns-clause-damaged : goal.returns-clause-damaged
 returns-clause-damaged g c = λ p e tells. (
     let m0 : PageMap = g.S.Pages.map c.args.stage.now in
     let root = c.args.root in
     let v = c.args.version in
     let key = c.args.key in
+    let value = c.args.value in
     let node = c.in_ok-node.node in
     let spells = c.in_ok-node.ensures.spells in
     let there = c.in_ok-node.ensures.found tells in
     let some : root ≢ 0 = λ none. omega (arith, none, c.if-root-lt3.false) in
+    let mr : PageMap = g.S.Pages.map c.read_page.new.pages in
     let m1 : PageMap = g.S.Pages.map c.add_on.new.stage in
     let last = c.args.last.now in
     let last1 = c.add_on.new.last in
+    let replaced = c.in_ok-replaced.replaced in
+    let place = c.root_place-place.result in
     let read = c.read_page.ensures.reads.read in
     let grows = c.add_on.ensures.grows.went_on in
     let level : root_level m0 root ≡ node.level = level_of_root m0 root node some spells.typed spells.rules there in
-    let k0 : KeepsPlaces (node.level + node.level) (g.S.Pages.map c.read_page.new.pages) m1 last last1 = c.in_ok-replaced.ensures.kept (read.tells ∙ tells) in
-    let kept : KeepsPlaces (node.level + node.level) m0 m1 last last1 = subst (λ (m : PageMap). KeepsPlaces (node.level + node.level) m m1 last last1) read.map k0 in
+    let on : node_on m0 root ≡ node = node_on-spelled m0 root node spells.typed spells.rules there in
+    let d0 : IsMade node.level mr m1 node place.key place.version value last last1 replaced = c.in_ok-replaced.ensures.made (read.tells ∙ tells) in
+    let d1 = subst (λ (m : PageMap). IsMade node.level m m1 node place.key place.version value last last1 replaced) read.map d0 in
+    let made = subst (λ (q : Place). IsMade node.level m0 m1 node q.key q.version value last last1 replaced) c.root_place-place.ensures d1 in
     elim (c.top_of.ensures.damaged p e (grows.tells ∙ read.tells ∙ tells)) [
-      | inl high ↦
-          let is : root_level m0 root ≡ 16 = omega (arith, level, high.1, spells.rules.high_level) in
-          let many : 94 ≤ length node.entries.items = c.in_ok-replaced.ensures.full (read.tells ∙ tells) high.2 in
-          let on : node_on m0 root ≡ node = node_on-spelled m0 root node spells.typed spells.rules there in
-          inr (inr (inl (high.0, (is, subst (λ (n : MvNode). 94 ≤ length n.entries.items) (sym on) many))))
-      | inr (inl end) ↦ inr (inl (end_more (node.level + node.level + 0) (places_taken m0 root) m0 last p (omega (arith, level)) (end_before (node.level + node.level) 0 m0 m1 last last1 p kept (end_of_last m1 last1 p end))))
-      | inr (inr unordered) ↦ inr (inr (inr (λ ordered. unordered (grows.free_in_order (read.tells ∙ tells) (read.free_in_order ordered)))))
+      | inl split ↦ elim split.1 [
+        | inl high ↦
+            let is : root_level m0 root ≡ 16 = omega (arith, level, high.1, spells.rules.high_level) in
+            inl (inr (inr (inr (high.0, (is, made.below + new_pages made.changed v, root_cut m0 m1 root node key v value last last1 replaced level on made split.0)))))
+        | inr end ↦ inl (inr (inr (inl (ends_at_top m0 m1 root node key v value last last1 p replaced level on made split.0 end))))
+      ]
+      | inr unordered ↦ inr (λ ordered. unordered (grows.free_in_order (read.tells ∙ tells) (read.free_in_order ordered)))
     ])
+
+pub returns-clause-few : goal.returns-clause-few
+returns-clause-few g c = λ most tells low. (
+    let m0 : PageMap = g.S.Pages.map c.args.stage.now in
+    let spells = c.in_ok-node.ensures.spells in
+    let some : c.args.root ≢ 0 = λ none. omega (arith, none, c.if-root-lt3.false) in
+    let level : root_level m0 c.args.root ≡ c.in_ok-node.node.level = level_of_root m0 c.args.root c.in_ok-node.node some spells.typed spells.rules (c.in_ok-node.ensures.found tells) in
+    let read = c.read_page.ensures.reads.read in
+    let first = c.add_on.ensures.grows in
+    let second = c.top_of.ensures.grows in
+    search rules)

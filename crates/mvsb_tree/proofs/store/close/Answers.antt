@@ -1,4 +1,4 @@
-use Rattle.std.proofs.Common.{◌<◌, ◌^◌, ℕ, inl, inr, sym, Bool, Err, rules, arith, subst, ap, ◌∙◌, List}
+use Rattle.std.proofs.Common.{◌+◌, ◌<◌, ◌^◌, ℕ, inl, inr, sym, Bool, Err, rules, arith, subst, ap, ◌∙◌, List}
 use Rattle.page_ports.specs.Pages.{PageMap}
 use Rattle.page_layout.specs.declared.mv_node.MvEntry.{MvEntry}
 use Rattle.mvsb_tree.specs.Stored.{IsFirstStored, all_start_at}
@@ -6,8 +6,8 @@ use Rattle.std.proofs.lemmas.Result.{err_from_is_err_and}
 use Rattle.page_ports.specs.declared.page.StageFault.TheVariants.{Damaged}
 use Rattle.page_layout.specs.declared.mv_node.MvNode.{MvNode}
 use Rattle.mv_pages.specs.Copies.{AreTwoCopies}
-use Rattle.mvsb_tree.specs.AddDamage.{IsPlacedAs}
-use Rattle.mvsb_tree.proofs.Ending.{end_before, end_more, end_of_last, first_keeps}
+use Rattle.mvsb_tree.specs.AddDamage.{IsEndDamaged, IsPlacedAs}
+use Rattle.mvsb_tree.proofs.Ending.{end_before, end_of_last, first_keeps, first_pages, one_needed, two_needed}
 use Rattle.mvsb_tree.proofs.Exits.{exit_error}
 use Rattle.mvsb_tree.proofs.Lasting.{first_stands, some_by_name}
 use Rattle.mvsb_tree.proofs.store.close.Goals as goal
@@ -60,7 +60,7 @@ returns-in_err-first-in-One-clause-damaged g c = λ p e tells placed. (
     let told = err_from_is_err_and c.from_residual.result c.from_residual.ensures.1 in
     let same = exit_error c.from_residual.result c.in_err-first-in-One.field-0.0 (Damaged p) told e in
     elim (c.in_err-first-in-One.ensures.damaged p (ap Err same) tells) [
-      | inl last ↦ inl (end_more 0 1 (g.S.Pages.map c.args.stage.now) c.args.last.now p (omega arith) (end_of_last (g.S.Pages.map c.args.stage.now) c.args.last.now p last))
+      | inl last ↦ inl (end_of_last _ (g.S.Pages.map c.args.stage.now) c.args.last.now p (omega (arith, one_needed c.args.node.now c.args.version c.requires.full c.in-One.ensures.copied.few)) last)
       | inr unordered ↦ inr unordered
     ])
 
@@ -69,7 +69,7 @@ returns-in_err-first-in-Two-clause-damaged g c = λ p e tells placed. (
     let told = err_from_is_err_and c.from_residual-in_err-first-in-Two.result c.from_residual-in_err-first-in-Two.ensures.1 in
     let same = exit_error c.from_residual-in_err-first-in-Two.result c.in_err-first-in-Two.field-0.0 (Damaged p) told e in
     elim (c.in_err-first-in-Two.ensures.damaged p (ap Err same) tells) [
-      | inl last ↦ inl (end_more 0 1 (g.S.Pages.map c.args.stage.now) c.args.last.now p (omega arith) (end_of_last (g.S.Pages.map c.args.stage.now) c.args.last.now p last))
+      | inl last ↦ inl (end_of_last _ (g.S.Pages.map c.args.stage.now) c.args.last.now p (omega (arith, two_needed c.args.node.now c.args.version c.requires.full c.in-Two.ensures.copied.many)) last)
       | inr unordered ↦ inr unordered
     ])
 
@@ -82,7 +82,10 @@ returns-in_err-second-in-Two-clause-damaged g c = λ p e tells placed. (
     let first_placed = placed_first m0 c.args.page c.args.version c.args.node.now c.in-Two.first c.in-Two.second c.in-Two.cut c.in-Two.ensures.copied placed in
     let kept = first_keeps c.all_start_at-starts.result m0 mb c.args.page c.args.last.now c.store_first.new.last c.in-Two.first c.in_ok-first-in-Two.first first_placed (c.in-Two.ensures.typed c.requires.rules.typed).0 (c.in_ok-first-in-Two.ensures.stored tells) in
     let grows = c.in_ok-first-in-Two.ensures.grows.went_on in
+    let starts = c.all_start_at-starts.ensures ∙ ap (λ (es : List MvEntry). all_start_at c.args.version es) c.as_slice.ensures.value in
+    let needed = two_needed c.args.node.now c.args.version c.requires.full c.in-Two.ensures.copied.many in
     elim (c.in_err-second-in-Two.ensures.damaged p (ap Err same) (grows.tells ∙ tells)) [
-      | inl last ↦ inl (end_before 1 0 m0 mb c.args.last.now c.store_first.new.last p kept (end_of_last mb c.store_first.new.last p last))
+      | inl last ↦ inl (subst (λ (n : ℕ). IsEndDamaged n m0 c.args.last.now p) (sym (needed ∙ ap (λ (b : Bool). first_pages b + 1) (sym starts)))
+          (end_before (first_pages c.all_start_at-starts.result) 1 m0 mb c.args.last.now c.store_first.new.last p kept (end_of_last 1 mb c.store_first.new.last p (omega arith) last)))
       | inr unordered ↦ inr (λ ordered. unordered (grows.free_in_order tells ordered))
     ])

@@ -10,7 +10,7 @@ use Rattle.sb_tree.specs.Steps.{child_at}
 use Rattle.sb_tree.specs.Stored.{IsSecondOf}
 use Rattle.sb_tree.proofs.Exits.{exit_error}
 use Rattle.sb_tree.proofs.Values.{damaged_further, leads_at_cut, some_at_cut}
-use Rattle.sb_tree.proofs.Nodes.{entries_on-spelled}
+use Rattle.sb_tree.proofs.Nodes.{entries_on-spelled, page_spells}
 use Rattle.sb_tree.proofs.Outside.{index_others, stored_others}
 use Rattle.sb_tree.proofs.Adding.{leaf_fits, leaf_storable, second_fits, leaf_full, leaf_result, inner_bounds, index_fits, index_storable, index_full, index_result}
 use Rattle.sb_tree.proofs.add.+add_below.Goals as goal
@@ -38,7 +38,8 @@ pub returns-then-level-eq1-clause-full : goal.returns-then-level-eq1-clause-full
 returns-then-level-eq1-clause-full g t c =
     IfOk-weaker c.store.result (λ second. IsSecondOf c.take_in.new.entries.items second) _
     (λ second is_second tells. leaf_full c.args.level (g.S.Pages.map c.args.stage.now) c.args.page c.args.place.sought c.args.value c.in_ok-node.node.entries.items c.take_in.new.entries.items second
-    c.if-level-eq1.true (entries_on-spelled (g.S.Pages.map c.args.stage.now) c.args.page c.in_ok-node.node c.in_ok-node.ensures.node.fits.typed c.in_ok-node.ensures.node.fits.rules (c.in_ok-node.ensures.found tells))
+    c.if-level-eq1.true (page_spells (g.S.Pages.map c.args.stage.now) c.args.page c.in_ok-node.node c.in_ok-node.ensures.node.fits.typed c.in_ok-node.ensures.node.fits.rules (c.in_ok-node.ensures.found tells))
+    (entries_on-spelled (g.S.Pages.map c.args.stage.now) c.args.page c.in_ok-node.node c.in_ok-node.ensures.node.fits.typed c.in_ok-node.ensures.node.fits.rules (c.in_ok-node.ensures.found tells))
     c.in_ok-node.ensures.node.fits.rules.few c.take_in.ensures is_second) c.store.ensures.second
 
 pub inner_place-inner-requires : goal.inner_place-inner-requires
@@ -112,6 +113,7 @@ returns-clause-full g t c =
     IfOk-weaker c.store-2.result (λ second. IsSecondOf c.add_beside.new.entries.items second) _
     (λ second is_second tells. index_full c.args.level (g.S.Pages.map c.args.stage.now) c.args.page c.args.place.sought c.args.value c.begun_count-begun.result c.child_before-child.result c.inner_place-inner.result.sought
     c.in_ok-node.node.entries.items c.add_beside.new.entries.items c.in_ok-second.second second c.requires.level c.if-level-eq1.false
+    (page_spells (g.S.Pages.map c.args.stage.now) c.args.page c.in_ok-node.node c.in_ok-node.ensures.node.fits.typed c.in_ok-node.ensures.node.fits.rules (c.in_ok-node.ensures.found tells))
     (entries_on-spelled (g.S.Pages.map c.args.stage.now) c.args.page c.in_ok-node.node c.in_ok-node.ensures.node.fits.typed c.in_ok-node.ensures.node.fits.rules (c.in_ok-node.ensures.found tells))
     c.in_ok-node.ensures.node.fits.rules.few c.add_beside.ensures is_second
     (c.child_before-child.ensures _ c.begun_count-begun.ensures ∙ ap (λ (es : List SbEntry). child_at es c.args.place.sought) c.as_slice-entries.ensures.value) c.inner_place-inner.ensures.sought
