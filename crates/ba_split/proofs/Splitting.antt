@@ -26,7 +26,7 @@ use Rattle.ba_trees.specs.Stands.{OutsideStands, outside_pages}
 use Rattle.ba_build.proofs.Outsides.{one_more_number}
 use Rattle.ba_build.proofs.Paging.{Laws}
 use Rattle.ba_split.specs.Open.{AreBalanced, NodeStands, entry_pages}
-use Rattle.ba_split.specs.Splits.{AreBothBalanced, AreSplit, IsRedone}
+use Rattle.ba_split.specs.Splits.{AreBothBalanced, AreRedone, AreSplit, IsRedone}
 use Rattle.ba_split.specs.declared.split.Split.{Split}
 use Rattle.ba_split.proofs.Entries.{points_inside}
 use Rattle.ba_split.proofs.SoFar.{SplitSoFar, all_balanced, all_change, all_kept, all_once, each_stands, kept_high, kept_low, kept_of, low_there, outside_once, outside_stood, so_far_first, so_far_next}
@@ -51,6 +51,7 @@ pub record SplitLoop {P : Type 0} (g : Ghosts P) (dims level page d k index : �
   pub off : IsCutOff node low first d k
   pub went : WentOn g (g.allotted now + 1) old now
   pub number : IsTrue (g.tells old) → (most : ℕ) → length points ≤ most → WentOn g (index * (length points * pages_a_point (dims - 1) most)) old now
+  pub redone : IsTrue (g.tells old) → AreRedone dims own (above_cut region d k) index (put_page (g.map old) page (cut_page_page low)) (g.map now) first high
   pub so_far : MayBeSplit dims level (g.tells old) (g.map old) page region points node
       → SplitSoFar dims (level - 1) (g.map old) (g.map now) page low (λ i. region_at (cuts_in node.cuts.items) region i) own points
       (length low.entries.items) index node.entries.items (low.entries.items ++ high.entries.items)
@@ -94,6 +95,7 @@ loop_first g dims level page d k region points own node low high old now laws ty
   off = off;
   went = went_more g 0 (g.allotted now + 1) old now went (omega arith);
   number = λ tells most le. went_more g 0 (0 * (length points * pages_a_point (dims - 1) most)) old now went (omega arith);
+  redone = λ tells. (put tells, refl);
   so_far = λ may.
       let part : ℕ → Region = λ i. region_at (cuts_in node.cuts.items) region i in
       subst (λ (es : List BaEntry). SplitSoFar dims (level - 1) (g.map old) (g.map now) page low part own points (length low.entries.items) 0 node.entries.items es) off.entries
@@ -129,6 +131,9 @@ high_outside g dims level page d k index region points own node first high old n
     )
 
 -- One entry more is made anew.
+one_later : (index : ℕ) → suc index ≡ index + 1
+one_later index = omega arith
+
 pub loop_next : {P : Type 0} (g : Ghosts P) (dims level page d k index : ℕ) (region above : Region) (points own : List Point) (node first high next : CutPage) (old now new : P)
     → Laws dims → above ≡ above_cut region d k → SplitLoop g dims level page d k index region points own node first high old now → index < length high.entries.items
     → next.level ≡ high.level → next.cuts ≡ high.cuts → length next.entries.items ≡ length high.entries.items → IsCutPageUpTo 17 next → IsTyped next
@@ -150,6 +155,11 @@ loop_next g dims level page d k index region above points own node first high ne
       let second_part = few (subst IsTrue (sym inv.went.tells) tells) most le in
       let more : (index + 1) * x ≡ index * x + x = grind arith in
       went_then g (index * x) x ((index + 1) * x) old now new first_part second_part (let a = first_part.at_most in let b = second_part.at_most in omega (arith, a, b, more));
+  redone = λ tells.
+      let one : IsRedone dims own (above_cut region d k) index (g.map now) (g.map new) high next =
+      subst (λ (r : Region). IsRedone dims own r index (g.map now) (g.map new) high next) above_is (redone (subst IsTrue (sym inv.went.tells) tells)) in
+      subst (λ (i : ℕ). AreRedone dims own (above_cut region d k) i (put_page (g.map old) page (cut_page_page inv.low)) (g.map new) first next) (one_later index)
+          (g.map now, high, inv.redone tells, one);
   so_far = λ may.
       let tells : IsTrue (g.tells now) = subst IsTrue (sym inv.went.tells) may.tells in
       so_far_next dims (level - 1) laws (g.map old) (g.map now) (g.map new) page inv.low (λ i. region_at (cuts_in node.cuts.items) region i) own points index node.entries.items inv.low.entries.items high next

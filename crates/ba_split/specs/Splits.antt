@@ -1,18 +1,23 @@
 -- Pages that are split, and entries whose outside is made anew.
-use Rattle.std.specs.Prelude.{◌≡◌, ℕ, ◌+◌, ◌-◌, ◌<◌, ◌≤◌, List, [], ◌++◌, Contains, slice_index_or, slice_set, IsPermutation}
+use Rattle.std.specs.Prelude.{◌≡◌, ℕ, zero, suc, ◌+◌, ◌-◌, ◌<◌, ◌≤◌, List, [], ◌++◌, length, Contains, slice_index_or, slice_set, IsPermutation}
+use Rattle.bw_types.specs.Classes.{points_of_class}
 use Rattle.bw_types.specs.declared.ba_entry.Outside.{Outside}
+use Rattle.bw_types.specs.declared.class.Class.TheVariants.{Inside}
 use Rattle.bw_types.specs.declared.point.Point.{Point}
 use Rattle.bw_types.specs.declared.region.Region.{Region}
 use Rattle.page_ports.specs.Frame.{AreInMap, Replaces}
-use Rattle.page_ports.specs.Pages.{PageMap}
-use Rattle.page_layout.specs.Cuts.{cuts_in}
+use Rattle.page_ports.specs.Pages.{PageMap, put_page}
+use Rattle.page_layout.specs.CutPage.{cut_page_page}
+use Rattle.page_layout.specs.Cuts.{Cut, cuts_in}
 use Rattle.page_layout.specs.Footprint.{NamesNoneTwice}
 use Rattle.page_layout.specs.Regions.{IsInside, above_cut, below_cut, region_at}
 use Rattle.page_layout.specs.declared.cut_page.CutPage.{CutPage}
 use Rattle.kdb_pages.specs.Medians.{key_of}
+use Rattle.mvsb_tree.specs.Gone.{WasDamaged}
 use Rattle.ba_trees.specs.Kinds.{trees_over, version_trees}
 use Rattle.ba_trees.specs.Pages.{no_entry}
 use Rattle.ba_trees.specs.Stands.{BalancedBelow, StandsBelow, outside_pages, pages_below, points_below}
+use Rattle.ba_build.specs.Dropped.{IsDamagedForDrop, IsDamagedOutside}
 use Rattle.ba_build.specs.Parts.{OutsideIsBuilt}
 use Rattle.ba_split.specs.declared.split.Split.{Split}
 
@@ -57,3 +62,27 @@ pub record IsRedone (dims : ℕ) (points : List Point) (region : Region) (index 
   pub there : AreInMap before (outside_pages dims version_trees (trees_over (dims - 1)) before (slice_index_or old.entries.items index no_entry).outside)
   pub gone : Replaces (outside_pages dims version_trees (trees_over (dims - 1)) before (slice_index_or old.entries.items index no_entry).outside) [] before freed
   pub built : OutsideIsBuilt dims points (region_at (cuts_in old.cuts.items) region index) freed after outside
+
+-- So it is with the entries before the index, one after the other.
+abbrev pub AreRedone : ℕ → List Point → Region → ℕ → PageMap → PageMap → CutPage → CutPage → Type 0
+AreRedone dims points region zero before after old new = (after ≡ before) × (new ≡ old)
+AreRedone dims points region (suc index) before after old new =
+    (between : PageMap) × (node : CutPage) × AreRedone dims points region index before between old node × IsRedone dims points region index between after node new
+
+-- What splitting a page of cuts may call damaged: the low side is on the page, and some entries of the high side were made anew, of its
+-- own points; what the next one keeps outside its part is damaged for freeing.
+pub record IsDamagedForSplit (dims : ℕ) (pages : PageMap) (page : ℕ) (region : Region) (points : List Point) (node : CutPage) (damaged : ℕ) : Type 0 where
+  pub dimension : ℕ
+  pub key : ℕ
+  pub low : CutPage
+  pub high : CutPage
+  pub cut : cuts_in node.cuts.items ≡ Cut dimension key (cuts_in low.cuts.items) (cuts_in high.cuts.items)
+  pub entries : node.entries.items ≡ low.entries.items ++ high.entries.items
+  pub index : ℕ
+  pub inside : index < length high.entries.items
+  pub later : PageMap
+  pub now : CutPage
+  pub redone : AreRedone dims (points_of_class dims (above_cut region dimension key) Inside points) (above_cut region dimension key) index
+      (put_page pages page (cut_page_page low)) later high now
+  pub found : WasDamaged (λ m. outside_pages dims version_trees (trees_over (dims - 1)) m (slice_index_or now.entries.items index no_entry).outside)
+      (λ m. IsDamagedOutside (IsDamagedForDrop (dims - 1)) m (slice_index_or now.entries.items index no_entry).outside) later damaged

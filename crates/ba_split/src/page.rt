@@ -1,5 +1,5 @@
 //! A page split by its first cut.
-ghost use Rattle.std.specs.Prelude.{◌≡◌, ◌+◌, ◌-◌, ◌*◌, ◌≤◌, ℕ, ◌∷◌, IsTrue, IsSome, IfOk, length};
+ghost use Rattle.std.specs.Prelude.{◌≡◌, ◌⊎◌, ◌+◌, ◌-◌, ◌*◌, ◌≤◌, ℕ, ◌∷◌, Err, IsTrue, IsSome, IfOk, length};
 ghost use Rattle.std.specs.List.{flat_map};
 ghost use Rattle.bw_types.specs.Heights.{pages_a_point};
 ghost use Rattle.bw_types.specs.Regions.{LiesIn, root_region};
@@ -10,7 +10,7 @@ ghost use Rattle.page_layout.specs.Footprint.{NamesNoneTwice};
 ghost use Rattle.ba_build.specs.Built.{MayBeBuilt};
 ghost use Rattle.ba_split.specs.Calls.{GoesOn};
 ghost use Rattle.ba_split.specs.Open.{AreBalanced, NodeStands, entry_pages};
-ghost use Rattle.ba_split.specs.Splits.{AreBothBalanced, AreSplit};
+ghost use Rattle.ba_split.specs.Splits.{AreBothBalanced, AreSplit, IsDamagedForSplit};
 
 use crate::inside::inside_region;
 use crate::redo::redo_entry;
@@ -29,7 +29,8 @@ use std::alloc::Global;
 ///
 /// The points are all those of the page, such as a tree may be built of. After a refusal the stage is to be abandoned. `Disk`
 /// comes only where the count of faults rose, `PageLimit` only where as many pages are given out as the limit allows, and
-/// `Damaged` never where the page stands and the free pages are in order.
+/// `Damaged` carries what freeing the outside of an entry of the high page calls damaged, or a page of the stage where its free
+/// pages are not in order; never where the page stands and they are.
 pub fn split_page<S: Stage>(
     alloc: Global,
     stage: &mut S,
@@ -50,6 +51,8 @@ pub fn split_page<S: Stage>(
     ensures high { IfOk result (λ split. 3 ≤ split.high) }
     ensures low { IfOk result (λ split. split.low ≡ page) }
     ensures dimension { IfOk result (λ split. split.dimension ≤ 2) }
+    ensures damaged { (p : ℕ) → result ≡ Err (StageFault.Damaged p) → IsTrue (S.tells stage.old)
+        → IsDamagedForSplit dims (S.map stage.old) page region.now points.now node.now p ⊎ (¬ S.free_in_order stage.old) }
     ensures goes_on { IsTrue (S.tells stage.old) → LiesIn 3 region.now (root_region dims)
         → NodeStands dims (level - 1) (S.map stage.old) region.now points.now node.now
         → NamesNoneTwice (page ∷ flat_map (entry_pages dims (level - 1) (S.map stage.old)) node.now.entries.items)

@@ -1,9 +1,10 @@
 //! A point added to a tree.
-ghost use Rattle.std.specs.Prelude.{◌≡◌, ◌≢◌, ◌+◌, ◌-◌, ◌*◌, ◌^◌, ◌<◌, ◌≤◌, ℕ, List, ◌∷◌, length, IsTrue, IfOk, OnOk, OnErr};
+ghost use Rattle.std.specs.Prelude.{◌≡◌, ◌≢◌, ◌⊎◌, ◌+◌, ◌-◌, ◌*◌, ◌^◌, ◌<◌, ◌≤◌, ℕ, List, ◌∷◌, length, Err, IsTrue, IsSome, IfOk, OnOk, OnErr};
 ghost use Rattle.bw_types.specs.declared.point.Point.{Point};
 ghost use Rattle.page_ports.specs.Calls.{Changes};
 ghost use Rattle.page_layout.specs.TreeValue.{IsTreeTyped, tree_fits};
 ghost use Rattle.dom_index.specs.Points.{AreKeysBelow, HasRoom, IsNewPoint};
+ghost use Rattle.mvsb_tree.specs.Index as over_keys;
 ghost use Rattle.ba_trees.specs.Kinds.{trees_over};
 ghost use Rattle.ba_split.specs.Calls.{GoesOn};
 ghost use Rattle.ba_tree.specs.Growth.{level_growth, tree_growth};
@@ -41,6 +42,14 @@ pub(crate) fn add_point<S: Stage>(
     ensures rules { OnOk result (IsTrue (tree_fits tree.old) → IsTrue (tree_fits tree.new)) }
     ensures typed { IsTreeTyped tree.new }
     ensures unchanged { OnErr result (tree.new ≡ tree.old) }
+    // Over one dimension that is what an addition to a multiversion tree changes, and calls damaged.
+    ensures keys_apart { OnOk result (IsTrue (S.tells stage.old) → dims ≡ 1 → (page : ℕ) → IsSome (S.map stage.old page)
+        → ¬ over_keys.MayChange (S.map stage.old) tree.old page → S.map stage.new page ≡ S.map stage.old page) }
+    ensures keys_damaged { (page : ℕ) → result ≡ Err (StageFault.Damaged page) → IsTrue (S.tells stage.old) → dims ≡ 1
+        → over_keys.IsDamagedForPoint (S.map stage.old) tree.old point.now page ⊎ (¬ S.free_in_order stage.old) }
+    // Over more, a tree without points is damaged only where it counts too many.
+    ensures damaged { (page : ℕ) → result ≡ Err (StageFault.Damaged page) → IsTrue (S.tells stage.old) → 2 ≤ dims
+        → ((page ≡ tree.old.root) × (2 ^ 31 ≤ tree.old.count)) ⊎ (tree.old.levels ≢ 0) ⊎ (¬ S.free_in_order stage.old) }
     ensures changes { Changes S.Pages (S.allotted stage.new + 1) stage.old stage.new result }
 {
     tree_kind_laws();

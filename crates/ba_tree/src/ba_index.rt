@@ -5,7 +5,7 @@ ghost use Rattle.ba_trees.specs.Kinds.{trees_over};
 ghost use Rattle.ba_query.specs.Damage.{IsDamagedForSum};
 ghost use Rattle.ba_query.specs.Sought.{Sought};
 ghost use Rattle.ba_tree.specs.Growth.{tree_growth};
-ghost use Rattle.ba_tree.specs.Index.{AnyPage, StandsOver};
+ghost use Rattle.ba_tree.specs.Index.{IsDamagedForAdd, MayChange, StandsOver};
 
 use crate::adding::add_point;
 use ba_query::dom_sum;
@@ -21,7 +21,8 @@ use std::alloc::Global;
 /// A sum over `n` points gets at most `query_pages` of them. An addition gives out at most 24 page numbers over one dimension; over two
 /// and three one where the tree is empty, none where it is one leaf with room, and else at most `added_pages`.
 ///
-/// An addition to a tree that does not stand answers, or is refused: which pages it changes, and which it calls damaged, is not said.
+/// An addition to a tree that does not stand answers, or is refused. Which pages it changes, and which it calls damaged, is said over
+/// one dimension alone; over two and three no page is called damaged of a tree without points, unless the free pages are not in order.
 #[derive(Drop)]
 pub struct BaIndex;
 
@@ -40,11 +41,11 @@ impl DomIndex for BaIndex {
 
     ghost growth = { tree_growth };
 
-    ghost may_change = { λ _ _ _ _. AnyPage };
+    ghost may_change = { MayChange };
 
     ghost damaged_for_sum = { λ pages dims tree keys version page. IsDamagedForSum dims pages tree (record { keys = keys; version = version }) page };
 
-    ghost damaged_for_add = { λ _ _ _ _ _. AnyPage };
+    ghost damaged_for_add = { IsDamagedForAdd };
 
     fn sum<P: Pages>(
         pages: &mut P,

@@ -1,5 +1,5 @@
 //! Roots: the first leaf, and a root over the two pages of one that was split.
-ghost use Rattle.std.specs.Prelude.{◌≡◌, ◌+◌, ◌-◌, ◌*◌, ◌^◌, ◌<◌, ◌≤◌, ℕ, List, [], ◌∷◌, ◌++◌, length, None, IsTrue, IfOk};
+ghost use Rattle.std.specs.Prelude.{◌≡◌, ◌+◌, ◌-◌, ◌*◌, ◌^◌, ◌<◌, ◌≤◌, ℕ, List, [], ◌∷◌, ◌++◌, length, None, Err, IsTrue, IfOk};
 ghost use Rattle.bw_types.specs.Regions.{root_region};
 ghost use Rattle.bw_types.specs.declared.point.Point.{Point};
 ghost use Rattle.page_ports.specs.Calls.{Changes};
@@ -40,6 +40,7 @@ pub(crate) fn first_tree<S: Stage>(
     ensures goes_on { IsTrue (S.tells stage.old) → (points : List Point) → (trees_over dims).stands (S.map stage.old) tree.now points
         → GoesOn S.Pages 1 (Unit {0}) stage.old stage.new result (TreeTook dims points point.now (S.map stage.old) (S.map stage.new) tree.now) }
     ensures levels { IfOk result (λ new. new.levels ≡ 1) }
+    ensures damaged { (page : ℕ) → result ≡ Err (StageFault.Damaged page) → IsTrue (S.tells stage.old) → ¬ S.free_in_order stage.old }
     ensures rules { IfOk result (λ new. IsTrue (tree_fits tree.now) → IsTrue (tree_fits new)) }
     ensures changes { Changes S.Pages 1 stage.old stage.new result }
 {

@@ -1,4 +1,4 @@
-use Rattle.std.proofs.Common.{ℕ, ◌+◌, ◌-◌, ◌*◌, List, Err, length, sym, ap, ◌∙◌, subst, arith}
+use Rattle.std.proofs.Common.{◌≡◌, ℕ, ◌+◌, ◌-◌, ◌*◌, inl, inr, IsTrue, List, Err, length, sym, ap, ◌∙◌, subst, arith}
 use Rattle.std.proofs.Math.Nat.{mul-le-mul_right}
 use Rattle.std.proofs.lemmas.Result.{err_from_is_err_and}
 use Rattle.bw_types.specs.Classes.{points_of_class}
@@ -10,7 +10,12 @@ use Rattle.ba_build.specs.Built.{MayBeBuilt}
 use Rattle.ba_trees.specs.PageLaws.{OutsideBalanceByItsPages, OutsideInAnyOrder, OutsidePagesAreThere, OutsideStandsByItsPages, PageBalanceByItsPages, PageStandsByItsPages, PagesBelowAreThere}
 use Rattle.ba_build.proofs.Children.{told}
 use Rattle.ba_build.proofs.Paging.{Laws}
-use Rattle.ba_split.specs.Splits.{IsRedone}
+use Rattle.page_ports.specs.Pages.{put_page}
+use Rattle.page_ports.specs.declared.page.StageFault.TheVariants.{Damaged}
+use Rattle.page_layout.specs.CutPage.{cut_page_page}
+use Rattle.page_layout.specs.Regions.{above_cut}
+use Rattle.ba_split.specs.Splits.{AreRedone, IsRedone}
+use Rattle.sb_tree.proofs.Exits.{exit_error}
 use Rattle.ba_split.proofs.Own.{fewer_inside, inside_may_be_built}
 use Rattle.ba_split.proofs.Splitting.{MayBeSplit, cut_off, high_outside, high_rules, last_number, loop_done, loop_first, loop_next, next_number}
 use Rattle.ba_split.proofs.Stages.{changes_end, changes_freely, changes_then, done_goes_on, grows_changes, refused, refused_goes_on, went_more, went_then}
@@ -82,6 +87,44 @@ returns-in_err-redo_entry-clause-goes_on g c = λ tells within stands once most 
     (λ _. changes_then g.S.Pages (i * x) (length own * each) (1 + 16 * x) c.args.stage.now c.loop-index.stage c.redo_entry.new.stage _ (inv.number tells most le)
     (c.in_err-redo_entry.ensures.few there most (omega (arith, fewer, le))) (omega (arith, less, most_pages)))
     (λ _ order damaged e. c.in_err-redo_entry.ensures.sound stood.0 stood.1 damaged there stood.2 stood.3 (inv.went.free_in_order tells order) (ap Err e))
+
+pub returns-in_err-redo_entry-clause-damaged : goal.returns-in_err-redo_entry-clause-damaged
+returns-in_err-redo_entry-clause-damaged g c = λ p e tells. (
+    let inv = c.loop-index.invariant in
+    let same = inv.as_many in
+    let number = c.len-index-end.ensures.value in
+    let lt = c.loop-index-test.true in
+    let told = err_from_is_err_and c.from_residual-in_err-redo_entry.result c.from_residual-in_err-redo_entry.ensures.1 in
+    let is = exit_error c.from_residual-in_err-redo_entry.result c.in_err-redo_entry.field-0.0 (Damaged p) told e in
+    let d : ℕ = c.split_first_cut-dimension.result.0 in
+    let k : ℕ = c.split_first_cut-dimension.result.1 in
+    let own_is : c.in_ok-own.own.items ≡ points_of_class c.args.dims (above_cut c.args.region.now d k) Inside c.args.points.now =
+    c.in_ok-own.ensures.points ∙ ap (λ (r : Region). points_of_class c.args.dims r Inside c.args.points.now) c.above_cut-above.ensures in
+    elim (c.in_err-redo_entry.ensures.damaged p (ap Err is) (subst IsTrue (sym inv.went.tells) tells)) [
+      | inl found ↦ inl (record {
+          dimension = d;
+          key = k;
+          low = inv.low;
+          high = c.split_first_cut-dimension.result.3;
+          cut = inv.off.cut;
+          entries = inv.off.entries;
+          index = c.loop-index.index;
+          inside = omega (arith, lt, same, number);
+          later = g.S.Pages.map c.loop-index.stage;
+          now = c.loop-index.high;
+          redone = subst (λ (ps : List Point). AreRedone c.args.dims ps (above_cut c.args.region.now d k) c.loop-index.index
+              (put_page (g.S.Pages.map c.args.stage.now) c.args.page (cut_page_page inv.low)) (g.S.Pages.map c.loop-index.stage) c.split_first_cut-dimension.result.3 c.loop-index.high) own_is (inv.redone tells);
+          found = found;
+        })
+      | inr unordered ↦ inr (λ ordered. unordered (inv.went.free_in_order tells ordered))
+    ])
+
+pub returns-in_err-new-clause-damaged : goal.returns-in_err-new-clause-damaged
+returns-in_err-new-clause-damaged g c = λ p e tells.
+    let inv = c.loop-index.invariant in
+    let told = err_from_is_err_and c.from_residual-in_err-new.result c.from_residual-in_err-new.ensures.1 in
+    let is = exit_error c.from_residual-in_err-new.result c.in_err-new.field-0.0 (Damaged p) told e in
+    inr (λ ordered. c.in_err-new.ensures.damaged p (ap Err is) (subst IsTrue (sym inv.went.tells) tells) (inv.went.free_in_order tells ordered))
 
 pub returns-in_err-redo_entry-clause-changes : goal.returns-in_err-redo_entry-clause-changes
 returns-in_err-redo_entry-clause-changes g c =
