@@ -1,15 +1,15 @@
 -- What an addition finds damaged below a node.
-use Rattle.std.proofs.Common.{◌≡◌, ◌≢◌, ℕ, ◌-◌, ◌<◌, ◌≤◌, ◌^◌, inr, List, Option, Some, None, IsSome, refl, sym, ap, ◌∙◌, subst, arith}
+use Rattle.std.proofs.Common.{◌≡◌, ◌≢◌, ℕ, zero, suc, ◌-◌, ◌<◌, ◌≤◌, ◌^◌, inl, inr, List, Option, Some, None, IsSome, refl, sym, ap, ◌∙◌, subst, arith}
 use Rattle.page_ports.specs.Pages.{PageMap}
 use Rattle.page_layout.specs.Damage.{HoldsNoNode, IsDamagedBelow, NothingBeside}
 use Rattle.page_layout.specs.DamageLaws as laws
 use Rattle.page_layout.specs.MvNode.{IsMvNode, IsTyped, mv_node_page}
-use Rattle.mv_pages.specs.Alive.{IsChangeable}
+use Rattle.mv_pages.specs.Alive.{IsChangeable, child_of}
 use Rattle.mvsb_tree.specs.declared.replaced.Replaced.{Replaced}
 use Rattle.page_layout.specs.declared.mv_node.MvNode.{MvNode}
 use Rattle.mvsb_tree.specs.declared.place.Place.{Place}
-use Rattle.mvsb_tree.specs.AddDamage.{FitsForAdd, IsDamagedFromRootForAdd, IsDamagedPastForAdd, IsPlacedAs, KeepsPlaces}
-use Rattle.mvsb_tree.specs.Damage.{FitsPlace, IsInPlace, LeadsTo}
+use Rattle.mvsb_tree.specs.AddDamage.{FitsForAdd, IsDamagedFromRootForAdd, IsDamagedPastForAdd, IsPlacedAs, IsWholeFromRoot, IsWholePast, KeepsPlaces}
+use Rattle.mvsb_tree.specs.Damage.{FitsPlace, IsInPlace, LeadsTo, root_place}
 use Rattle.mvsb_tree.specs.Grown.{PastStays}
 use Rattle.mvsb_tree.specs.Steps.{node_on, root_level}
 use Rattle.mvsb_tree.specs.Tops.{IsTop, IsTopOf}
@@ -78,3 +78,53 @@ top_stays m1 m2 root level v (Some r) last1 last2 top is p some = by_second r.se
     by_second : (o : Option (ℕ × ℕ)) → IsTopOf m1 m2 level v r.first o last1 last2 top → m2 p ≡ m1 p
     by_second None is = ap (λ (m : PageMap). m p) is.1
     by_second (Some second) is = is.0.others p (not_new m1 top p is.0.fresh some)
+
+none_leads : (o : Option ℕ) (child : ℕ) → o ≡ None → o ≡ Some child → ⊥
+none_leads o child none some = cc
+
+same_child : (a b : ℕ) (o : Option ℕ) → o ≡ Some a → o ≡ Some b → a ≡ b
+same_child a b o first second = cc
+
+-- Nothing is below a node that leads nowhere.
+pub whole_leaf : (pages : PageMap) (place : Place) (node : MvNode) → child_of node place.key place.version ≡ None → IsWholePast pages place node
+whole_leaf pages place node none = λ page past. none_leads _ past.0 none past.2.child_is
+
+whole_here : (level : ℕ) (pages : PageMap) (place : Place) (node : MvNode) (page damaged : ℕ) → pages page ≡ Some (mv_node_page node) → FitsForAdd level place node (mv_node_page node)
+    → IsWholePast pages place node → IsDamagedBelow FitsForAdd LeadsTo NothingBeside pages level place page damaged → ⊥
+whole_here zero pages place node page damaged there fits whole d = d
+whole_here (suc level) pages place node page damaged there fits whole (inl here) = here.1 node (mv_node_page node) there fits
+whole_here (suc level) pages place node page damaged there fits whole (inr (inl beside)) = beside.4
+whole_here (suc level) pages place node page damaged there fits whole (inr (inr below)) =
+    let other = below.5.0.fits in
+    let is : node ≡ below.0 = same_spelled pages page node below.0 below.1 fits.0.fits.typed fits.0.fits.rules there other.typed other.rules other.spelled below.4 in
+    let leads = subst (λ (n : MvNode). LeadsTo place n below.2 below.3) (sym is) below.6 in
+    let less : level ≡ node.level - 1 = (let at = fits.0.fits.at_level in omega (arith, at)) in
+    whole damaged (below.2, below.3, leads, subst (λ (l : ℕ). IsDamagedBelow FitsForAdd LeadsTo NothingBeside pages l below.3 below.2 damaged) less below.7)
+
+-- Where the child holds a node, and nothing below that is damaged, nothing is below the node.
+pub whole_index : (pages : PageMap) (place inner : Place) (node below : MvNode) (child : ℕ) → LeadsTo place node child inner → pages child ≡ Some (mv_node_page below)
+    → FitsForAdd (node.level - 1) inner below (mv_node_page below) → IsWholePast pages inner below → IsWholePast pages place node
+whole_index pages place inner node below child leads there fits whole = λ page past.
+    let other = past.2 in
+    let child_is : past.0 ≡ child = same_child past.0 child _ other.child_is leads.child_is in
+    let inner_is : past.1 ≡ inner = (λ i. record {
+      low = (other.low ∙ sym leads.low) i;
+      high = (other.high ∙ sym leads.high) i;
+      key = (other.key ∙ sym leads.key) i;
+      version = (other.version ∙ sym leads.version) i;
+    }) in
+    let d1 = subst (λ (q : Place). IsDamagedBelow FitsForAdd LeadsTo NothingBeside pages (node.level - 1) q past.0 page) inner_is past.3 in
+    let d2 = subst (λ (x : ℕ). IsDamagedBelow FitsForAdd LeadsTo NothingBeside pages (node.level - 1) inner x page) child_is d1 in
+    whole_here (node.level - 1) pages inner below child page there fits whole d2
+
+-- A root that holds a node with nothing damaged below it is whole.
+pub whole_root : (pages : PageMap) (root key version : ℕ) (node : MvNode) → root ≢ 0 → IsTyped node → IsMvNode node → pages root ≡ Some (mv_node_page node)
+    → IsInPlace node.level (root_place key version) node → IsChangeable version node.entries.items → IsWholePast pages (root_place key version) node → IsWholeFromRoot pages root key version
+whole_root pages root key version node some typed rules there inside can whole = λ page d. elim d [
+  | inl none ↦ none.1 node (mv_node_page node) there (record { spelled = refl; rules = rules; typed = typed })
+  | inr below ↦
+      let level : root_level pages root ≡ node.level = level_of_root pages root node some typed rules there in
+      let fit : FitsPlace node.level (root_place key version) node (mv_node_page node) = record { fits = record { spelled = refl; rules = rules; typed = typed; at_level = refl }; admitted = inside } in
+      whole_here node.level pages (root_place key version) node root page there (fit, can) whole
+          (subst (λ (l : ℕ). IsDamagedBelow FitsForAdd LeadsTo NothingBeside pages l (root_place key version) root page) level below)
+]

@@ -1,5 +1,5 @@
 -- What an addition makes of a node, from what it makes of those below it.
-use Rattle.std.proofs.Common.{◌≡◌, ℕ, suc, ◌+◌, ◌<◌, inl, inr, length, Option, Some, None, IsSome, refl, sym, subst, arith}
+use Rattle.std.proofs.Common.{◌≡◌, ◌⊎◌, ℕ, suc, ◌+◌, ◌<◌, ◌≤◌, inl, inr, length, Option, Some, None, IsSome, refl, sym, subst, arith}
 use Rattle.std.specs.List.{All}
 use Rattle.page_ports.specs.Pages.{PageMap}
 use Rattle.page_layout.specs.MvNode.{IsMvEntryTyped}
@@ -7,11 +7,12 @@ use Rattle.page_layout.specs.declared.mv_node.MvNode.{MvNode}
 use Rattle.mv_pages.specs.Alive.{alive_at, child_of}
 use Rattle.mv_pages.specs.Edits.{Cut, TakesIn}
 use Rattle.mvsb_tree.specs.declared.replaced.Replaced.{Replaced}
-use Rattle.mvsb_tree.specs.AddDamage.{EndsAtTop, EndsOnWay, IsEndDamaged, IsMade, IsPlacedAs, IsRootCut, KeepsPlaces}
+use Rattle.mvsb_tree.specs.AddDamage.{EndsAtTop, EndsOnWay, IsEndDamaged, IsMade, IsPlacedAs, IsRootClosed, IsRootSplit, IsWholeFromRoot, KeepsPlaces}
 use Rattle.mvsb_tree.specs.Becoming.{AreCopies, Becomes, TakesBelow, TakesPart, new_pages}
 use Rattle.mvsb_tree.specs.Changed.{cut_of}
 use Rattle.mvsb_tree.specs.Steps.{node_on, root_level}
 use Rattle.mvsb_tree.specs.Stored.{IsClosedBy, IsLastDamaged, IsStored}
+use Rattle.mvsb_tree.specs.Tops.{IsTop}
 use Rattle.mvsb_tree.proofs.Ending.{end_before, end_of_last, keeps_then, stored_keeps}
 
 -- What is stored of a node takes its part.
@@ -85,19 +86,19 @@ pub ends_below : (l : ℕ) (m : PageMap) (child : ℕ) (node below : MvNode) (ke
     → EndsOnWay l m below key v value last p → EndsOnWay (suc l) m node key v value last p
 ends_below l m child node below key v value last p leads is ends = inr (child, leads, subst (λ (n : MvNode). EndsOnWay l m n key v value last p) (sym is) ends)
 
--- A root for which there is a second page is cut in two.
-cut_in_two : (node : MvNode) (v : ℕ) (r : Option Replaced) → TakesPart node v r → IsSome (cut_of r) → (96 < length node.entries.items) × (48 < length (alive_at node.entries.items v))
-cut_in_two node v None part some = (let none : IsSome {T = Cut} None = some in cc)
-cut_in_two node v (Some r) part some = (part.0, by_second r.second part.1 some)
+-- A root for which there is a second page is split.
+split_in_two : (node : MvNode) (v : ℕ) (r : Option Replaced) → TakesPart node v r → IsSome (cut_of r) → (96 < length node.entries.items) × (48 < length (alive_at node.entries.items v))
+split_in_two node v None part some = (let none : IsSome {T = Cut} None = some in cc)
+split_in_two node v (Some r) part some = (part.0, by_second r.second part.1 some)
   where
     by_second : (o : Option Cut) → AreCopies node v o → IsSome o → 48 < length (alive_at node.entries.items v)
     by_second None copies some = (let none : IsSome {T = Cut} None = some in cc)
     by_second (Some second) copies some = copies.2.many
 
-pub root_cut : (m0 m1 : PageMap) (root : ℕ) (node : MvNode) (key v value last last1 : ℕ) (r : Option Replaced) → root_level m0 root ≡ node.level → node_on m0 root ≡ node
-    → (made : IsMade node.level m0 m1 node key v value last last1 r) → IsSome (cut_of r) → IsRootCut m0 root key v value (made.below + new_pages made.changed v)
-root_cut m0 m1 root node key v value last last1 r level is made some =
-    let cut = cut_in_two made.changed v r made.part some in
+pub root_split : (m0 m1 : PageMap) (root : ℕ) (node : MvNode) (key v value last last1 : ℕ) (r : Option Replaced) → root_level m0 root ≡ node.level → node_on m0 root ≡ node
+    → (made : IsMade node.level m0 m1 node key v value last last1 r) → IsSome (cut_of r) → IsRootSplit m0 root key v value (made.below + new_pages made.changed v)
+root_split m0 m1 root node key v value last last1 r level is made some =
+    let cut = split_in_two made.changed v r made.part some in
     record {
       changed = made.changed;
       below = made.below;
@@ -110,10 +111,32 @@ root_cut m0 m1 root node key v value last last1 r level is made some =
 
 -- The chain ends before the page for a new root.
 pub ends_at_top : (m0 m1 : PageMap) (root : ℕ) (node : MvNode) (key v value last last1 p : ℕ) (r : Option Replaced) → root_level m0 root ≡ node.level → node_on m0 root ≡ node
-    → IsMade node.level m0 m1 node key v value last last1 r → IsSome (cut_of r) → IsLastDamaged m1 last1 p → EndsAtTop m0 root key v value last p
-ends_at_top m0 m1 root node key v value last last1 p r level is made some end =
+    → IsMade node.level m0 m1 node key v value last last1 r → IsSome (cut_of r) → node.level ≤ 15 → IsLastDamaged m1 last1 p → EndsAtTop m0 root key v value last p
+ends_at_top m0 m1 root node key v value last last1 p r level is made some low end =
     let taken : ℕ = made.below + new_pages made.changed v in (
+      omega (arith, level, low),
       taken,
-      root_cut m0 m1 root node key v value last last1 r level is made some,
+      root_split m0 m1 root node key v value last last1 r level is made some,
       end_before taken 1 m0 m1 last last1 p made.places (end_of_last 1 m1 last1 p (omega arith) end),
     )
+
+-- A root that another page takes the part of was closed.
+pub root_closed : (m0 m1 : PageMap) (root : ℕ) (node : MvNode) (key v value last last1 : ℕ) (r : Option Replaced) → root_level m0 root ≡ node.level → node_on m0 root ≡ node
+    → (made : IsMade node.level m0 m1 node key v value last last1 r) → IsSome r → IsWholeFromRoot m0 root key v → IsRootClosed m0 root key v value
+root_closed m0 m1 root node key v value last last1 r level is made some whole = record {
+  whole = whole;
+  changed = made.changed;
+  below = made.below;
+  becomes = subst (λ (l : ℕ). Becomes l m0 (node_on m0 root) key v value made.changed made.below) (sym level)
+      (subst (λ (n : MvNode). Becomes node.level m0 n key v value made.changed made.below) (sym is) made.becomes);
+  full = full r made.part some;
+}
+  where
+    full : (o : Option Replaced) → TakesPart made.changed v o → IsSome o → 96 < length made.changed.entries.items
+    full None part there = (let none : IsSome {T = Replaced} None = there in cc)
+    full (Some replaced) part there = part.0
+
+-- The root stays where nothing took its part.
+pub root_stays : (m1 m2 : PageMap) (root level v : ℕ) (r : Option Replaced) (last1 last2 top : ℕ) → IsTop m1 m2 root level v r last1 last2 top → (top ≡ root) ⊎ IsSome r
+root_stays m1 m2 root level v None last1 last2 top is = inl is.0
+root_stays m1 m2 root level v (Some r) last1 last2 top is = inr refl

@@ -26,13 +26,7 @@ some_or_none None = inr refl
 some_or_none (Some bytes) = inl refl
 
 pub end_of_last : (needed : ℕ) (m : PageMap) (last p : ℕ) → 1 ≤ needed → IsLastDamaged m last p → IsEndDamaged needed m last p
-end_of_last needed m last p some damaged = (
-  some,
-  elim damaged.1 [
-    | inl none ↦ inl (damaged.0, none)
-    | inr full ↦ inr (omega (arith, full, some), inl damaged.0)
-  ],
-)
+end_of_last needed m last p some damaged = (some, inl damaged)
 
 -- What ends the chain later ends it before, by so many places.
 pub end_before : (a b : ℕ) (m0 m1 : PageMap) (last0 last1 p : ℕ) → KeepsPlaces a m0 m1 last0 last1 → IsEndDamaged b m1 last1 p → IsEndDamaged (a + b) m0 last0 p
@@ -40,7 +34,7 @@ end_before a b m0 m1 last0 last1 p k d = (
   omega (arith, d.0),
   elim k.ends [
     | inl same ↦ before_same same.0 (same.2, same.3) (subst (λ (x : ℕ). IsEndDamaged b m1 x p) same.1 d).1
-    | inr new ↦ before_new (new.1, new.2, new.3) d.1
+    | inr new ↦ before_new new d.0 d.1
   ],
 )
   where
@@ -51,27 +45,26 @@ end_before a b m0 m1 last0 last1 p k d = (
     ]
 
     Out : ℕ → PageMap → ℕ → Type 0
-    Out needed m last = ((p ≡ last) × SpellsNone mv_pages m last) ⊎ ((4294967295 < (node_on m last).place + needed) × ((p ≡ last) ⊎ (m p ≡ None)))
+    Out needed m last =
+        ((p ≡ last) × (SpellsNone mv_pages m last ⊎ ((node_on m last).place ≡ 4294967295)))
+        ⊎ (((node_on m last).place < 4294967295) × (4294967295 < (node_on m last).place + needed) × (m p ≡ None))
 
     before_same : a ≡ 0 → ((node_on m1 last0).place ≡ (node_on m0 last0).place) × (SpellsNone mv_pages m1 last0 → SpellsNone mv_pages m0 last0) → Out b m1 last0 → Out (a + b) m0 last0
-    before_same zero_a same (inl none) = inl (none.0, same.1 none.1)
-    before_same zero_a same (inr full) = inr (
-      omega (arith, full.0, same.0),
-      elim full.1 [
-        | inl here ↦ inl here
-        | inr gone ↦ inr (missing gone)
+    before_same zero_a same (inl here) = inl (
+      here.0,
+      elim here.1 [
+        | inl none ↦ inl (same.1 none)
+        | inr full ↦ inr (sym same.0 ∙ full)
       ],
     )
+    before_same zero_a same (inr full) = inr (omega (arith, full.0, same.0), omega (arith, full.1, same.0), missing full.2)
 
-    before_new : (m0 last1 ≡ None) × (SpellsNone mv_pages m1 last1 → ⊥) × ((node_on m1 last1).place ≡ (node_on m0 last0).place + a) → Out b m1 last1 → Out (a + b) m0 last0
-    before_new new (inl none) = absurd (new.1 none.1)
-    before_new new (inr full) = inr (
-      omega (arith, full.0, new.2),
-      elim full.1 [
-        | inl here ↦ inr (subst (λ (x : ℕ). m0 x ≡ None) (sym here) new.0)
-        | inr gone ↦ inr (missing gone)
-      ],
-    )
+    before_new : (1 ≤ a) × (m0 last1 ≡ None) × (SpellsNone mv_pages m1 last1 → ⊥) × ((node_on m1 last1).place ≡ (node_on m0 last0).place + a) → 1 ≤ b → Out b m1 last1 → Out (a + b) m0 last0
+    before_new new some (inl here) = elim here.1 [
+      | inl none ↦ absurd (new.2 none)
+      | inr full ↦ inr (omega (arith, full, new.3, new.0), omega (arith, full, new.3, some), subst (λ (x : ℕ). m0 x ≡ None) (sym here.0) new.1)
+    ]
+    before_new new some (inr full) = inr (omega (arith, full.0, new.3), omega (arith, full.1, new.3), missing full.2)
 
 pub keeps_then : (a b : ℕ) (m0 m1 m2 : PageMap) (last0 last1 last2 : ℕ) → KeepsPlaces a m0 m1 last0 last1 → KeepsPlaces b m1 m2 last1 last2 → KeepsPlaces (a + b) m0 m2 last0 last2
 keeps_then a b m0 m1 m2 last0 last1 last2 f g = record {

@@ -29,10 +29,13 @@ pub damaged_point : (pages : PageMap) (order : Type 0) (tree : Tree) (key versio
     → IsDamagedForAdd pages (Unit {0}) tree key version value page ⊎ (order → ⊥)
 damaged_point pages order tree key version value page (inl many) = inl (inl many)
 damaged_point pages order tree key version value page (inr (inl d)) = inl (inr (inl d))
-damaged_point pages order tree key version value page (inr (inr (inl d))) = inl (inr (inr (inl d)))
-damaged_point pages order tree key version value page (inr (inr (inr (inl d)))) = inl (inr (inr (inr (inl d))))
-damaged_point pages order tree key version value page (inr (inr (inr (inr (inl d))))) = inl (inr (inr (inr (inr (inl d)))))
-damaged_point pages order tree key version value page (inr (inr (inr (inr (inr d))))) = inr d
+damaged_point pages order tree key version value page (inr (inr (inl d))) = elim d.1 [
+  | inl path ↦ inl (inr (inr (inl (d.0, inl path))))
+  | inr (inl many) ↦ inl (inr (inr (inl (d.0, inr (inl many)))))
+  | inr (inr (inl full)) ↦ inl (inr (inr (inl (d.0, inr (inr (inl full))))))
+  | inr (inr (inr unordered)) ↦ inr unordered
+]
+damaged_point pages order tree key version value page (inr (inr (inr unordered))) = inr unordered
 
 some_or_none : (o : Option (List ℕ)) → IsSome o ⊎ (o ≡ None)
 some_or_none None = inr refl

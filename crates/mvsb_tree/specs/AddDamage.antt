@@ -25,19 +25,23 @@ IsDamagedPastForAdd pages place node damaged =
     (child : ℕ) × (inner : Place) × LeadsTo place node child inner
     × IsDamagedBelow FitsForAdd LeadsTo NothingBeside pages (node.level - 1) inner child damaged
 
+-- No page on the way below the node is damaged.
+abbrev pub IsWholePast : PageMap → Place → MvNode → Type 0
+IsWholePast pages place node = (page : ℕ) → IsDamagedPastForAdd pages place node page → ⊥
+
 -- The page is the first on the way from this root down that holds no such node. The root tells its level.
 abbrev pub IsDamagedFromRootForAdd : PageMap → ℕ → Place → ℕ → Type 0
 IsDamagedFromRootForAdd pages root place damaged =
     ((damaged ≡ root) × SpellsNone mv_pages pages root)
     ⊎ IsDamagedBelow FitsForAdd LeadsTo NothingBeside pages (root_level pages root) place root damaged
 
--- Pages are needed, and the chain's last page spells no node; or fewer places are left than pages are needed, and the page is
--- the last one of the chain, or one that was put to its end, and was not in the map before.
+-- Pages are needed, and the chain has no place for them: its last page spells no node, or has the last place that there is; or fewer
+-- places are left than are needed, and the page was not in the map, but took the last of them.
 abbrev pub IsEndDamaged : ℕ → PageMap → ℕ → ℕ → Type 0
 IsEndDamaged needed pages last damaged =
     (1 ≤ needed)
-    × (((damaged ≡ last) × SpellsNone mv_pages pages last)
-    ⊎ ((4294967295 < (node_on pages last).place + needed) × ((damaged ≡ last) ⊎ (pages damaged ≡ None))))
+    × (((damaged ≡ last) × (SpellsNone mv_pages pages last ⊎ ((node_on pages last).place ≡ 4294967295)))
+    ⊎ (((node_on pages last).place < 4294967295) × (4294967295 < (node_on pages last).place + needed) × (pages damaged ≡ None)))
 
 -- The last page of the chain is the one it was, at its place; or it is a new one, so many places on.
 abbrev pub IsEndOf : ℕ → PageMap → PageMap → ℕ → ℕ → Type 0
@@ -85,8 +89,20 @@ EndsOnWay (suc level) pages node key version value last damaged =
     EndsAt (suc level) pages node key version value last damaged
     ⊎ ((child : ℕ) × (child_of node key version ≡ Some child) × EndsOnWay level pages (node_on pages child) key version value last damaged)
 
--- The root becomes a node whose part two pages take, with so many new pages in all.
-pub record IsRootCut (pages : PageMap) (root key version value taken : ℕ) : Type 0 where
+-- No page on the way from this root down is damaged.
+abbrev pub IsWholeFromRoot : PageMap → ℕ → ℕ → ℕ → Type 0
+IsWholeFromRoot pages root key version = (page : ℕ) → IsDamagedFromRootForAdd pages root (root_place key version) page → ⊥
+
+-- The root becomes a node with more entries than a page has room for, so that other pages take its part.
+pub record IsRootClosed (pages : PageMap) (root key version value : ℕ) : Type 0 where
+  pub whole : IsWholeFromRoot pages root key version
+  pub changed : MvNode
+  pub below : ℕ
+  pub becomes : Becomes (root_level pages root) pages (node_on pages root) key version value changed below
+  pub full : 96 < length changed.entries.items
+
+-- Two pages take its part, with so many new pages in all.
+pub record IsRootSplit (pages : PageMap) (root key version value taken : ℕ) : Type 0 where
   pub changed : MvNode
   pub below : ℕ
   pub becomes : Becomes (root_level pages root) pages (node_on pages root) key version value changed below
@@ -95,40 +111,53 @@ pub record IsRootCut (pages : PageMap) (root key version value taken : ℕ) : Ty
   pub all : taken ≡ below + new_pages changed version
 
 -- A root of level 16 would have to be split.
-abbrev pub IsFullAtTop : PageMap → ℕ → ℕ → ℕ → ℕ → Type 0
-IsFullAtTop pages root key version value = (root_level pages root ≡ 16) × (taken : ℕ) × IsRootCut pages root key version value taken
+abbrev pub IsSplitAtTop : PageMap → ℕ → ℕ → ℕ → ℕ → Type 0
+IsSplitAtTop pages root key version value = (root_level pages root ≡ 16) × (taken : ℕ) × IsRootSplit pages root key version value taken
 
--- The root is split, and the chain ends before the page for a new one.
+-- A root of a lower level is split, and the chain ends before the page for a new one.
 abbrev pub EndsAtTop : PageMap → ℕ → ℕ → ℕ → ℕ → ℕ → ℕ → Type 0
 EndsAtTop pages root key version value last damaged =
-    (taken : ℕ) × IsRootCut pages root key version value taken × IsEndDamaged (taken + 1) pages last damaged
+    (root_level pages root ≤ 15) × (taken : ℕ) × IsRootSplit pages root key version value taken × IsEndDamaged (taken + 1) pages last damaged
 
 -- What an addition may find damaged from this root down: a page on the way that is missing, does not keep to its place, or may not be
--- changed at the version; the end of the chain; the directory's root, where a root of level 16 would have to be split.
+-- changed at the version; and where there is none, the end of the chain, or the directory's root, where a root of level 16 would
+-- have to be split.
 abbrev pub IsDamagedAtRoot : PageMap → ℕ → ℕ → ℕ → ℕ → ℕ → ℕ → ℕ → Type 0
 IsDamagedAtRoot pages root key version value last directory damaged =
     IsDamagedFromRootForAdd pages root (root_place key version) damaged
-    ⊎ EndsOnWay (root_level pages root) pages (node_on pages root) key version value last damaged
+    ⊎ (IsWholeFromRoot pages root key version
+    × (EndsOnWay (root_level pages root) pages (node_on pages root) key version value last damaged
     ⊎ EndsAtTop pages root key version value last damaged
-    ⊎ ((damaged ≡ directory) × IsFullAtTop pages root key version value)
+    ⊎ ((damaged ≡ directory) × IsSplitAtTop pages root key version value)))
 
--- What an addition may find damaged in the nodes of a tree that has some: what reading the root of the version does, or what it
--- finds from that root down.
+-- What reading the root of the version may find damaged: a page on the way through the directory, or the directory's root, where it
+-- tells no number of a page.
+abbrev pub IsDamagedForRoot : PageMap → Tree → ℕ → ℕ → Type 0
+IsDamagedForRoot pages tree version damaged =
+    over_versions.IsDamagedOnPath pages (directory tree) version damaged ⊎ ((damaged ≡ tree.root) × (2 ^ 64 ≤ root_at pages tree version))
+
+-- What an addition may find damaged in the nodes of a tree that has some: what reading the root of the version does; and where that
+-- finds nothing, what the addition finds from that root down.
 abbrev pub IsDamagedInNodes : PageMap → Tree → ℕ → ℕ → ℕ → ℕ → Type 0
 IsDamagedInNodes pages tree key version value damaged =
-    over_versions.IsDamagedOnPath pages (directory tree) version damaged
-    ⊎ ((damaged ≡ tree.root) × (2 ^ 64 ≤ root_at pages tree version))
-    ⊎ IsDamagedAtRoot pages (root_at pages tree version) key version value tree.last tree.root damaged
+    IsDamagedForRoot pages tree version damaged
+    ⊎ (((page : ℕ) → IsDamagedForRoot pages tree version page → ⊥)
+    × IsDamagedAtRoot pages (root_at pages tree version) key version value tree.last tree.root damaged)
+
+-- An addition changes the root of the version: the first one does, and one that closes it.
+abbrev pub ChangesRoot : PageMap → Tree → ℕ → ℕ → ℕ → Type 0
+ChangesRoot pages tree key version value = (tree.levels ≡ 0) ⊎ IsRootClosed pages (root_at pages tree version) key version value
 
 -- Each page is as it was, or spells no node of a directory, neither before nor after.
 abbrev pub KeepsDirectories : PageMap → PageMap → Type 0
 KeepsDirectories before after =
     (page : ℕ) → (after page ≡ before page) ⊎ (SpellsNone over_versions.sb_pages before page × SpellsNone over_versions.sb_pages after page)
 
--- What an addition may call damaged: the directory's root, where the tree has 2^31 additions or changes of the root; what it
--- finds in the nodes; what an addition to the directory does, which is any page where the free pages are not in order.
+-- What an addition may call damaged: the directory's root, where the tree has 2^31 additions; what it finds in the nodes; where it
+-- changes the root, what an addition to the directory may; any page where the free pages are not in order.
 abbrev pub IsDamagedForAdd : PageMap → Type 0 → Tree → ℕ → ℕ → ℕ → ℕ → Type 0
 IsDamagedForAdd pages free_in_order tree key version value damaged =
-    ((damaged ≡ tree.root) × ((2 ^ 31 ≤ tree.count) ⊎ (2 ^ 31 ≤ tree.changes)))
+    ((damaged ≡ tree.root) × (2 ^ 31 ≤ tree.count))
     ⊎ ((tree.levels ≢ 0) × IsDamagedInNodes pages tree key version value damaged)
-    ⊎ over_versions.IsDamagedForAdd pages free_in_order (directory tree) version damaged
+    ⊎ (ChangesRoot pages tree key version value × over_versions.IsDamagedForAdd pages free_in_order (directory tree) version damaged)
+    ⊎ (¬ free_in_order)

@@ -23,7 +23,6 @@ pub record IsNext (before after : PageMap) (last : ℕ) (node : MvNode) (page : 
   pub others : (p : ℕ) → (page == p) ≡ false → after p ≡ before p
   pub rules : IsMvNode (next_node before last node)
   pub typed : All IsMvEntryTyped node.entries.items → IsTyped (next_node before last node)
-  pub last_there : IsSome (before last)
 
 -- The last page of the chain spells no node, or has the last place that there is.
 abbrev pub IsLastDamaged : PageMap → ℕ → ℕ → Type 0

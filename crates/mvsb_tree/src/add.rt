@@ -6,7 +6,7 @@ ghost use Rattle.page_ports.specs.Calls.{Grows};
 ghost use Rattle.page_ports.specs.Frame.{AreApart, AreInMap, Replaces};
 ghost use Rattle.page_layout.specs.TreeValue.{IsTreeTyped, tree_fits};
 ghost use Rattle.sb_tree.specs.Stored.{OthersStay};
-ghost use Rattle.mvsb_tree.specs.AddDamage.{IsDamagedForAdd, IsDamagedInNodes, KeepsDirectories, directory_pages, node_way};
+ghost use Rattle.mvsb_tree.specs.AddDamage.{ChangesRoot, IsDamagedForAdd, IsDamagedInNodes, KeepsDirectories, directory_pages, node_way};
 ghost use Rattle.mvsb_tree.specs.Stands.{IsBalanced, MvStands, is_marked, key_of};
 ghost use Rattle.mvsb_tree.specs.Steps.{place_count, root_at as spec_root_at, root_level, tree_pages};
 ghost use Rattle.mvsb_tree.specs.Tops.{RootAdded};
@@ -27,10 +27,11 @@ use sb_tree::tree_laws;
 /// most 24 pages are given out then, and no page is found damaged where the free pages are in order.
 /// After a refusal the tree value is as it was, and the stage is to be abandoned. `Disk` comes only
 /// where the count of faults rose, and `PageLimit` only where as many pages are given out as the limit
-/// allows. `Damaged` names the directory's root where it counts `2^31` additions or changes of the root, or
-/// where the root of the version has level 16 and is full; the first page on the way of the key and the version
-/// that holds no node for its place, or one that may not be changed at the version; the end of the chain of
-/// places, where it holds no node or has too few places left; or what the directory's own tree finds damaged.
+/// allows. `Damaged` names the directory's root where the tree has `2^31` additions, where what the directory tells
+/// is no number of a page, or where a root of level 16 would have to be split; the first page on the way of the key
+/// and the version that holds no node for its place, or one that may not be changed at the version; the end of the
+/// chain of places, where pages are needed that it has no places for, or where it holds no node; or, where the root
+/// changes, what an addition to the directory calls damaged.
 pub fn mv_add<S: Stage>(
     stage: &mut S,
     tree: &mut Tree,
@@ -56,6 +57,8 @@ pub fn mv_add<S: Stage>(
         → AreApart (directory_pages (S.map stage.old) tree.old) (node_way (S.map stage.old) tree.old key version)
         → OthersStay (directory_pages (S.map stage.old) tree.old ++ node_way (S.map stage.old) tree.old key version) (S.map stage.old) (S.map stage.new)) }
     ensures count { OnOk result (tree.new.count ≡ tree.old.count + 1) }
+    // The directory is changed only where the root is.
+    ensures changes { OnOk result (IsTrue (S.tells stage.old) → (tree.new.changes ≡ tree.old.changes) ⊎ ChangesRoot (S.map stage.old) tree.old key version value) }
     ensures rules { OnOk result (IsTrue (tree_fits tree.old) → IsTrue (tree_fits tree.new)) }
     ensures typed { IsTreeTyped tree.new }
     ensures unchanged { OnErr result (tree.new ≡ tree.old) }
@@ -72,7 +75,7 @@ pub fn mv_add<S: Stage>(
 {
     let mut roots = directory(tree);
     let mut last = tree.last;
-    if tree.count >= 1 << 31 || tree.changes >= 1 << 31 {
+    if tree.count >= 1 << 31 {
         return Err(StageFault::Damaged(tree.root));
     }
     let ends = add_to_nodes(stage, tree, key, version, value, &mut last)?;
@@ -107,6 +110,7 @@ fn add_to_nodes<S: Stage>(
         → MvStands (S.map stage.old) tree.now points → All (λ q. q.version ≤ version) points → key_of p ≡ key
         → RootAdded (is_marked (p ∷ points)) (S.map stage.old) (S.map stage.new) ends.root ends.top version key value (place_count (S.map stage.old) tree.now) last.old last.new) }
     ensures apart { IfOk result (λ ends. IsTrue (S.tells stage.old) → OthersStay (node_way (S.map stage.old) tree.now key version) (S.map stage.old) (S.map stage.new)) }
+    ensures closed { IfOk result (λ ends. IsTrue (S.tells stage.old) → (ends.top ≡ ends.root) ⊎ ChangesRoot (S.map stage.old) tree.now key version value) }
     ensures directories { IfOk result (λ ends. IsTrue (S.tells stage.old) → KeepsDirectories (S.map stage.old) (S.map stage.new)) }
     ensures damaged { (page : ℕ) → result ≡ Err (StageFault.Damaged page) → IsTrue (S.tells stage.old)
         → ((tree.now.levels ≢ 0) × IsDamagedInNodes (S.map stage.old) tree.now key version value page) ⊎ (¬ S.free_in_order stage.old) }

@@ -4,7 +4,7 @@ ghost use Rattle.page_layout.specs.MvNode.{IsMvNode, IsTyped, mv_node_page};
 ghost use Rattle.page_ports.specs.Calls.{Grows};
 ghost use Rattle.mv_pages.specs.Alive.{IsChangeable};
 ghost use Rattle.sb_tree.specs.Stored.{OthersStay};
-ghost use Rattle.mvsb_tree.specs.AddDamage.{EndsOnWay, IsDamagedPastForAdd, IsMade, KeepsDirectories};
+ghost use Rattle.mvsb_tree.specs.AddDamage.{EndsOnWay, IsDamagedPastForAdd, IsMade, IsWholePast, KeepsDirectories};
 ghost use Rattle.mvsb_tree.specs.Changed.{ReplacedFits};
 ghost use Rattle.mvsb_tree.specs.Damage.{IsInPlace};
 ghost use Rattle.mvsb_tree.specs.Grown.{NodesHold};
@@ -54,7 +54,9 @@ pub fn add_on<S: Stage>(
     ensures directories { IfOk result (λ replaced. IsTrue (S.tells stage.old) → KeepsDirectories (S.map stage.old) (S.map stage.new)) }
     ensures damaged { (p : ℕ) → result ≡ Err (StageFault.Damaged p) → IsTrue (S.tells stage.old)
         → IsDamagedPastForAdd (S.map stage.old) place node p
-        ⊎ EndsOnWay node.level (S.map stage.old) node place.key place.version value last.old p ⊎ (¬ S.free_in_order stage.old) }
+        ⊎ (IsWholePast (S.map stage.old) place node × EndsOnWay node.level (S.map stage.old) node place.key place.version value last.old p)
+        ⊎ (¬ S.free_in_order stage.old) }
+    ensures whole { IfOk result (λ replaced. IsTrue (S.tells stage.old) → IsWholePast (S.map stage.old) place node) }
     // On ways that stand no page is found damaged.
     ensures sound { (test : ℕ → Bool) (places least p : ℕ) → IsTrue (S.tells stage.old) → IsTrue (test place.key)
         → ChainStands places (S.map stage.old) last.old → NodesHold place.version test (S.map stage.old) (chain_from places (S.map stage.old) last.old)

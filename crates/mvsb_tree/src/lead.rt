@@ -1,5 +1,5 @@
 //! Changes of the root in the directory.
-ghost use Rattle.std.specs.Prelude.{◌≡◌, ◌≢◌, ◌+◌, ◌%◌, ◌^◌, ◌<◌, ◌≤◌, ℕ, List, Err, IsTrue, OnOk, OnErr};
+ghost use Rattle.std.specs.Prelude.{◌≡◌, ◌≢◌, ◌+◌, ◌%◌, ◌^◌, ◌<◌, ◌≤◌, ℕ, List, length, Err, IsTrue, OnOk, OnErr};
 ghost use Rattle.bw_types.specs.declared.point.Point.{Point};
 ghost use Rattle.page_ports.specs.Calls.{Grows};
 ghost use Rattle.sb_tree.specs.Damage.{IsDamagedForAdd};
@@ -21,11 +21,12 @@ pub fn lead_to<S: Stage>(
     root: u64,
     top: u64,
 ) -> Result<(), StageFault>
-    requires few { roots.old.count < 2 ^ 31 }
     ensures led { OnOk result (IsTrue (S.tells stage.old) → (changes : List Point) → SbStands (S.map stage.old) roots.old changes
         → Led (S.map stage.old) (S.map stage.new) roots.old roots.new changes version root top) }
     ensures balanced { OnOk result (IsTrue (S.tells stage.old) → (changes : List Point) → SbStands (S.map stage.old) roots.old changes
         → IsBalanced roots.old → IsBalanced roots.new) }
+    ensures same { OnOk result (top ≡ root → roots.new ≡ roots.old) }
+    ensures few { OnOk result (roots.old.count ≤ 2 ^ 31 → roots.new.count ≤ 2 ^ 31) }
     ensures count { OnOk result ((roots.old.count ≤ roots.new.count) × (roots.new.count ≤ roots.old.count + 1)) }
     ensures root { OnOk result ((roots.old.levels ≡ 0 → top ≢ root) → (roots.old.levels ≢ 0 → (roots.old.levels ≤ 16) × (3 ≤ roots.old.root))
         → (1 ≤ roots.new.levels) × (roots.new.levels ≤ 16) × (3 ≤ roots.new.root)) }
@@ -33,13 +34,17 @@ pub fn lead_to<S: Stage>(
     ensures apart { OnOk result (IsTrue (S.tells stage.old) → OthersStay (tree_pages (S.map stage.old) roots.old) (S.map stage.old) (S.map stage.new)) }
     ensures beside { (roots.new.changes ≡ roots.old.changes) × (roots.new.last ≡ roots.old.last) }
     ensures damaged { (page : ℕ) → result ≡ Err (StageFault.Damaged page) → IsTrue (S.tells stage.old)
-        → IsDamagedForAdd (S.map stage.old) (S.free_in_order stage.old) roots.old version page }
+        → (top ≢ root) × IsDamagedForAdd (S.map stage.old) (S.free_in_order stage.old) roots.old version page }
     ensures sound { (changes : List Point) (page : ℕ) → IsTrue (S.tells stage.old) → SbStands (S.map stage.old) roots.old changes
-        → IsBalanced roots.old → S.free_in_order stage.old → result ≢ Err (StageFault.Damaged page) }
+        → length changes < 2 ^ 31 → IsBalanced roots.old → S.free_in_order stage.old → result ≢ Err (StageFault.Damaged page) }
     ensures grows { Grows S.Pages (roots.old.levels + 1) stage.old stage.new result }
 {
     if top == root {
         return Ok(());
+    }
+    // `sb_add` would say the same; here it is known of what is answered.
+    if roots.count >= 1 << 31 {
+        return Err(StageFault::Damaged(roots.root));
     }
     let more = difference(top, root);
     sb_add(stage, roots, version, more)

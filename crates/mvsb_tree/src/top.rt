@@ -36,7 +36,7 @@ pub fn top_of<S: Stage>(
     ensures top { IfOk result (λ top. IsTrue (S.tells stage.old) → IsTop (S.map stage.old) (S.map stage.new) root level version replaced last.old last.new top) }
     ensures typed { IfOk result (λ top. IsReplacedTyped replaced) }
     ensures damaged { (p : ℕ) → result ≡ Err (StageFault.Damaged p) → IsTrue (S.tells stage.old)
-        → (IsSome (cut_of replaced) × (((p ≡ directory) × (16 ≤ level)) ⊎ IsLastDamaged (S.map stage.old) last.old p)) ⊎ (¬ S.free_in_order stage.old) }
+        → (IsSome (cut_of replaced) × (((p ≡ directory) × (16 ≤ level)) ⊎ ((level ≤ 15) × IsLastDamaged (S.map stage.old) last.old p))) ⊎ (¬ S.free_in_order stage.old) }
     ensures sound { (places p : ℕ) → IsTrue (S.tells stage.old) → ChainStands places (S.map stage.old) last.old → 1 ≤ places → level ≤ 15 → S.free_in_order stage.old
         → result ≢ Err (StageFault.Damaged p) }
     ensures grows { Grows S.Pages 1 stage.old stage.new result }

@@ -1,9 +1,9 @@
-use Rattle.std.proofs.Common.{◌≡◌, ◌^◌, ◌<◌, ◌≤◌, inl, inr, ℕ, List, [], ◌∷◌, Some, None, Err, IsTrue, refl, sym, ap, ◌∙◌, subst, arith, rules}
+use Rattle.std.proofs.Common.{◌≡◌, ◌⊎◌, ◌^◌, ◌<◌, ◌≤◌, inl, inr, ℕ, List, [], ◌∷◌, Some, None, Err, IsTrue, refl, sym, ap, ◌∙◌, subst, arith, rules}
 use Rattle.std.proofs.lemmas.Result.{err_from_is_err_and}
 use Rattle.bw_types.specs.declared.point.Point.{Point}
 use Rattle.page_ports.specs.Pages.{PageMap}
 use Rattle.page_ports.specs.declared.page.StageFault.TheVariants.{Damaged}
-use Rattle.mvsb_tree.specs.AddDamage.{IsDamagedAtRoot, KeepsDirectories}
+use Rattle.mvsb_tree.specs.AddDamage.{IsDamagedAtRoot, IsRootClosed, KeepsDirectories}
 use Rattle.mvsb_tree.specs.Grown.{NodesHold}
 use Rattle.mvsb_tree.specs.Stands.{ChainStands, StandsOnWay, is_marked}
 use Rattle.mvsb_tree.specs.Steps.{chain_from, place_count, root_at, root_level}
@@ -94,13 +94,7 @@ pub returns-in_err-root-clause-damaged : goal.returns-in_err-root-clause-damaged
 returns-in_err-root-clause-damaged g c = λ page e tells. (
     let told = err_from_is_err_and c.from_residual-in_err-root.result c.from_residual-in_err-root.ensures.1 in
     let same = read_damaged c.from_residual-in_err-root.result c.in_err-root.field-0.0 page told e in
-    inl (
-      c.if-tree-eq0.false,
-      elim (c.in_err-root.ensures.damaged page (ap Err same) tells) [
-        | inl path ↦ inl path
-        | inr high ↦ inr (inl high)
-      ],
-    ))
+    inl (c.if-tree-eq0.false, inl (c.in_err-root.ensures.damaged page (ap Err same) tells)))
 
 pub returns-in_err-top-2-clause-damaged : goal.returns-in_err-top-2-clause-damaged
 returns-in_err-top-2-clause-damaged g c = λ page e tells. (
@@ -117,7 +111,7 @@ returns-in_err-top-2-clause-damaged g c = λ page e tells. (
       | inl found ↦
           let d0 = subst (λ (m : PageMap). IsDamagedAtRoot m root key v c.args.value c.args.last.now tree.root page) read.map found in
           let d1 = subst (λ (r : ℕ). IsDamagedAtRoot m0 r key v c.args.value c.args.last.now tree.root page) root_is d0 in
-          inl (c.if-tree-eq0.false, inr (inr (subst (λ (l : ℕ). IsDamagedAtRoot m0 (root_at m0 tree v) key v c.args.value l tree.root page) c.requires.last d1)))
+          inl (c.if-tree-eq0.false, inr (c.in_ok-root.ensures.whole tells, (subst (λ (l : ℕ). IsDamagedAtRoot m0 (root_at m0 tree v) key v c.args.value l tree.root page) c.requires.last d1)))
       | inr unordered ↦ inr (λ ordered. unordered (read.free_in_order ordered))
     ])
 
@@ -129,3 +123,15 @@ pub returns-then-tree-eq0-clause-directories : goal.returns-then-tree-eq0-clause
 returns-then-tree-eq0-clause-directories g c = λ tells.
     let made = c.in_ok-top.ensures.made tells in
     made_keeps (g.S.Pages.map c.args.stage.now) (g.S.Pages.map c.first_leaf.new.stage) c.in_ok-top.top _ made.0 made.1 made.2
+
+pub returns-clause-closed : goal.returns-clause-closed
+returns-clause-closed g c = λ tells.
+    let m0 : PageMap = g.S.Pages.map c.args.stage.now in
+    let read = c.root_at.ensures.reads.read in
+    let root = c.in_ok-root.root in
+    let c0 = c.in_ok-top-2.ensures.closed (read.tells ∙ tells) in
+    let c1 = subst (λ (m : PageMap). (c.in_ok-top-2.top ≡ root) ⊎ IsRootClosed m root c.args.key c.args.version c.args.value) read.map c0 in
+    elim c1 [
+      | inl same ↦ inl same
+      | inr closed ↦ inr (inr (subst (λ (r : ℕ). IsRootClosed m0 r c.args.key c.args.version c.args.value) (c.in_ok-root.ensures.root tells) closed))
+    ]

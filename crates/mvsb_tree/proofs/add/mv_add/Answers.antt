@@ -1,4 +1,4 @@
-use Rattle.std.proofs.Common.{◌≡◌, ◌+◌, ◌^◌, ◌<◌, ◌≤◌, List, ◌∷◌, None, [], Err, inl, inr, IsTrue, refl, sym, ap, ◌∙◌, subst, arith, rules}
+use Rattle.std.proofs.Common.{◌≡◌, ◌+◌, ◌^◌, ◌<◌, ◌≤◌, List, ◌∷◌, length, None, [], Err, inl, inr, IsTrue, refl, sym, ap, ◌∙◌, subst, arith, rules}
 use Rattle.std.specs.List.{All}
 use Rattle.bw_types.specs.declared.point.Point.{Point}
 use Rattle.bw_types.specs.declared.tree.Tree.{Tree}
@@ -145,7 +145,8 @@ returns-in_err-lead_to-clause-sound g c = λ points page tells s few past b orde
     let moved = joining.dir_moved (g.S.Pages.map c.args.stage.now) m1 c.args.tree.now points p c.args.key c.args.version c.args.value c.in_ok-ends.ends.root c.in_ok-ends.ends.top c.add_to_nodes.new.last s
     c.tree_laws.ensures.in_map c.tree_laws.ensures.by_its_pages took in
     let grows = c.add_to_nodes.ensures.grows.went_on in
-    c.in_err-lead_to.ensures.sound s.changes page (grows.tells ∙ tells) (subst (λ (t : Tree). SbStands m1 t s.changes) (sym c.directory-roots.ensures) moved.0)
+    let few_changes : length s.changes < 2 ^ 31 = omega (arith, s.roots.count, s.count, b.changes, few) in
+    c.in_err-lead_to.ensures.sound s.changes page (grows.tells ∙ tells) (subst (λ (t : Tree). SbStands m1 t s.changes) (sym c.directory-roots.ensures) moved.0) few_changes
     (subst (λ (t : Tree). over_versions.IsBalanced t) (sym c.directory-roots.ensures) b.directory) (grows.free_in_order tells ordered) (ap Err same))
 
 pub returns-in_err-ends-clause-damaged : goal.returns-in_err-ends-clause-damaged
@@ -154,7 +155,7 @@ returns-in_err-ends-clause-damaged g c = λ page e tells. (
     let same = exit_error c.from_residual.result c.in_err-ends.field-0.0 (Damaged page) told e in
     elim (c.in_err-ends.ensures.damaged page (ap Err same) tells) [
       | inl d ↦ inr (inl d)
-      | inr unordered ↦ inr (inr (inr (inr (inr unordered))))
+      | inr unordered ↦ inr (inr (inr unordered))
     ])
 
 pub returns-in_err-lead_to-clause-damaged : goal.returns-in_err-lead_to-clause-damaged
@@ -168,8 +169,11 @@ returns-in_err-lead_to-clause-damaged g c = λ page e tells. (
     let same = exit_error c.from_residual-in_err-lead_to.result c.in_err-lead_to.field-0.0 (Damaged page) told e in
     let grows = c.add_to_nodes.ensures.grows.went_on in
     let d0 = c.in_err-lead_to.ensures.damaged page (ap Err same) (grows.tells ∙ tells) in
-    let d1 = subst (λ (t : Tree). damage.IsDamagedForAdd m1 order1 t c.args.version page) c.directory-roots.ensures d0 in
-    inr (inr (damaged_before m0 m1 order0 order1 (directory tree) c.args.version page (c.in_ok-ends.ensures.directories tells) (λ ordered. grows.free_in_order tells ordered) d1)))
+    let d1 = subst (λ (t : Tree). damage.IsDamagedForAdd m1 order1 t c.args.version page) c.directory-roots.ensures d0.1 in
+    elim (c.in_ok-ends.ensures.closed tells) [
+      | inl same_root ↦ absurd (d0.0 same_root)
+      | inr changes ↦ inr (inr (inl (changes, damaged_before m0 m1 order0 order1 (directory tree) c.args.version page (c.in_ok-ends.ensures.directories tells) (λ ordered. grows.free_in_order tells ordered) d1)))
+    ])
 
 pub returns-clause-apart : goal.returns-clause-apart
 returns-clause-apart g c = λ tells there apart. (
@@ -178,3 +182,9 @@ returns-clause-apart g c = λ tells there apart. (
     let d0 : OthersStay (dir_steps.tree_pages m1 c.directory-roots.result) m1 m2 = c.in_ok-lead_to.ensures.apart (c.add_to_nodes.ensures.grows.went_on.tells ∙ tells) in
     let d1 = subst (λ (t : Tree). OthersStay (dir_steps.tree_pages m1 t) m1 m2) c.directory-roots.ensures d0 in
     both_stay (g.S.Pages.map c.args.stage.now) m1 m2 (directory c.args.tree.now) (node_way (g.S.Pages.map c.args.stage.now) c.args.tree.now c.args.key c.args.version) there apart (c.in_ok-ends.ensures.apart tells) d1)
+
+pub returns-clause-changes : goal.returns-clause-changes
+returns-clause-changes g c = λ tells. elim (c.in_ok-ends.ensures.closed tells) [
+  | inl same ↦ inl (c.grown.ensures.changes ∙ ap (λ (t : Tree). t.count) (c.in_ok-lead_to.ensures.same same) ∙ ap (λ (t : Tree). t.count) c.directory-roots.ensures)
+  | inr changed ↦ inr changed
+]

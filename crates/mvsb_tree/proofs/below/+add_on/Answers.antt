@@ -11,7 +11,7 @@ use Rattle.sb_tree.specs.Stored.{OthersStay}
 use Rattle.mvsb_tree.specs.Stands.{NodeStands, ends_after, inner_low}
 use Rattle.page_layout.specs.MvNode.{mv_node_page}
 use Rattle.mv_pages.specs.Alive.{IsChangeable}
-use Rattle.mvsb_tree.specs.AddDamage.{EndsOnWay, IsDamagedPastForAdd, IsMade, KeepsDirectories}
+use Rattle.mvsb_tree.specs.AddDamage.{EndsOnWay, IsDamagedPastForAdd, IsMade, IsWholePast, KeepsDirectories}
 use Rattle.mvsb_tree.specs.Becoming.{new_pages}
 use Rattle.mvsb_tree.specs.Damage.{FitsPlace}
 use Rattle.mvsb_tree.specs.declared.place.Place.{Place}
@@ -19,7 +19,7 @@ use Rattle.mvsb_tree.specs.declared.replaced.Replaced.{Replaced}
 use Rattle.mvsb_tree.specs.Steps.{chain_from, node_on}
 use Rattle.mvsb_tree.specs.Ways.{IsKeyIn, way_pages}
 use Rattle.mvsb_tree.proofs.Descending as descending
-use Rattle.mvsb_tree.proofs.AddPast.{add_past_further, add_past_here, placed_as, placed_later}
+use Rattle.mvsb_tree.proofs.AddPast.{add_past_further, add_past_here, placed_as, placed_later, whole_index, whole_leaf}
 use Rattle.mvsb_tree.proofs.Becoming.{ends_above, ends_below, ends_leaf, made_above, made_leaf}
 use Rattle.mvsb_tree.proofs.Directories as directories
 use Rattle.mvsb_tree.proofs.Exits.{err_same_staged, exit_error, read_damaged}
@@ -340,7 +340,7 @@ returns-in_default-clause-damaged g t c = λ p e tells. (
     let node = c.args.node in
     let is : node_on m0 c.args.page ≡ node = node_on-spelled m0 c.args.page node c.requires.typed c.requires.rules (c.requires.there tells) in
     elim (c.store.ensures.damaged p e tells (placed_as m0 c.args.page node c.add_to_leaf.new.node is c.requires.typed c.add_to_leaf.ensures.past)) [
-      | inl end ↦ inr (inl (ends_leaf node.level m0 node c.add_to_leaf.new.node place.key place.version c.args.value c.args.last.now p
+      | inl end ↦ inr (inl (whole_leaf m0 place node (c.in_default.ensures.none refl), ends_leaf node.level m0 node c.add_to_leaf.new.node place.key place.version c.args.value c.args.last.now p
           (leaf_here node place.key place.version c.requires.placed.leads (c.in_default.ensures.none refl)) c.add_to_leaf.ensures.taken end))
       | inr unordered ↦ inr (inr unordered)
     ])
@@ -392,7 +392,10 @@ returns-in_err-replaced-clause-damaged g t c = λ p e tells. (
     elim (c.in_err-replaced.ensures.damaged p (ap Err same) (read.tells ∙ tells)) [
       | inl past ↦ inl (add_past_further m0 c.args.place step.place node child step.child p (mv_node_page child) some c.in-Some.ensures.leads (c.in_ok-child.ensures.found tells) (c.in_ok-child.ensures.node, can)
           (subst (λ (m : PageMap). IsDamagedPastForAdd m step.place child p) read.map past))
-      | inr (inl ends) ↦
+      | inr (inl found) ↦
+          let ends = found.1 in
+          let below : IsWholePast m0 step.place child = subst (λ (m : PageMap). IsWholePast m step.place child) read.map found.0 in
+          let whole = whole_index m0 c.args.place step.place node child step.child c.in-Some.ensures.leads (c.in_ok-child.ensures.found tells) (c.in_ok-child.ensures.node, can) below in
           let place = c.args.place in
           let last = c.args.last.now in
           let level : ℕ = node.level - 1 in
@@ -401,7 +404,7 @@ returns-in_err-replaced-clause-damaged g t c = λ p e tells. (
           let child_is : node_on m0 step.child ≡ child = node_on-spelled m0 step.child child spelled.typed spelled.rules (c.in_ok-child.ensures.found tells) in
           let here = child_ends m0 (g.S.Pages.map c.read_in_place.new.pages) level child step.place place.key place.version c.args.value last p read.map child_level
           c.in-Some.ensures.leads.key c.in-Some.ensures.leads.version ends in
-          inr (inl (subst (λ (l : ℕ). EndsOnWay l m0 node place.key place.version c.args.value last p) (sym at_level)
+          inr (inl (whole, subst (λ (l : ℕ). EndsOnWay l m0 node place.key place.version c.args.value last p) (sym at_level)
           (ends_below level m0 step.child node child place.key place.version c.args.value last p c.in-Some.ensures.leads.child_is child_is here)))
       | inr (inr unordered) ↦ inr (inr (λ ordered. unordered (read.free_in_order ordered)))
     ])
@@ -429,8 +432,25 @@ returns-clause-damaged g t c = λ p e tells. (
     let made = child_made m0 (g.S.Pages.map c.read_in_place.new.pages) m1 (suc level) child step.place place.key place.version c.args.value last last1 replaced read.map child_level
     c.in-Some.ensures.leads.key c.in-Some.ensures.leads.version (c.in_ok-replaced.ensures.made (read.tells ∙ tells)) in
     let placed = placed_later m0 m1 c.args.page node new (made.below + new_pages made.changed place.version) last last1 is c.requires.typed (subst IsSome (sym (c.requires.there tells)) refl) made.places c.change.ensures.past in
+    let can : IsChangeable step.place.version child.entries.items = subst (λ (w : ℕ). IsChangeable w child.entries.items) (sym c.in-Some.ensures.leads.version) (c.is_changeable.ensures.0 c.if-not-is_changeable.false) in
+    let below : IsWholePast m0 step.place child = subst (λ (m : PageMap). IsWholePast m step.place child) read.map (c.in_ok-replaced.ensures.whole (read.tells ∙ tells)) in
+    let whole = whole_index m0 place step.place node child step.child c.in-Some.ensures.leads (c.in_ok-child.ensures.found tells) (c.in_ok-child.ensures.node, can) below in
     elim (c.store-2.ensures.damaged p e (grows.tells ∙ read.tells ∙ tells) placed) [
-      | inl end ↦ inr (inl (subst (λ (l : ℕ). EndsOnWay l m0 node place.key place.version c.args.value last p) (sym at_level)
+      | inl end ↦ inr (inl (whole, subst (λ (l : ℕ). EndsOnWay l m0 node place.key place.version c.args.value last p) (sym at_level)
           (ends_above level m0 m1 step.child node child new place.key place.version c.args.value last last1 p replaced c.in-Some.ensures.leads.child_is child_is made c.change.ensures.taken end)))
       | inr unordered ↦ inr (inr (λ ordered. unordered (grows.free_in_order (read.tells ∙ tells) (read.free_in_order ordered))))
     ])
+
+pub returns-in_default-clause-whole : goal.returns-in_default-clause-whole
+returns-in_default-clause-whole g t c = IfOk-weaker c.store.result _ _ (λ r stored tells.
+    whole_leaf (g.S.Pages.map c.args.stage.now) c.args.place c.args.node (c.in_default.ensures.none refl)) c.store.ensures.stored
+
+pub returns-clause-whole : goal.returns-clause-whole
+returns-clause-whole g t c = IfOk-weaker c.store-2.result _ _ (λ r stored tells.
+    let m0 : PageMap = g.S.Pages.map c.args.stage.now in
+    let step = c.in-Some.step in
+    let child = c.in_ok-child.child in
+    let read = c.read_in_place.ensures.reads.read in
+    let can : IsChangeable step.place.version child.entries.items = subst (λ (w : ℕ). IsChangeable w child.entries.items) (sym c.in-Some.ensures.leads.version) (c.is_changeable.ensures.0 c.if-not-is_changeable.false) in
+    let below : IsWholePast m0 step.place child = subst (λ (m : PageMap). IsWholePast m step.place child) read.map (c.in_ok-replaced.ensures.whole (read.tells ∙ tells)) in
+    whole_index m0 c.args.place step.place c.args.node child step.child c.in-Some.ensures.leads (c.in_ok-child.ensures.found tells) (c.in_ok-child.ensures.node, can) below) c.store-2.ensures.stored

@@ -44,7 +44,6 @@ returns-clause-made g c = λ tells.
       others = λ q other. made.2 q other ∙ ap (λ (n : PageMap). n q) c.read_page.ensures.reads.read.map;
       rules = next_rules m last c.args.node (spells.rules.place) place is_some c.requires.level.0 c.requires.level.1 c.requires.count.0 c.requires.count.1 c.requires.entries;
       typed = λ all. next_typed m last c.args.node (let fits : (node_on m last).place + 1 < 4294967296 = omega (arith, place, c.if-before.false, spells.typed.place) in fits) (search rules) all;
-      last_there = subst IsSome (sym there) refl;
     }
 
 -- Each page of a stage is within its bounds.

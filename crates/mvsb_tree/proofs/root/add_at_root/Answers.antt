@@ -10,12 +10,12 @@ use Rattle.mvsb_tree.specs.Stands.{StandsOnWay}
 use Rattle.mvsb_tree.specs.Steps.{chain_from, node_on, root_level}
 use Rattle.mv_pages.specs.Alive.{IsChangeable}
 use Rattle.sb_tree.specs.Stored.{OthersStay}
-use Rattle.mvsb_tree.specs.AddDamage.{EndsOnWay, IsDamagedPastForAdd, IsMade, KeepsDirectories}
+use Rattle.mvsb_tree.specs.AddDamage.{EndsOnWay, IsDamagedPastForAdd, IsMade, IsWholePast, KeepsDirectories}
 use Rattle.mvsb_tree.specs.Becoming.{new_pages}
 use Rattle.mvsb_tree.specs.Damage.{IsInPlace, root_place}
 use Rattle.mvsb_tree.specs.Ways.{way_pages}
-use Rattle.mvsb_tree.proofs.AddPast.{root_add_past, root_add_unfit, top_stays}
-use Rattle.mvsb_tree.proofs.Becoming.{ends_at_top, root_cut}
+use Rattle.mvsb_tree.proofs.AddPast.{root_add_past, root_add_unfit, top_stays, whole_root}
+use Rattle.mvsb_tree.proofs.Becoming.{ends_at_top, root_closed, root_split, root_stays}
 use Rattle.mvsb_tree.proofs.Directories as directories
 use Rattle.mvsb_tree.specs.Changed.{ReplacedFits}
 use Rattle.mvsb_tree.proofs.Assembling.{AddsBelow}
@@ -176,14 +176,17 @@ returns-in_err-replaced-clause-damaged g c = λ p e tells. (
     elim (c.in_err-replaced.ensures.damaged p (ap Err same) (read.tells ∙ tells)) [
       | inl past ↦ inl (inl (root_add_past m0 root (root_place key v) node p some spells.typed spells.rules there inside can
           (subst (λ (q : Place). IsDamagedPastForAdd m0 q node p) c.root_place-place.ensures (subst (λ (m : PageMap). IsDamagedPastForAdd m c.root_place-place.result node p) read.map past))))
-      | inr (inl ends) ↦
+      | inr (inl found) ↦
+          let ends = found.1 in
+          let below = subst (λ (q : Place). IsWholePast m0 q node) c.root_place-place.ensures (subst (λ (m : PageMap). IsWholePast m c.root_place-place.result node) read.map found.0) in
+          let whole = whole_root m0 root key v node some spells.typed spells.rules there inside can below in
           let last = c.args.last.now in
           let value = c.args.value in
           let on : node_on m0 root ≡ node = node_on-spelled m0 root node spells.typed spells.rules there in
           let e1 = subst (λ (m : PageMap). EndsOnWay node.level m node c.root_place-place.result.key c.root_place-place.result.version value last p) read.map ends in
           let e2 = subst (λ (q : Place). EndsOnWay node.level m0 node q.key q.version value last p) c.root_place-place.ensures e1 in
           let e3 = subst (λ (l : ℕ). EndsOnWay l m0 node key v value last p) (sym level) e2 in
-          inl (inr (inl (subst (λ (n : MvNode). EndsOnWay (root_level m0 root) m0 n key v value last p) (sym on) e3)))
+          inl (inr (whole, inl (subst (λ (n : MvNode). EndsOnWay (root_level m0 root) m0 n key v value last p) (sym on) e3)))
       | inr (inr unordered) ↦ inr (λ ordered. unordered (read.free_in_order ordered))
     ])
 
@@ -241,12 +244,17 @@ returns-clause-damaged g c = λ p e tells. (
     let d0 : IsMade node.level mr m1 node place.key place.version value last last1 replaced = c.in_ok-replaced.ensures.made (read.tells ∙ tells) in
     let d1 = subst (λ (m : PageMap). IsMade node.level m m1 node place.key place.version value last last1 replaced) read.map d0 in
     let made = subst (λ (q : Place). IsMade node.level m0 m1 node q.key q.version value last last1 replaced) c.root_place-place.ensures d1 in
+    let inside : IsInPlace node.level (root_place key v) node = subst (λ (q : Place). IsInPlace node.level q node) c.root_place-place.ensures (c.admits.ensures.0 c.if-not-admits.false) in
+    let can : IsChangeable v node.entries.items = c.is_changeable.ensures.0 c.if-not-is_changeable.false in
+    let w0 : IsWholePast mr place node = c.in_ok-replaced.ensures.whole (read.tells ∙ tells) in
+    let below = subst (λ (q : Place). IsWholePast m0 q node) c.root_place-place.ensures (subst (λ (m : PageMap). IsWholePast m place node) read.map w0) in
+    let whole = whole_root m0 root key v node some spells.typed spells.rules there inside can below in
     elim (c.top_of.ensures.damaged p e (grows.tells ∙ read.tells ∙ tells)) [
       | inl split ↦ elim split.1 [
         | inl high ↦
             let is : root_level m0 root ≡ 16 = omega (arith, level, high.1, spells.rules.high_level) in
-            inl (inr (inr (inr (high.0, (is, made.below + new_pages made.changed v, root_cut m0 m1 root node key v value last last1 replaced level on made split.0)))))
-        | inr end ↦ inl (inr (inr (inl (ends_at_top m0 m1 root node key v value last last1 p replaced level on made split.0 end))))
+            inl (inr (whole, inr (inr (high.0, (is, made.below + new_pages made.changed v, root_split m0 m1 root node key v value last last1 replaced level on made split.0)))))
+        | inr end ↦ inl (inr (whole, inr (inl (ends_at_top m0 m1 root node key v value last last1 p replaced level on made split.0 end.0 end.1))))
       ]
       | inr unordered ↦ inr (λ ordered. unordered (grows.free_in_order (read.tells ∙ tells) (read.free_in_order ordered)))
     ])
@@ -261,3 +269,37 @@ returns-clause-few g c = λ most tells low. (
     let first = c.add_on.ensures.grows in
     let second = c.top_of.ensures.grows in
     search rules)
+
+pub returns-clause-closed : goal.returns-clause-closed
+returns-clause-closed g c = IfOk-weaker c.top_of.result _ _ (λ top is_top tells. (
+    let m0 : PageMap = g.S.Pages.map c.args.stage.now in
+    let root = c.args.root in
+    let v = c.args.version in
+    let key = c.args.key in
+    let value = c.args.value in
+    let node = c.in_ok-node.node in
+    let spells = c.in_ok-node.ensures.spells in
+    let there = c.in_ok-node.ensures.found tells in
+    let some : root ≢ 0 = λ none. omega (arith, none, c.if-root-lt3.false) in
+    let mr : PageMap = g.S.Pages.map c.read_page.new.pages in
+    let m1 : PageMap = g.S.Pages.map c.add_on.new.stage in
+    let last = c.args.last.now in
+    let last1 = c.add_on.new.last in
+    let replaced = c.in_ok-replaced.replaced in
+    let place = c.root_place-place.result in
+    let read = c.read_page.ensures.reads.read in
+    let grows = c.add_on.ensures.grows.went_on in
+    let level : root_level m0 root ≡ node.level = level_of_root m0 root node some spells.typed spells.rules there in
+    let on : node_on m0 root ≡ node = node_on-spelled m0 root node spells.typed spells.rules there in
+    let d0 : IsMade node.level mr m1 node place.key place.version value last last1 replaced = c.in_ok-replaced.ensures.made (read.tells ∙ tells) in
+    let d1 = subst (λ (m : PageMap). IsMade node.level m m1 node place.key place.version value last last1 replaced) read.map d0 in
+    let made = subst (λ (q : Place). IsMade node.level m0 m1 node q.key q.version value last last1 replaced) c.root_place-place.ensures d1 in
+    let inside : IsInPlace node.level (root_place key v) node = subst (λ (q : Place). IsInPlace node.level q node) c.root_place-place.ensures (c.admits.ensures.0 c.if-not-admits.false) in
+    let can : IsChangeable v node.entries.items = c.is_changeable.ensures.0 c.if-not-is_changeable.false in
+    let w0 : IsWholePast mr place node = c.in_ok-replaced.ensures.whole (read.tells ∙ tells) in
+    let below = subst (λ (q : Place). IsWholePast m0 q node) c.root_place-place.ensures (subst (λ (m : PageMap). IsWholePast m place node) read.map w0) in
+    let whole = whole_root m0 root key v node some spells.typed spells.rules there inside can below in
+    elim (root_stays m1 (g.S.Pages.map c.top_of.new.stage) root node.level v replaced last1 c.top_of.new.last top (is_top (grows.tells ∙ read.tells ∙ tells))) [
+      | inl same ↦ inl same
+      | inr closed ↦ inr (root_closed m0 m1 root node key v value last last1 replaced level on made closed whole)
+    ])) c.top_of.ensures.top
