@@ -126,5 +126,5 @@ whole_root pages root key version node some typed rules there inside can whole =
       let level : root_level pages root ≡ node.level = level_of_root pages root node some typed rules there in
       let fit : FitsPlace node.level (root_place key version) node (mv_node_page node) = record { fits = record { spelled = refl; rules = rules; typed = typed; at_level = refl }; admitted = inside } in
       whole_here node.level pages (root_place key version) node root page there (fit, can) whole
-          (subst (λ (l : ℕ). IsDamagedBelow FitsForAdd LeadsTo NothingBeside pages l (root_place key version) root page) level below)
+      (subst (λ (l : ℕ). IsDamagedBelow FitsForAdd LeadsTo NothingBeside pages l (root_place key version) root page) level below)
 ]

@@ -130,14 +130,15 @@ IsDamagedAtRoot pages root key version value last directory damaged =
     ⊎ EndsAtTop pages root key version value last damaged
     ⊎ ((damaged ≡ directory) × IsSplitAtTop pages root key version value)))
 
--- What reading the root of the version may find damaged: a page on the way through the directory, or the directory's root, where it
--- tells no number of a page.
+-- What looking for the root of the version may find damaged: a page on the way through the directory, or the directory's root, where
+-- it tells no root, or no number of a page.
 abbrev pub IsDamagedForRoot : PageMap → Tree → ℕ → ℕ → Type 0
 IsDamagedForRoot pages tree version damaged =
-    over_versions.IsDamagedOnPath pages (directory tree) version damaged ⊎ ((damaged ≡ tree.root) × (2 ^ 64 ≤ root_at pages tree version))
+    over_versions.IsDamagedOnPath pages (directory tree) version damaged
+    ⊎ ((damaged ≡ tree.root) × ((root_at pages tree version ≡ 0) ⊎ (2 ^ 64 ≤ root_at pages tree version)))
 
--- What an addition may find damaged in the nodes of a tree that has some: what reading the root of the version does; and where that
--- finds nothing, what the addition finds from that root down.
+-- What an addition may find damaged in the nodes of a tree that has some: what looking for the root of the version does; and where
+-- that finds nothing, what the addition finds from that root down.
 abbrev pub IsDamagedInNodes : PageMap → Tree → ℕ → ℕ → ℕ → ℕ → Type 0
 IsDamagedInNodes pages tree key version value damaged =
     IsDamagedForRoot pages tree version damaged

@@ -1,5 +1,5 @@
 -- What is stored of a node that was changed, in its page or in those that take its part.
-use Rattle.std.specs.Prelude.{◌≡◌, ℕ, ◌+◌, ◌⊎◌, ◌<◌, ◌≤◌, ◌==◌, Bool, true, false, IsTrue, List, length, Option, Some, None, IsSome}
+use Rattle.std.specs.Prelude.{◌≡◌, ℕ, ◌+◌, ◌⊎◌, ◌<◌, ◌≤◌, ◌==◌, Bool, true, false, IsTrue, List, length, Option, Some, None}
 use Rattle.std.specs.List.{All, list_all}
 use Rattle.page_ports.specs.Pages.{PageMap, put_page}
 use Rattle.page_layout.specs.Spelled.{SpellsNone}

@@ -27,8 +27,8 @@ use sb_tree::tree_laws;
 /// most 24 pages are given out then, and no page is found damaged where the free pages are in order.
 /// After a refusal the tree value is as it was, and the stage is to be abandoned. `Disk` comes only
 /// where the count of faults rose, and `PageLimit` only where as many pages are given out as the limit
-/// allows. `Damaged` names the directory's root where the tree has `2^31` additions, where what the directory tells
-/// is no number of a page, or where a root of level 16 would have to be split; the first page on the way of the key
+/// allows. `Damaged` names the directory's root where the tree has `2^31` additions, where the directory tells no
+/// root at the version, or no number of a page, or where a root of level 16 would have to be split; the first page on the way of the key
 /// and the version that holds no node for its place, or one that may not be changed at the version; the end of the
 /// chain of places, where pages are needed that it has no places for, or where it holds no node; or, where the root
 /// changes, what an addition to the directory calls damaged.
@@ -128,6 +128,9 @@ fn add_to_nodes<S: Stage>(
         return Ok(Ends { root: 0, top });
     }
     let root = root_at(stage, tree, version)?;
+    if root == 0 {
+        return Err(StageFault::Damaged(tree.root));
+    }
     let top = add_at_root(stage, root, key, version, value, last, tree.root)?;
     Ok(Ends { root, top })
 }

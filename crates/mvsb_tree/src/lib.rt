@@ -33,6 +33,8 @@ mod tests_add;
 #[cfg(test)]
 mod tests_broken;
 #[cfg(test)]
+mod tests_ends;
+#[cfg(test)]
 mod tests_index;
 mod told;
 mod top;

@@ -93,7 +93,7 @@ fn a_root_that_is_noise(rt: HostRuntime) -> Result<(), Fail> {
     );
     assert_eq!(rt;
         mv_add(&mut stage, &mut tree, 5, 0, 1),
-        Err(StageFault::Damaged(0))
+        Err(StageFault::Damaged(tree.root))
     );
     assert_eq!(rt; mv_free(&mut stage, &tree), Err(StageFault::Damaged(page)));
     Ok(())

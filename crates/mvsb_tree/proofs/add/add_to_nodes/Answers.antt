@@ -1,18 +1,20 @@
 use Rattle.std.proofs.Common.{◌≡◌, ◌⊎◌, ◌^◌, ◌<◌, ◌≤◌, inl, inr, ℕ, List, [], ◌∷◌, Some, None, Err, IsTrue, refl, sym, ap, ◌∙◌, subst, arith, rules}
 use Rattle.std.proofs.lemmas.Result.{err_from_is_err_and}
 use Rattle.bw_types.specs.declared.point.Point.{Point}
+use Rattle.bw_types.specs.declared.tree.Tree.{Tree}
+use Rattle.sb_tree.specs.Damage as over_versions
 use Rattle.page_ports.specs.Pages.{PageMap}
 use Rattle.page_ports.specs.declared.page.StageFault.TheVariants.{Damaged}
-use Rattle.mvsb_tree.specs.AddDamage.{IsDamagedAtRoot, IsRootClosed, KeepsDirectories}
+use Rattle.mvsb_tree.specs.AddDamage.{IsDamagedAtRoot, IsDamagedForRoot, IsRootClosed, KeepsDirectories}
 use Rattle.mvsb_tree.specs.Grown.{NodesHold}
 use Rattle.mvsb_tree.specs.Stands.{ChainStands, StandsOnWay, is_marked}
-use Rattle.mvsb_tree.specs.Steps.{chain_from, place_count, root_at, root_level}
+use Rattle.mvsb_tree.specs.Steps.{chain_from, directory, place_count, root_at, root_level}
 use Rattle.mvsb_tree.specs.Tops.{RootAdded}
-use Rattle.mvsb_tree.proofs.Beginning.{first_of_tree, root_ways}
+use Rattle.mvsb_tree.proofs.Beginning.{begun_root, first_of_tree, root_ways}
 use Rattle.mvsb_tree.proofs.Whole.{marked_own, nodes_hold}
 use Rattle.mvsb_tree.proofs.Costs.{low_moved, root_named}
 use Rattle.mvsb_tree.proofs.Directories.{made_keeps}
-use Rattle.mvsb_tree.proofs.Exits.{exit_error, read_damaged}
+use Rattle.mvsb_tree.proofs.Exits.{err_same_staged, exit_error, read_damaged}
 use Rattle.mvsb_tree.proofs.add.add_to_nodes.Goals as goal
 
 pub returns-then-tree-eq0-clause-added : goal.returns-then-tree-eq0-clause-added
@@ -90,11 +92,36 @@ returns-in_err-top-2-clause-sound g c = λ points page tells s few past b ordere
     f1 (marked_own points p key refl) (subst (λ (l : ℕ). ChainStands places m0 l) last_is s.chain) (subst (λ (l : ℕ). NodesHold v test m0 (chain_from places m0 l)) last_is (nodes_hold m0 tree points p v s past))
     (subst (λ (l : ℕ). (q : ℕ) → q < 2 ^ 64 → StandsOnWay (root_level m0 root) m0 (chain_from places m0 l) root v q 0 None 1) last_is ways) (omega (arith, low)))
 
+-- Looking for the root finds nothing damaged, where reading it does not, and there is one.
+root_found : (tree : Tree) (m : PageMap) (v : ℕ)
+    → ((page : ℕ) → over_versions.IsDamagedOnPath m (directory tree) v page ⊎ ((page ≡ tree.root) × (2 ^ 64 ≤ root_at m tree v)) → ⊥) → (root_at m tree v ≡ 0 → ⊥)
+    → (page : ℕ) → IsDamagedForRoot m tree v page → ⊥
+root_found tree m v whole some page (inl path) = whole page (inl path)
+root_found tree m v whole some page (inr here) = elim here.1 [
+  | inl none ↦ some none
+  | inr high ↦ whole page (inr (here.0, high))
+]
+
 pub returns-in_err-root-clause-damaged : goal.returns-in_err-root-clause-damaged
 returns-in_err-root-clause-damaged g c = λ page e tells. (
     let told = err_from_is_err_and c.from_residual-in_err-root.result c.from_residual-in_err-root.ensures.1 in
     let same = read_damaged c.from_residual-in_err-root.result c.in_err-root.field-0.0 page told e in
-    inl (c.if-tree-eq0.false, inl (c.in_err-root.ensures.damaged page (ap Err same) tells)))
+    inl (
+      c.if-tree-eq0.false,
+      inl (elim (c.in_err-root.ensures.damaged page (ap Err same) tells) [
+        | inl path ↦ inl path
+        | inr high ↦ inr (high.0, inr high.1)
+      ]),
+    ))
+
+pub returns-then-root-eq0-clause-damaged : goal.returns-then-root-eq0-clause-damaged
+returns-then-root-eq0-clause-damaged g c = λ page e tells.
+    inl (c.if-tree-eq0.false, inl (inr (sym (err_same_staged c.args.tree.now.root page e), inl (sym (c.in_ok-root.ensures.root tells) ∙ c.if-root-eq0.true))))
+
+pub returns-then-root-eq0-clause-sound : goal.returns-then-root-eq0-clause-sound
+returns-then-root-eq0-clause-sound g c = λ points page tells s few past b ordered e. (
+    let m0 : PageMap = g.S.Pages.map c.args.stage.now in
+    begun_root m0 c.args.tree.now points c.args.version s past c.if-tree-eq0.false c.requires.version (sym (c.in_ok-root.ensures.root tells) ∙ c.if-root-eq0.true))
 
 pub returns-in_err-top-2-clause-damaged : goal.returns-in_err-top-2-clause-damaged
 returns-in_err-top-2-clause-damaged g c = λ page e tells. (
@@ -111,7 +138,7 @@ returns-in_err-top-2-clause-damaged g c = λ page e tells. (
       | inl found ↦
           let d0 = subst (λ (m : PageMap). IsDamagedAtRoot m root key v c.args.value c.args.last.now tree.root page) read.map found in
           let d1 = subst (λ (r : ℕ). IsDamagedAtRoot m0 r key v c.args.value c.args.last.now tree.root page) root_is d0 in
-          inl (c.if-tree-eq0.false, inr (c.in_ok-root.ensures.whole tells, (subst (λ (l : ℕ). IsDamagedAtRoot m0 (root_at m0 tree v) key v c.args.value l tree.root page) c.requires.last d1)))
+          inl (c.if-tree-eq0.false, inr (root_found c.args.tree.now (g.S.Pages.map c.args.stage.now) v (c.in_ok-root.ensures.whole tells) (λ none. c.if-root-eq0.false (root_is ∙ none)), (subst (λ (l : ℕ). IsDamagedAtRoot m0 (root_at m0 tree v) key v c.args.value l tree.root page) c.requires.last d1)))
       | inr unordered ↦ inr (λ ordered. unordered (read.free_in_order ordered))
     ])
 

@@ -340,8 +340,11 @@ returns-in_default-clause-damaged g t c = λ p e tells. (
     let node = c.args.node in
     let is : node_on m0 c.args.page ≡ node = node_on-spelled m0 c.args.page node c.requires.typed c.requires.rules (c.requires.there tells) in
     elim (c.store.ensures.damaged p e tells (placed_as m0 c.args.page node c.add_to_leaf.new.node is c.requires.typed c.add_to_leaf.ensures.past)) [
-      | inl end ↦ inr (inl (whole_leaf m0 place node (c.in_default.ensures.none refl), ends_leaf node.level m0 node c.add_to_leaf.new.node place.key place.version c.args.value c.args.last.now p
-          (leaf_here node place.key place.version c.requires.placed.leads (c.in_default.ensures.none refl)) c.add_to_leaf.ensures.taken end))
+      | inl end ↦ inr (inl (
+        whole_leaf m0 place node (c.in_default.ensures.none refl),
+        ends_leaf node.level m0 node c.add_to_leaf.new.node place.key place.version c.args.value c.args.last.now p
+            (leaf_here node place.key place.version c.requires.placed.leads (c.in_default.ensures.none refl)) c.add_to_leaf.ensures.taken end,
+      ))
       | inr unordered ↦ inr (inr unordered)
     ])
 
@@ -404,8 +407,11 @@ returns-in_err-replaced-clause-damaged g t c = λ p e tells. (
           let child_is : node_on m0 step.child ≡ child = node_on-spelled m0 step.child child spelled.typed spelled.rules (c.in_ok-child.ensures.found tells) in
           let here = child_ends m0 (g.S.Pages.map c.read_in_place.new.pages) level child step.place place.key place.version c.args.value last p read.map child_level
           c.in-Some.ensures.leads.key c.in-Some.ensures.leads.version ends in
-          inr (inl (whole, subst (λ (l : ℕ). EndsOnWay l m0 node place.key place.version c.args.value last p) (sym at_level)
-          (ends_below level m0 step.child node child place.key place.version c.args.value last p c.in-Some.ensures.leads.child_is child_is here)))
+          inr (inl (
+            whole,
+            subst (λ (l : ℕ). EndsOnWay l m0 node place.key place.version c.args.value last p) (sym at_level)
+                (ends_below level m0 step.child node child place.key place.version c.args.value last p c.in-Some.ensures.leads.child_is child_is here),
+          ))
       | inr (inr unordered) ↦ inr (inr (λ ordered. unordered (read.free_in_order ordered)))
     ])
 
@@ -436,8 +442,11 @@ returns-clause-damaged g t c = λ p e tells. (
     let below : IsWholePast m0 step.place child = subst (λ (m : PageMap). IsWholePast m step.place child) read.map (c.in_ok-replaced.ensures.whole (read.tells ∙ tells)) in
     let whole = whole_index m0 place step.place node child step.child c.in-Some.ensures.leads (c.in_ok-child.ensures.found tells) (c.in_ok-child.ensures.node, can) below in
     elim (c.store-2.ensures.damaged p e (grows.tells ∙ read.tells ∙ tells) placed) [
-      | inl end ↦ inr (inl (whole, subst (λ (l : ℕ). EndsOnWay l m0 node place.key place.version c.args.value last p) (sym at_level)
-          (ends_above level m0 m1 step.child node child new place.key place.version c.args.value last last1 p replaced c.in-Some.ensures.leads.child_is child_is made c.change.ensures.taken end)))
+      | inl end ↦ inr (inl (
+        whole,
+        subst (λ (l : ℕ). EndsOnWay l m0 node place.key place.version c.args.value last p) (sym at_level)
+            (ends_above level m0 m1 step.child node child new place.key place.version c.args.value last last1 p replaced c.in-Some.ensures.leads.child_is child_is made c.change.ensures.taken end),
+      ))
       | inr unordered ↦ inr (inr (λ ordered. unordered (grows.free_in_order (read.tells ∙ tells) (read.free_in_order ordered))))
     ])
 
