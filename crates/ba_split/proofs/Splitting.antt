@@ -159,7 +159,7 @@ loop_next g dims level page d k index region above points own node first high ne
       let one : IsRedone dims own (above_cut region d k) index (g.map now) (g.map new) high next =
       subst (λ (r : Region). IsRedone dims own r index (g.map now) (g.map new) high next) above_is (redone (subst IsTrue (sym inv.went.tells) tells)) in
       subst (λ (i : ℕ). AreRedone dims own (above_cut region d k) i (put_page (g.map old) page (cut_page_page inv.low)) (g.map new) first next) (one_later index)
-          (g.map now, high, inv.redone tells, one);
+      (g.map now, high, inv.redone tells, one);
   so_far = λ may.
       let tells : IsTrue (g.tells now) = subst IsTrue (sym inv.went.tells) may.tells in
       so_far_next dims (level - 1) laws (g.map old) (g.map now) (g.map new) page inv.low (λ i. region_at (cuts_in node.cuts.items) region i) own points index node.entries.items inv.low.entries.items high next

@@ -18,6 +18,7 @@ pub mod EntriesSoFar
 pub mod Gathered
 pub mod HeldPage
 pub mod InCut
+pub mod IndexDamage
 pub mod Moved
 pub mod NoOutside
 pub mod OneOutside

@@ -77,7 +77,7 @@ leaf_full level pages page v x es new None leaf spelled on few t s = tt
 leaf_full level pages page v x es new (Some second) leaf spelled on few t s =
     let full = leaf_none_at es new v x few s.3 t in
     subst (λ (l : ℕ). IsFullBelow l pages page v) (sym leaf)
-        (record { spelled = spelled; count = ap (λ (xs : List SbEntry). length xs) on ∙ full.0 }, subst (λ (xs : List SbEntry). list_any (λ e. e.low == v) xs ≡ false) (sym on) full.1)
+    (record { spelled = spelled; count = ap (λ (xs : List SbEntry). length xs) on ∙ full.0 }, subst (λ (xs : List SbEntry). list_any (λ e. e.low == v) xs ≡ false) (sym on) full.1)
 
 -- The leaf of a tree that stands is raised.
 leaf_step : (m0 m2 : PageMap) (page least x : ℕ) (place : Place) (node : SbNode) (new : List SbEntry) (second : Option Second)

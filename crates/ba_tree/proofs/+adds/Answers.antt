@@ -8,7 +8,7 @@ use Rattle.ba_split.specs.Calls.{GoesOn}
 use Rattle.ba_tree.specs.Growth.{level_growth, tree_growth, outside_growth}
 use Rattle.ba_tree.specs.Taking.{IsGrown, TreeTook, IsKeptLow, IsStored, PageMayTake, PageTook, EntriesTook, MayJoin, OutsideTook, ChildWasSplit, CutWasMade, IsBalancedAs, split_entries}
 use Rattle.std.proofs.Math.Nat.{mul-le-mul_right}
-use Rattle.std.proofs.lemmas.Result.{err_from_is_err_and}
+use Rattle.std.proofs.lemmas.Result.{err_from_is_err_and, on_ok_weaker}
 use Rattle.bw_types.specs.Heights.{pages_a_point}
 use Rattle.bw_types.specs.declared.region.Region.{Region}
 use Rattle.bw_types.specs.declared.tree.Tree.{Tree}
@@ -45,7 +45,8 @@ use Rattle.ba_tree.proofs.Moved.{below, beside, own}
 use Rattle.ba_tree.proofs.OneOutside.{once_at}
 use Rattle.ba_tree.proofs.SomeEntry.{some_part}
 use Rattle.ba_tree.proofs.SomeTook.{SomeTook, all_took, none_took, one_more_took}
-use Rattle.std.specs.Prelude.{IsPermutation}
+use Rattle.std.specs.Prelude.{IsPermutation, slice_index}
+use Rattle.mvsb_tree.proofs.Indexing.{damaged_point, unchanged_stays}
 use Rattle.std.proofs.lemmas.List.Sorted.{length_permutation}
 use Rattle.page_layout.specs.Footprint.{NamesNoneTwice}
 use Rattle.ba_build.proofs.Children.{told}
@@ -75,6 +76,17 @@ adding::add_point-returns-then-dims-eq1-clause-goes_on g t c = λ tells points s
     c.mv_add.ensures.stands c.mv_add.ensures.change c.mv_add.ensures.balanced c.mv_add.ensures.few c.mv_add.ensures.sound
 
 -- src/adding.rt:59:17
+pub adding::add_point-returns-then-dims-eq1-clause-keys_apart :
+    goal.adding::add_point-returns-then-dims-eq1-clause-keys_apart
+adding::add_point-returns-then-dims-eq1-clause-keys_apart g t c = on_ok_weaker c.mv_add.result (λ told tells one page some not_changed.
+    unchanged_stays (g.S.Pages.map c.args.stage.now) (g.S.Pages.map c.mv_add.new.stage) c.args.tree.now (slice_index c.args.point.now.keys 0) c.args.point.now.version page (told tells) some not_changed) c.mv_add.ensures.apart
+
+pub adding::add_point-returns-then-dims-eq1-clause-keys_damaged :
+    goal.adding::add_point-returns-then-dims-eq1-clause-keys_damaged
+adding::add_point-returns-then-dims-eq1-clause-keys_damaged g t c = λ page e tells one.
+    damaged_point (g.S.Pages.map c.args.stage.now) (g.S.Pages.free_in_order c.args.stage.now) c.args.tree.now (slice_index c.args.point.now.keys 0) c.args.point.now.version c.args.point.now.weight page
+    (c.mv_add.ensures.damaged page e tells)
+
 pub adding::add_point-returns-in_err-grown-clause-goes_on :
     goal.adding::add_point-returns-in_err-grown-clause-goes_on
 adding::add_point-returns-in_err-grown-clause-goes_on g t c = λ tells points stands fresh.

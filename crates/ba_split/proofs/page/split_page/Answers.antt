@@ -102,20 +102,20 @@ returns-in_err-redo_entry-clause-damaged g c = λ p e tells. (
     c.in_ok-own.ensures.points ∙ ap (λ (r : Region). points_of_class c.args.dims r Inside c.args.points.now) c.above_cut-above.ensures in
     elim (c.in_err-redo_entry.ensures.damaged p (ap Err is) (subst IsTrue (sym inv.went.tells) tells)) [
       | inl found ↦ inl (record {
-          dimension = d;
-          key = k;
-          low = inv.low;
-          high = c.split_first_cut-dimension.result.3;
-          cut = inv.off.cut;
-          entries = inv.off.entries;
-          index = c.loop-index.index;
-          inside = omega (arith, lt, same, number);
-          later = g.S.Pages.map c.loop-index.stage;
-          now = c.loop-index.high;
-          redone = subst (λ (ps : List Point). AreRedone c.args.dims ps (above_cut c.args.region.now d k) c.loop-index.index
-              (put_page (g.S.Pages.map c.args.stage.now) c.args.page (cut_page_page inv.low)) (g.S.Pages.map c.loop-index.stage) c.split_first_cut-dimension.result.3 c.loop-index.high) own_is (inv.redone tells);
-          found = found;
-        })
+        dimension = d;
+        key = k;
+        low = inv.low;
+        high = c.split_first_cut-dimension.result.3;
+        cut = inv.off.cut;
+        entries = inv.off.entries;
+        index = c.loop-index.index;
+        inside = omega (arith, lt, same, number);
+        later = g.S.Pages.map c.loop-index.stage;
+        now = c.loop-index.high;
+        redone = subst (λ (ps : List Point). AreRedone c.args.dims ps (above_cut c.args.region.now d k) c.loop-index.index
+            (put_page (g.S.Pages.map c.args.stage.now) c.args.page (cut_page_page inv.low)) (g.S.Pages.map c.loop-index.stage) c.split_first_cut-dimension.result.3 c.loop-index.high) own_is (inv.redone tells);
+        found = found;
+      })
       | inr unordered ↦ inr (λ ordered. unordered (inv.went.free_in_order tells ordered))
     ])
 
