@@ -1,5 +1,5 @@
 -- The calls by which a page and the pages below it take a point.
-use Rattle.std.proofs.Common.{◌≡◌, ◌≢◌, ℕ, zero, suc, ◌+◌, ◌-◌, ◌*◌, ◌<◌, ◌≤◌, nat_le, IsTrue, List, ◌∷◌, ◌++◌, length, map, get_or, slice_index_or, Option, Some, Result, refl, sym, ap, ◌∙◌, subst, arith}
+use Rattle.std.proofs.Common.{◌≡◌, ◌≢◌, ℕ, zero, suc, ◌+◌, ◌-◌, ◌*◌, ◌<◌, ◌≤◌, nat_le, IsTrue, List, length, map, get_or, Option, Result, refl, sym, ap, ◌∙◌, subst, arith}
 use Rattle.std.specs.List.{All, flat_map}
 use Rattle.std.proofs.lemmas.Bool.{leb-true}
 use Rattle.std.proofs.lemmas.List.{get_or_default, length-map}
@@ -14,7 +14,7 @@ use Rattle.page_ports.specs.declared.page.StageFault.{StageFault}
 use Rattle.page_ports.specs.declared.pages.Pages.{Ghosts}
 use Rattle.page_layout.specs.BaEntry.{ba_entry_fits, outside_fits}
 use Rattle.page_layout.specs.CutPage.{cut_page_page}
-use Rattle.page_layout.specs.Cuts.{Cuts, cuts_in, entry_count, in_dimensions}
+use Rattle.page_layout.specs.Cuts.{Cuts, entry_count, in_dimensions}
 use Rattle.page_layout.specs.Footprint.{NamesNoneTwice}
 use Rattle.page_layout.specs.FootprintLaws.{once_right}
 use Rattle.page_layout.specs.Regions.{region_at}

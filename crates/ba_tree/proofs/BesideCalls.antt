@@ -1,10 +1,10 @@
 -- The calls by which each entry of a page in memory takes a point beside its part of the region.
-use Rattle.std.proofs.Common.{◌≡◌, ◌≢◌, ℕ, ◌+◌, ◌-◌, ◌*◌, ◌<◌, ◌≤◌, ◌&&◌, nat_le, inl, inr, Bool, true, false, IsTrue, IsSome, IfSome, List, length, get_or, slice_index_or, Option, Some, Result, refl, sym, ap, ◌∙◌, subst, arith}
+use Rattle.std.proofs.Common.{◌≡◌, ℕ, ◌+◌, ◌-◌, ◌*◌, ◌<◌, ◌≤◌, nat_le, inl, inr, Bool, true, false, IsTrue, IsSome, IfSome, List, length, get_or, slice_index_or, Option, Some, Result, refl, sym, ap, ◌∙◌, subst, arith}
 use Rattle.std.specs.List.{All}
 use Rattle.std.proofs.Math.Nat.{mul-le-mul_right}
 use Rattle.std.proofs.lemmas.Bool.{cases_eq, false≢true}
 use Rattle.std.proofs.lemmas.List.{get_or_default}
-use Rattle.bw_types.specs.Classes.{class_of, is_same_class, lies_in}
+use Rattle.bw_types.specs.Classes.{class_of, lies_in}
 use Rattle.bw_types.specs.declared.ba_entry.BaEntry.{BaEntry}
 use Rattle.bw_types.specs.declared.ba_entry.Outside.{Outside}
 use Rattle.bw_types.specs.declared.class.Class.{Class}

@@ -1,14 +1,13 @@
 -- One of the trees in which an entry keeps points outside its region takes a point, and the others stay.
 use Rattle.std.proofs.Common.{◌≡◌, ◌≢◌, ℕ, zero, suc, IsTrue, ◌&&◌, ◌-◌, ◌<◌, ◌≤◌, Bool, true, false, inl, inr, List, [], ◌∷◌, ◌++◌, length, get_or, map, set, slice_index_or, refl, sym, ap, ◌∙◌, subst, arith}
-use Rattle.std.specs.List.{All, filter, flat_map, list_all}
-use Rattle.std.proofs.lemmas.Bool.{cases_eq, cases_lt, eq-eqb, ne_eqb}
+use Rattle.std.specs.List.{All, flat_map, list_all}
+use Rattle.std.proofs.lemmas.Bool.{cases_eq, cases_lt, ne_eqb}
 use Rattle.std.proofs.lemmas.List.{get_or-set_other, get_or-set_same, length-set}
 use Rattle.std.proofs.lemmas.List.Elements.{All-from_get_or, All-get_or, All-set}
 use Rattle.bw_types.specs.Classes.{border_points, class_of, is_outside, is_same_class, points_of_class, without_dimension}
 use Rattle.bw_types.specs.Empty.{empty_tree}
 use Rattle.bw_types.specs.declared.ba_entry.Outside.{Outside}
 use Rattle.bw_types.specs.declared.ba_entry.Outside.TheVariants.{Trees}
-use Rattle.bw_types.specs.declared.class.Class.{Class}
 use Rattle.bw_types.specs.declared.class.Class.TheVariants.{Below, Border}
 use Rattle.bw_types.specs.declared.point.Point.{Point}
 use Rattle.bw_types.specs.declared.region.Region.{Region}

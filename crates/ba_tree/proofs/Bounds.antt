@@ -1,9 +1,8 @@
 -- Numbers of pages that additions give out.
-use Rattle.std.proofs.Common.{◌≡◌, ℕ, zero, suc, ◌+◌, ◌-◌, ◌*◌, ◌<◌, ◌≤◌, ◌==◌, ◌&&◌, nat_lt, if◌then◌else◌, Bool, true, false, inl, inr, ap, arith}
+use Rattle.std.proofs.Common.{◌≡◌, ℕ, zero, suc, ◌+◌, ◌-◌, ◌*◌, ◌≤◌, ◌==◌, ◌&&◌, nat_lt, if◌then◌else◌, Bool, true, false, ap, arith}
 use Rattle.std.proofs.lemmas.Bool.{lt-leb}
 use Rattle.std.proofs.Math.Nat.{mul-le-mul}
 use Rattle.bw_types.specs.Heights.{AddingGrows, added_pages, built_height, pages_a_point}
-use Rattle.ba_build.proofs.Filtered.{a_page_each}
 use Rattle.ba_tree.specs.Growth.{outside_growth, tree_growth}
 
 -- An addition may take eight pages at least.

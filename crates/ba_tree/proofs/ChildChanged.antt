@@ -1,5 +1,5 @@
 -- A page in memory of which one child took a point: its page stays, or was split.
-use Rattle.std.proofs.Common.{◌≡◌, ◌≢◌, ℕ, suc, ◌+◌, ◌-◌, ◌^◌, ◌<◌, inl, inr, List, [], ◌∷◌, ◌++◌, length, get_or, set, slice_index_or, take, drop, refl, sym, ap, ◌∙◌, subst, arith, append_assoc, drop-cons}
+use Rattle.std.proofs.Common.{◌≡◌, ◌≢◌, ℕ, suc, ◌-◌, ◌<◌, inl, inr, List, [], ◌∷◌, ◌++◌, length, get_or, slice_index_or, take, drop, sym, ap, ◌∙◌, subst, arith, append_assoc, drop-cons}
 use Rattle.std.specs.Prelude.{IsPermutation}
 use Rattle.std.specs.List.{All, flat_map}
 use Rattle.std.proofs.lemmas.Bool.{cases_eq}
@@ -16,16 +16,16 @@ use Rattle.page_ports.specs.Pages.{PageMap}
 use Rattle.page_layout.specs.BaEntry.{IsBaEntryTyped}
 use Rattle.page_layout.specs.Cuts.{Cuts, entry_count}
 use Rattle.page_layout.specs.Footprint.{NamesNoneTwice}
-use Rattle.page_layout.specs.FootprintLaws.{apart_sym, once_apart, once_join, once_left}
-use Rattle.page_layout.specs.Regions.{above_cut, below_cut, cut_at, region_at}
+use Rattle.page_layout.specs.FootprintLaws.{once_apart, once_join, once_left}
+use Rattle.page_layout.specs.Regions.{cut_at, region_at}
 use Rattle.kdb_pages.proofs.Partition.{cut_counted, cut_proper}
 use Rattle.sb_tree.proofs.Frames.{agree_left, agree_right}
 use Rattle.ba_trees.specs.Kinds.{trees_over, version_trees}
 use Rattle.ba_trees.specs.Laws.{AllKeepLaws}
 use Rattle.ba_trees.specs.Pages.{no_entry}
-use Rattle.ba_trees.specs.Stands.{BalancedBelow, OutsideIsBalanced, OutsideStands, StandsBelow, outside_pages, pages_below, points_below}
+use Rattle.ba_trees.specs.Stands.{BalancedBelow, OutsideIsBalanced, OutsideStands, StandsBelow, pages_below, points_below}
 use Rattle.ba_build.proofs.Paging.{Laws}
-use Rattle.ba_split.specs.Open.{AreBalanced, ChildrenStand, OutsidesStand}
+use Rattle.ba_split.specs.Open.{ChildrenStand, OutsidesStand}
 use Rattle.ba_split.specs.Splits.{AreSplit}
 use Rattle.ba_tree.specs.Taking.{ChildWasSplit, PageHolds, split_entries}
 use Rattle.ba_split.specs.declared.split.Split.{Split}
@@ -35,7 +35,7 @@ use Rattle.ba_tree.proofs.Moved.{below, beside, child_moved, inside, outside_mov
 use Rattle.ba_tree.proofs.NoOutside.{none_balanced, none_pages}
 use Rattle.ba_tree.proofs.OneOutside.{entries_there, once_at}
 use Rattle.ba_split.proofs.Parts.{flat_around, others_agree, replaced_at}
-use Rattle.ba_tree.proofs.TwoForOne.{as_two, each_of_two, two_counted, with_two}
+use Rattle.ba_tree.proofs.TwoForOne.{as_two, each_of_two, two_counted}
 
 -- One point more in the middle.
 point_more : (xs ys zs : List Point) (more : List Point) (p : Point) → IsPermutation more (p ∷ ys) → IsPermutation (xs ++ (more ++ zs)) (p ∷ (xs ++ (ys ++ zs)))

@@ -1,10 +1,10 @@
 -- What an entry keeps outside its region of points, by what of them is outside, and when a point comes.
-use Rattle.std.proofs.Common.{◌≡◌, ◌⊎◌, ℕ, zero, suc, ◌-◌, ◌<◌, ◌&&◌, not, if◌then◌else◌, nat_eq, nat_le, nat_lt, Bool, true, false, cond, inl, inr, List, [], ◌∷◌, length, map, take, slice_index_or, refl, sym, ap, ◌∙◌, subst, arith}
+use Rattle.std.proofs.Common.{◌≡◌, ◌⊎◌, ℕ, zero, suc, ◌-◌, ◌<◌, ◌&&◌, not, if◌then◌else◌, Bool, true, false, cond, inl, inr, List, [], ◌∷◌, length, map, take, slice_index_or, refl, sym, ap, ◌∙◌, subst, arith}
 use Rattle.std.specs.Prelude.{IsPermutation}
 use Rattle.std.specs.List.{filter}
 use Rattle.std.proofs.lemmas.Bool.{cases_Bool, cases_lt, eq-eqb, false≢true, le-leb, le-ltb, lt-ltb}
 use Rattle.std.proofs.lemmas.List.{length-take}
-use Rattle.std.proofs.lemmas.List.Sorted.{IsPermutation-map, IsPermutation-refl, IsPermutation-trans}
+use Rattle.std.proofs.lemmas.List.Sorted.{IsPermutation-map, IsPermutation-trans}
 use Rattle.bw_types.specs.Classes.{border_points, class_of, first_below, is_outside, is_same_class, keys_before, points_of_class, points_outside, without_dimension}
 use Rattle.bw_types.specs.Dominance.{keys_at_most}
 use Rattle.bw_types.specs.Empty.{empty_tree, no_points}

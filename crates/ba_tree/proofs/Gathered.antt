@@ -1,12 +1,10 @@
 -- The points below the entries of a page in memory, gathered one after another.
-use Rattle.std.proofs.Common.{◌≡◌, ◌⊎◌, ℕ, ◌+◌, ◌<◌, ◌≤◌, List, [], ◌++◌, length, take, get_or, slice_index_or, inl, inr, refl, sym, ap, ◌∙◌, subst, arith}
+use Rattle.std.proofs.Common.{◌≡◌, ◌⊎◌, ℕ, ◌+◌, ◌<◌, ◌≤◌, List, [], ◌++◌, length, take, get_or, inl, inr, sym, ap, subst, arith}
 use Rattle.std.specs.List.{All, flat_map}
-use Rattle.std.proofs.lemmas.List.{append-nil, get_or_default}
 use Rattle.bw_types.specs.declared.ba_entry.BaEntry.{BaEntry}
 use Rattle.bw_types.specs.declared.point.Point.{Point}
 use Rattle.page_ports.specs.Pages.{PageMap}
 use Rattle.ba_trees.specs.Kinds.{trees_over, version_trees}
-use Rattle.ba_trees.specs.Pages.{no_entry}
 use Rattle.ba_trees.specs.Stands.{points_below}
 use Rattle.ba_build.proofs.Children.{IsDamagedFrom, child_points, no_more_points, one_more_child, undamaged}
 use Rattle.ba_tree.specs.Taking.{StandsSomewhere}

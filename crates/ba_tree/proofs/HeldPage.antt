@@ -1,5 +1,5 @@
 -- A page that is in the map while its entries change in memory.
-use Rattle.std.proofs.Common.{◌≡◌, ℕ, ◌-◌, ◌<◌, true, false, inl, inr, List, [], ◌∷◌, ◌++◌, IsSome, Option, None, Some, refl, sym, ap, ◌∙◌, subst, arith}
+use Rattle.std.proofs.Common.{◌≡◌, ℕ, ◌-◌, false, inl, inr, List, [], ◌∷◌, ◌++◌, IsSome, Option, None, Some, refl, sym, subst}
 use Rattle.std.specs.Prelude.{IsPermutation}
 use Rattle.std.specs.List.{flat_map}
 use Rattle.std.proofs.lemmas.List.Sorted.{IsPermutation-trans}
@@ -14,8 +14,7 @@ use Rattle.page_layout.specs.Footprint.{NamesNoneTwice}
 use Rattle.ba_trees.specs.Kinds.{trees_over, version_trees}
 use Rattle.ba_trees.specs.Stands.{BalancedBelow, pages_below, points_below}
 use Rattle.ba_split.specs.Open.{AreBalanced}
-use Rattle.ba_split.specs.Splits.{AreSplit}
-use Rattle.ba_tree.specs.Taking.{IsBalancedAs, IsStored, PageHolds, PageTook}
+use Rattle.ba_tree.specs.Taking.{IsBalancedAs, IsStored, PageTook}
 use Rattle.ba_split.specs.declared.split.Split.{Split}
 use Rattle.ba_tree.proofs.InCut.{LedTo}
 use Rattle.ba_tree.proofs.Moved.{own}

@@ -1,5 +1,5 @@
 -- A page in memory while an entry of it is cut: its children stand, and some entries keep what is outside their parts.
-use Rattle.std.proofs.Common.{◌≡◌, ◌≢◌, ℕ, ◌+◌, ◌-◌, ◌^◌, ◌<◌, ◌≤◌, inl, inr, List, [], ◌∷◌, ◌++◌, length, get_or, set, slice_index_or, take, drop, refl, sym, ap, ◌∙◌, subst, arith}
+use Rattle.std.proofs.Common.{◌≡◌, ◌≢◌, ℕ, ◌+◌, ◌-◌, ◌^◌, ◌<◌, ◌≤◌, inl, inr, List, [], length, get_or, set, slice_index_or, refl, sym, ap, ◌∙◌, subst, arith}
 use Rattle.std.specs.Prelude.{IsPermutation}
 use Rattle.std.specs.List.{All, flat_map}
 use Rattle.std.proofs.lemmas.Bool.{cases_eq}
@@ -14,7 +14,7 @@ use Rattle.bw_types.specs.declared.region.Region.{Region}
 use Rattle.page_ports.specs.Frame.{Replaces}
 use Rattle.page_ports.specs.FrameLaws.{Replaces-then}
 use Rattle.page_ports.specs.Pages.{PageMap}
-use Rattle.page_layout.specs.BaEntry.{IsBaEntryTyped, IsOutsideTyped}
+use Rattle.page_layout.specs.BaEntry.{IsBaEntryTyped}
 use Rattle.page_layout.specs.CutPage.{IsTyped}
 use Rattle.page_layout.specs.Cuts.{Cuts, cuts_in, entry_count}
 use Rattle.page_layout.specs.Footprint.{NamesNoneTwice}
@@ -24,7 +24,7 @@ use Rattle.page_layout.specs.declared.cut_page.CutPage.{CutPage}
 use Rattle.ba_trees.specs.Kinds.{trees_over, version_trees}
 use Rattle.ba_trees.specs.Laws.{AllKeepLaws}
 use Rattle.ba_trees.specs.Pages.{no_entry}
-use Rattle.ba_trees.specs.Stands.{OutsideIsBalanced, OutsideStands, outside_pages, points_below}
+use Rattle.ba_trees.specs.Stands.{OutsideIsBalanced, OutsideStands, outside_pages}
 use Rattle.ba_build.proofs.Paging.{Laws}
 use Rattle.ba_split.specs.Open.{AreBalanced, ChildrenStand, NodeStands, OutsidesStand}
 use Rattle.ba_split.specs.Splits.{IsRedone}

@@ -1,11 +1,10 @@
 -- A point that is new to points is so at a border of a region, without the border's dimension.
-use Rattle.std.proofs.Common.{◌≡◌, ℕ, ◌-◌, ◌<◌, ◌≤◌, refl, Bool, true, IsTrue, List, [], ◌∷◌, get_or, map, sym, ap, ◌∙◌, subst, arith}
-use Rattle.std.specs.List.{All, AllPairs, filter}
+use Rattle.std.proofs.Common.{◌≡◌, ℕ, ◌-◌, ◌≤◌, refl, Bool, true, IsTrue, List, [], ◌∷◌, get_or, map, ap, ◌∙◌, subst, arith}
+use Rattle.std.specs.List.{All, filter}
 use Rattle.std.proofs.lemmas.Bool.{eq-eqb}
 use Rattle.std.proofs.lemmas.List.Elements.{All-cons, All-filter, All-map, All-nil, filter_passes}
 use Rattle.std.proofs.lemmas.List.Kept.{AllPairs-cons}
-use Rattle.bw_types.specs.Classes.{border_points, class_of, is_same_class, points_of_class, without_dimension}
-use Rattle.bw_types.specs.declared.class.Class.{Class}
+use Rattle.bw_types.specs.Classes.{border_points, class_of, is_same_class, without_dimension}
 use Rattle.bw_types.specs.declared.class.Class.TheVariants.{Border}
 use Rattle.bw_types.specs.declared.point.Point.{Point}
 use Rattle.bw_types.specs.declared.region.Region.{Region}

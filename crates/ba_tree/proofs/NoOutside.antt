@@ -1,17 +1,15 @@
 -- An entry that keeps nothing outside its region.
-use Rattle.std.proofs.Common.{◌≡◌, ℕ, zero, suc, ◌-◌, ◌<◌, ◌≤◌, ◌^◌, nat_le, true, IsTrue, lit<, List, [], ◌∷◌, ◌++◌, slice_index_or, refl, sym, ap, ◌∙◌, subst, arith}
-use Rattle.std.specs.List.{All, flat_map}
+use Rattle.std.proofs.Common.{◌≡◌, ℕ, zero, suc, ◌-◌, ◌<◌, ◌≤◌, ◌^◌, nat_le, true, IsTrue, lit<, List, [], ◌∷◌, ◌++◌, slice_index_or, refl, sym, ap, ◌∙◌, subst}
 use Rattle.std.proofs.lemmas.Bool.{and_from, le-leb}
 use Rattle.std.proofs.lemmas.List.Elements.{All-from_get_or}
 use Rattle.bw_types.specs.Empty.{empty_tree, no_points}
-use Rattle.bw_types.specs.declared.ba_entry.BaEntry.{BaEntry}
 use Rattle.bw_types.specs.declared.region.Region.{Region}
 use Rattle.bw_types.specs.declared.tree.Tree.{Tree}
 use Rattle.page_ports.specs.Pages.{PageMap}
-use Rattle.page_layout.specs.BaEntry.{IsBaEntryTyped, IsOutsideTyped, ba_entry_fits}
+use Rattle.page_layout.specs.BaEntry.{IsBaEntryTyped, ba_entry_fits}
 use Rattle.page_layout.specs.TreeValue.{IsTreeTyped}
 use Rattle.ba_trees.specs.Kinds.{trees_over, version_trees}
-use Rattle.ba_trees.specs.Laws.{AllKeepLaws, KeepsLaws}
+use Rattle.ba_trees.specs.Laws.{AllKeepLaws}
 use Rattle.ba_trees.specs.Stands.{OutsideIsBalanced, OutsideStands, outside_pages}
 
 empty_at : (i : ℕ) → slice_index_or (empty_tree ∷ empty_tree ∷ empty_tree ∷ []) i empty_tree ≡ empty_tree

@@ -1,5 +1,5 @@
 -- Outsides that are told to be without points are.
-use Rattle.std.proofs.Common.{◌≡◌, ℕ, ◌==◌, ◌&&◌, Bool, true, false, List, [], ◌∷◌, refl, arith}
+use Rattle.std.proofs.Common.{◌≡◌, ◌==◌, ◌&&◌, Bool, true, false, [], ◌∷◌}
 use Rattle.std.proofs.lemmas.Bool.{and_parts, eqb-true, false≢true}
 use Rattle.bw_types.specs.Empty.{empty_tree, no_points}
 use Rattle.bw_types.specs.contracts.ba_entry.OutsidePartialEq.TheImpl.{ghosts}

@@ -1,5 +1,5 @@
 -- A page in memory, of which one entry's outside was replaced by another.
-use Rattle.std.proofs.Common.{◌≡◌, ◌≢◌, ℕ, zero, suc, ◌-◌, ◌<◌, inl, inr, List, [], ◌∷◌, ◌++◌, length, get_or, set, refl, sym, ap, ◌∙◌, subst, arith}
+use Rattle.std.proofs.Common.{◌≡◌, ◌≢◌, ℕ, zero, suc, ◌-◌, ◌<◌, inl, inr, List, [], ◌∷◌, ◌++◌, length, get_or, set, sym, ap, ◌∙◌, subst, arith}
 use Rattle.std.specs.Prelude.{IsPermutation}
 use Rattle.std.specs.List.{All, flat_map}
 use Rattle.std.proofs.lemmas.Bool.{cases_eq}
@@ -21,8 +21,8 @@ use Rattle.sb_tree.proofs.Frames.{agree_left, agree_right}
 use Rattle.sb_tree.proofs.Freeing.{all_in_map}
 use Rattle.ba_trees.specs.Kinds.{trees_over, version_trees}
 use Rattle.ba_trees.specs.Pages.{no_entry}
-use Rattle.ba_trees.specs.Stands.{BalancedBelow, OutsideIsBalanced, OutsideStands, StandsBelow, outside_pages, pages_below, points_below}
-use Rattle.ba_trees.proofs.Lists.{flat_same, in_map_each}
+use Rattle.ba_trees.specs.Stands.{BalancedBelow, OutsideIsBalanced, OutsideStands, StandsBelow, outside_pages, points_below}
+use Rattle.ba_trees.proofs.Lists.{in_map_each}
 use Rattle.ba_build.proofs.Paging.{Laws, flat_beside}
 use Rattle.ba_split.specs.Open.{AreBalanced, ChildrenStand}
 use Rattle.ba_tree.proofs.Moved.{below, beside, child_moved, inside, outside_moved, own}

@@ -1,7 +1,7 @@
 -- An index page read into memory, and a page in memory put back.
-use Rattle.std.proofs.Common.{◌≡◌, ℕ, zero, suc, ◌-◌, ◌<◌, ◌≤◌, ◌==◌, true, false, inl, inr, List, [], ◌∷◌, ◌++◌, length, get_or, slice_index_or, Some, IsSome, refl, sym, ap, ◌∙◌, subst, arith}
+use Rattle.std.proofs.Common.{◌≡◌, ℕ, zero, suc, ◌-◌, ◌<◌, ◌≤◌, ◌==◌, false, inl, inr, List, [], ◌∷◌, length, get_or, slice_index_or, Some, refl, sym, ap, ◌∙◌, subst, arith}
 use Rattle.std.specs.Prelude.{IsPermutation}
-use Rattle.std.specs.List.{All, flat_map}
+use Rattle.std.specs.List.{flat_map}
 use Rattle.std.proofs.lemmas.Bool.{cases_Bool, eqb-true, eq-eqb, false≢true}
 use Rattle.std.proofs.lemmas.List.Sorted.{IsPermutation-refl, IsPermutation-sym}
 use Rattle.bw_types.specs.declared.ba_entry.BaEntry.{BaEntry}
@@ -11,19 +11,19 @@ use Rattle.page_ports.specs.Frame.{AgreeOn, Replaces, names_page}
 use Rattle.page_ports.specs.FrameLaws.{Replaces-beside, Replaces-put, Replaces-same}
 use Rattle.page_ports.specs.Pages.{PageMap, put_page}
 use Rattle.page_layout.specs.CutPage.{IsCutPage, IsTyped, cut_page_page}
-use Rattle.page_layout.specs.Cuts.{Cuts, cuts_in, entry_count}
+use Rattle.page_layout.specs.Cuts.{Cuts, cuts_in}
 use Rattle.page_layout.specs.Footprint.{NamesNoneTwice}
 use Rattle.page_layout.specs.Regions.{AreProper, region_at}
 use Rattle.page_layout.specs.declared.cut_page.CutPage.{CutPage}
 use Rattle.kdb_pages.proofs.Splitting.{spelled_count}
 use Rattle.ba_trees.specs.Kinds.{trees_over, version_trees}
 use Rattle.ba_trees.specs.Pages.{cuts_on, no_entry}
-use Rattle.ba_trees.specs.Stands.{BalancedBelow, OutsideIsBalanced, OutsideStands, StandsBelow, outside_pages, pages_below, points_below}
+use Rattle.ba_trees.specs.Stands.{BalancedBelow, OutsideStands, StandsBelow, pages_below, points_below}
 use Rattle.ba_build.proofs.Found.{cuts_found}
 use Rattle.ba_build.proofs.Paging.{Laws}
-use Rattle.ba_split.specs.Open.{AreBalanced, NodeStands, entry_pages}
+use Rattle.ba_split.specs.Open.{AreBalanced, NodeStands}
 use Rattle.ba_tree.specs.Taking.{PageHolds}
-use Rattle.ba_tree.proofs.Moved.{inside, node_moved, own, all_points_same}
+use Rattle.ba_tree.proofs.Moved.{inside, node_moved, own}
 
 -- What is known of an index page of this level that was read into memory.
 pub record IsOpened (dims level : ℕ) (m : PageMap) (region : Region) (page : ℕ) (node : CutPage) : Type 0 where

@@ -1,5 +1,5 @@
 -- Freeing what an entry keeps outside its region, and gathering points, as calls among others.
-use Rattle.std.proofs.Common.{◌≡◌, ◌≢◌, ℕ, ◌-◌, ◌<◌, true, inl, inr, List, [], length, slice_index_or, Result, Ok, Err, IsTrue, refl, sym, ap, ◌∙◌, subst, arith}
+use Rattle.std.proofs.Common.{◌≡◌, ℕ, ◌-◌, inl, inr, List, [], slice_index_or, Result, refl, sym, ◌∙◌, subst, arith}
 use Rattle.std.proofs.lemmas.Bool.{cases_lt}
 use Rattle.std.proofs.lemmas.List.{get_or_default}
 use Rattle.bw_types.specs.Classes.{border_points, points_of_class}
@@ -14,7 +14,6 @@ use Rattle.page_ports.specs.Calls.{Changes}
 use Rattle.page_ports.specs.FrameLaws.{Replaces-same}
 use Rattle.page_ports.specs.Pages.{PageMap}
 use Rattle.page_ports.specs.declared.page.StageFault.{StageFault}
-use Rattle.page_ports.specs.declared.page.StageFault.TheVariants.{Damaged}
 use Rattle.page_ports.specs.declared.pages.Pages.{Ghosts}
 use Rattle.page_layout.specs.BaEntry.{IsOutsideTyped}
 use Rattle.page_layout.specs.Footprint.{NamesNoneTwice}

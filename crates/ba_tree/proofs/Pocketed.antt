@@ -1,16 +1,16 @@
 -- A point that is outside an entry's region, where the entry keeps a pocket or nothing yet.
-use Rattle.std.proofs.Common.{◌≡◌, ℕ, ◌+◌, ◌-◌, ◌*◌, ◌<◌, ◌≤◌, ◌==◌, cond, true, Bool, List, [], ◌∷◌, ◌++◌, length, length-append, map, Some, None, Option, refl, sym, ap, ◌∙◌, subst, arith}
+use Rattle.std.proofs.Common.{◌≡◌, ℕ, ◌+◌, ◌-◌, ◌*◌, ◌<◌, ◌≤◌, cond, true, Bool, List, [], ◌∷◌, ◌++◌, length, length-append, Some, Option, refl, sym, ap, ◌∙◌, subst, arith}
 use Rattle.std.specs.Prelude.{IsPermutation}
-use Rattle.std.specs.List.{All, flat_map}
+use Rattle.std.specs.List.{All}
 use Rattle.std.proofs.lemmas.Bool.{eq-eqb}
 use Rattle.std.proofs.lemmas.List.Elements.{All-push}
 use Rattle.std.proofs.lemmas.List.Sorted.{IsPermutation-append_comm, IsPermutation-cons, IsPermutation-refl, IsPermutation-sym, IsPermutation-trans, length_permutation}
 use Rattle.std.proofs.lemmas.Nat.{mul-le}
 use Rattle.bw_types.specs.Classes.{class_of, is_outside, points_outside}
-use Rattle.bw_types.specs.Empty.{empty_tree, no_points}
+use Rattle.bw_types.specs.Empty.{no_points}
 use Rattle.bw_types.specs.Heights.{pages_a_point}
 use Rattle.bw_types.specs.declared.ba_entry.Outside.{Outside}
-use Rattle.bw_types.specs.declared.ba_entry.Outside.TheVariants.{Pocket, Trees}
+use Rattle.bw_types.specs.declared.ba_entry.Outside.TheVariants.{Pocket}
 use Rattle.bw_types.specs.declared.point.Point.{Point}
 use Rattle.bw_types.specs.declared.region.Region.{Region}
 use Rattle.page_ports.specs.Frame.{Replaces}

@@ -1,5 +1,5 @@
 -- Of the parts of a region that holds a point's keys one holds them.
-use Rattle.std.proofs.Common.{◌≡◌, ◌≢◌, ℕ, ◌<◌, ◌≤◌, inl, inr, IsTrue, List, length, slice_index, set, get_or, get_or-set_other, sym, subst, arith}
+use Rattle.std.proofs.Common.{◌≡◌, ℕ, ◌<◌, ◌≤◌, inl, inr, IsTrue, List, length, slice_index, set, get_or-set_other, sym, subst, arith}
 use Rattle.std.proofs.lemmas.Bool.{cases_eq, cases_lt}
 use Rattle.std.proofs.lemmas.List.{get_or-set_same}
 use Rattle.bw_types.specs.Classes.{lies_in}

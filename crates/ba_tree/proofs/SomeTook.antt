@@ -1,5 +1,5 @@
 -- What the first entries of a page in memory keep outside their parts took a point.
-use Rattle.std.proofs.Common.{◌≡◌, ◌≢◌, ℕ, ◌+◌, ◌-◌, ◌<◌, ◌≤◌, inl, inr, List, ◌∷◌, ◌++◌, length, get_or, set, slice_index_or, sym, ap, ◌∙◌, subst, arith}
+use Rattle.std.proofs.Common.{◌≡◌, ◌≢◌, ℕ, ◌+◌, ◌-◌, ◌<◌, ◌≤◌, inl, inr, List, ◌∷◌, length, get_or, set, sym, subst, arith}
 use Rattle.std.specs.List.{All, flat_map}
 use Rattle.std.proofs.lemmas.Bool.{cases_eq, cases_lt}
 use Rattle.std.proofs.lemmas.List.{get_or-set_same, length-set}
@@ -16,9 +16,9 @@ use Rattle.page_layout.specs.Regions.{region_at}
 use Rattle.page_layout.specs.declared.cut_page.CutPage.{CutPage}
 use Rattle.ba_trees.specs.Kinds.{trees_over, version_trees}
 use Rattle.ba_trees.specs.Pages.{no_entry}
-use Rattle.ba_trees.specs.Stands.{OutsideIsBalanced, OutsideStands, outside_pages}
+use Rattle.ba_trees.specs.Stands.{OutsideStands}
 use Rattle.ba_build.proofs.Paging.{Laws}
-use Rattle.ba_split.specs.Open.{AreBalanced, ChildrenStand, NodeStands}
+use Rattle.ba_split.specs.Open.{ChildrenStand, NodeStands}
 use Rattle.ba_tree.specs.Taking.{EntriesTook, OutsideTook}
 use Rattle.ba_tree.proofs.InCut.{LedTo, led_then}
 use Rattle.ba_tree.proofs.Moved.{own}

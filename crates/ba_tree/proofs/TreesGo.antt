@@ -1,6 +1,6 @@
 -- What an addition to what an entry keeps outside its region does where all of it stands.
-use Rattle.std.proofs.Common.{◌≡◌, ◌≢◌, ℕ, ◌+◌, ◌-◌, ◌^◌, ◌<◌, ◌≤◌, IsTrue, List, ◌∷◌, length, get_or, set, Result, Ok, Err, IfOk, refl, sym, ap, subst, arith}
-use Rattle.std.specs.List.{All, flat_map}
+use Rattle.std.proofs.Common.{◌≡◌, ◌≢◌, ℕ, ◌+◌, ◌-◌, ◌^◌, ◌<◌, ◌≤◌, IsTrue, List, ◌∷◌, length, get_or, set, Result, Ok, Err, IfOk, sym, subst, arith}
+use Rattle.std.specs.List.{All}
 use Rattle.std.proofs.lemmas.List.Elements.{All-get_or}
 use Rattle.bw_types.specs.Classes.{border_points, class_of, is_same_class, points_of_class, without_dimension}
 use Rattle.bw_types.specs.Empty.{empty_tree}
@@ -24,7 +24,7 @@ use Rattle.sb_tree.specs.Steps.{tree_pages}
 use Rattle.ba_trees.specs.Kinds.{trees_over, version_trees}
 use Rattle.ba_trees.specs.Laws.{AllKeepLaws}
 use Rattle.ba_trees.specs.PageLaws.{BordersShareNoKey}
-use Rattle.ba_trees.specs.Stands.{OutsideIsBalanced, OutsideStands, TreeKind, TreesStand, outside_pages}
+use Rattle.ba_trees.specs.Stands.{OutsideIsBalanced, TreeKind, TreesStand, outside_pages}
 use Rattle.ba_build.proofs.BorderTrees.{fewer_at_border, fewer_kept}
 use Rattle.ba_split.specs.Calls.{GoesOn}
 use Rattle.ba_tree.specs.Growth.{outside_growth, tree_growth}

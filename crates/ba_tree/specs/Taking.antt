@@ -1,5 +1,5 @@
 -- A point that is put into a BA-tree: into what entries keep outside their regions, into pages, and into whole trees.
-use Rattle.std.specs.Prelude.{◌≡◌, ℕ, ◌+◌, ◌-◌, IsTrue, List, ◌∷◌, ◌++◌, take, drop, slice_index_or, IsPermutation, Option, Some, None}
+use Rattle.std.specs.Prelude.{ℕ, ◌+◌, ◌-◌, IsTrue, List, ◌∷◌, ◌++◌, take, drop, slice_index_or, IsPermutation, Option, Some, None}
 use Rattle.std.specs.List.{flat_map}
 use Rattle.bw_types.specs.Classes.{lies_in}
 use Rattle.bw_types.specs.Empty.{no_points}

@@ -1,11 +1,10 @@
-use Rattle.std.proofs.Common.{rules, ◌≡◌, ◌≢◌, ◌+◌, ◌-◌, ◌*◌, ◌^◌, ◌<◌, ◌≤◌, ℕ, List, ◌∷◌, length, IsTrue, IfOk, OnOk, OnErr, ◌/◌, ◌%◌, Bool, true, false, nat_eq, nat_lt, [], ◌++◌, slice_index_or, slice_set, bit_and, bit_or, Fits, w8, w32, w64, Bor, MutBor, Option, Some, None, refl, sym, subst, arith, ap, ◌∙◌, map, set, get_or, Ok, IsSome, IfSome, Vec, Global, Err}
+use Rattle.std.proofs.Common.{rules, ◌≡◌, ◌+◌, ◌-◌, ◌*◌, ◌^◌, ◌<◌, ◌≤◌, ℕ, List, ◌∷◌, length, IsTrue, ◌++◌, slice_index_or, Option, Some, None, refl, sym, subst, arith, ap, ◌∙◌, map, set, get_or, Ok, IfSome, Vec, Global, Err}
 use Rattle.bw_types.specs.declared.point.Point.{Point}
-use Rattle.page_ports.specs.Calls.{Changes, WentOn}
-use Rattle.page_layout.specs.TreeValue.{IsTreeTyped, tree_fits}
-use Rattle.dom_index.specs.Points.{AreKeysBelow, HasRoom, IsNewPoint}
+use Rattle.page_ports.specs.Calls.{WentOn}
+use Rattle.dom_index.specs.Points.{AreKeysBelow}
 use Rattle.ba_trees.specs.Kinds.{trees_over, version_trees}
 use Rattle.ba_split.specs.Calls.{GoesOn}
-use Rattle.ba_tree.specs.Growth.{level_growth, tree_growth, outside_growth}
+use Rattle.ba_tree.specs.Growth.{level_growth, outside_growth}
 use Rattle.ba_tree.specs.Taking.{IsGrown, TreeTook, IsKeptLow, IsStored, PageMayTake, PageTook, EntriesTook, MayJoin, OutsideTook, ChildWasSplit, CutWasMade, IsBalancedAs, split_entries}
 use Rattle.std.proofs.Math.Nat.{mul-le-mul_right}
 use Rattle.std.proofs.lemmas.Result.{err_from_is_err_and, on_ok_weaker}
@@ -13,7 +12,7 @@ use Rattle.bw_types.specs.Heights.{pages_a_point}
 use Rattle.bw_types.specs.declared.region.Region.{Region}
 use Rattle.bw_types.specs.declared.tree.Tree.{Tree}
 use Rattle.page_ports.specs.Pages.{PageMap}
-use Rattle.ba_trees.specs.Stands.{BalancedBelow, pages_below, points_below, OutsideIsBalanced, OutsideStands, TreeKind, outside_pages}
+use Rattle.ba_trees.specs.Stands.{BalancedBelow, pages_below, points_below, OutsideIsBalanced, OutsideStands, outside_pages}
 use Rattle.ba_build.proofs.Whole.{over_more}
 use Rattle.ba_split.specs.declared.split.Split.{Split}
 use Rattle.ba_tree.proofs.Growing.{all_below, balanced_levels, balanced_number, goes_with, grown, none_on_err, not_both, root_may_take, rooted, told_later, took_of}
@@ -27,7 +26,7 @@ use Rattle.std.proofs.lemmas.List.{length-set}
 use Rattle.arrayvec.specs.ArrayVec.{ArrayVec}
 use Rattle.bw_types.specs.declared.ba_entry.BaEntry.{BaEntry}
 use Rattle.bw_types.specs.declared.ba_entry.Outside.{Outside}
-use Rattle.bw_types.specs.Classes.{lies_in, border_points, class_of, is_outside, is_same_class, points_of_class, without_dimension}
+use Rattle.bw_types.specs.Classes.{lies_in, border_points, class_of, points_of_class, without_dimension}
 use Rattle.bw_types.specs.declared.class.Class.TheVariants.{Inside, Below, Border}
 use Rattle.page_layout.specs.BaEntry.{IsBaEntryTyped, ba_entry_fits}
 use Rattle.page_layout.specs.Cuts.{Cuts, cuts_in}
@@ -51,15 +50,14 @@ use Rattle.std.proofs.lemmas.List.Sorted.{length_permutation}
 use Rattle.page_layout.specs.Footprint.{NamesNoneTwice}
 use Rattle.ba_build.proofs.Children.{told}
 use Rattle.ba_build.proofs.Paging.{Laws}
-use Rattle.ba_tree.proofs.BelowCalls.{all_bound, as_many_children, beside_goes, child_bound, child_few, child_from_three, child_goes, child_may_take, child_most, cut_bound, cut_most, level_there, outsides_bound, outsides_most, stays_bound, store_bound, store_most}
+use Rattle.ba_tree.proofs.BelowCalls.{as_many_children, beside_goes, child_bound, child_few, child_from_three, child_goes, child_may_take, child_most, cut_bound, cut_most, level_there, outsides_bound, outsides_most, stays_bound, store_bound, store_most}
 use Rattle.ba_tree.proofs.ChildChanged.{split_child, split_led, stays_children, stays_led, stays_once, stays_outsides}
 use Rattle.ba_tree.proofs.HeldPage.{held_first, held_next, page_took, stored_permuted}
 use Rattle.ba_tree.proofs.Opened.{opened}
 use Rattle.ba_tree.proofs.+adds.Goals.{below::add_beside-then-eq, below::add_beside-else-eq}
 use Rattle.bw_types.specs.Empty.{empty_tree, no_points}
 use Rattle.bw_types.specs.declared.ba_entry.Outside.TheVariants.{Pocket, Trees}
-use Rattle.ba_build.proofs.BorderTrees.{fewer_at_border, fewer_kept}
-use Rattle.ba_tree.proofs.BesideTrees.{below_rules, below_took, border_rules, border_took, none_taken}
+use Rattle.ba_tree.proofs.BesideTrees.{below_rules, border_rules, none_taken}
 use Rattle.ba_tree.proofs.Bounds.{one_page, pocket_growth}
 use Rattle.ba_tree.proofs.Classed.{border_few, told_as, told_border, told_out, told_without}
 use Rattle.bw_types.specs.contracts.ba_entry.OutsidePartialEq.TheImpl.{ghosts as outside_eq}

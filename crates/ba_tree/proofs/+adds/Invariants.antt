@@ -1,4 +1,4 @@
-use Rattle.std.proofs.Common.{◌≡◌, ℕ, ◌+◌, ◌-◌, ◌*◌, ◌≤◌, IsTrue, List, length, take, drop}
+use Rattle.std.proofs.Common.{◌+◌, ◌*◌}
 use Rattle.ba_tree.proofs.EntriesSoFar.{EntriesSoFar}
 use Rattle.ba_tree.proofs.+adds.Given as goal
 

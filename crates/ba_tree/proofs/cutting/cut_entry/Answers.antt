@@ -1,4 +1,4 @@
-use Rattle.std.proofs.Common.{rules, ◌≡◌, ◌≢◌, ◌+◌, ◌-◌, ◌*◌, ◌<◌, ◌≤◌, ◌^◌, ℕ, List, [], length, Err, IsTrue, slice_index_or, arith, sym, ap, ◌∙◌, subst}
+use Rattle.std.proofs.Common.{rules, ◌≡◌, ◌≢◌, ◌+◌, ◌-◌, ◌*◌, ◌<◌, ◌≤◌, ◌^◌, ℕ, List, length, IsTrue, arith, sym, ap, ◌∙◌, subst}
 use Rattle.std.specs.Prelude.{IsPermutation}
 use Rattle.std.specs.List.{All, flat_map}
 use Rattle.std.specs.Vec.{with_items}
@@ -9,7 +9,6 @@ use Rattle.bw_types.specs.declared.ba_entry.BaEntry.{BaEntry}
 use Rattle.bw_types.specs.declared.point.Point.{Point}
 use Rattle.bw_types.specs.declared.region.Region.{Region}
 use Rattle.page_ports.specs.Pages.{PageMap}
-use Rattle.page_ports.specs.declared.page.StageFault.TheVariants.{Damaged}
 use Rattle.page_layout.specs.BaEntry.{IsBaEntryTyped, ba_entry_fits}
 use Rattle.page_layout.specs.Cuts.{Cuts, cuts_in}
 use Rattle.page_layout.specs.Regions.{cut_at, region_at}
@@ -21,7 +20,6 @@ use Rattle.ba_trees.specs.Pages.{no_entry}
 use Rattle.ba_build.proofs.Paging.{Laws, may_in_any_order}
 use Rattle.ba_build.proofs.Whole.{in_slice}
 use Rattle.ba_build.specs.Built.{MayBeBuilt}
-use Rattle.ba_split.specs.Splits.{IsRedone}
 use Rattle.ba_tree.specs.Taking.{CutWasMade, StandsSomewhere, split_entries}
 use Rattle.ba_split.specs.declared.split.Split.{Split}
 use Rattle.ba_tree.proofs.CutSteps.{both_of_two, gone_here, none_found, one_of_two}

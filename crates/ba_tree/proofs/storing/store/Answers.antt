@@ -1,4 +1,4 @@
-use Rattle.std.proofs.Common.{rules, ◌≡◌, ℕ, ◌+◌, ◌-◌, ◌*◌, List, length, Option, None, Some, arith}
+use Rattle.std.proofs.Common.{rules, ℕ, ◌+◌, ◌-◌, ◌*◌, List, length, Some, arith}
 use Rattle.std.proofs.lemmas.Result.{err_from_is_err_and}
 use Rattle.bw_types.specs.Heights.{pages_a_point}
 use Rattle.bw_types.specs.declared.point.Point.{Point}
@@ -6,9 +6,6 @@ use Rattle.page_ports.specs.Calls.{WentOn}
 use Rattle.page_ports.specs.Pages.{PageMap}
 use Rattle.page_layout.specs.declared.cut_page.CutPage.{CutPage}
 use Rattle.ba_build.proofs.Children.{told}
-use Rattle.ba_split.specs.Open.{AreBalanced, entry_pages}
-use Rattle.ba_tree.specs.Taking.{IsBalancedAs, IsStored}
-use Rattle.ba_split.specs.declared.split.Split.{Split}
 use Rattle.ba_tree.proofs.Steps.{goes_end, goes_less, goes_told_then, went_then}
 use Rattle.ba_tree.proofs.PutBack.{WasSplit, WasStored, split_bound, split_goes}
 use Rattle.ba_tree.proofs.storing.store.Goals as goal

@@ -1,4 +1,4 @@
-use Rattle.std.proofs.Common.{rules, ◌-◌, sym, ap, ◌∙◌, subst}
+use Rattle.std.proofs.Common.{rules, ap, ◌∙◌}
 use Rattle.page_ports.specs.Pages.{PageMap, put_page}
 use Rattle.page_layout.specs.CutPage.{cut_page_page}
 use Rattle.ba_build.proofs.Children.{told}
