@@ -8,35 +8,34 @@ use page_ports::{MemStage, Page, Stage, StageFault, blank_page};
 use sb_tree::sb_add;
 use std::test::Fail;
 
-// Puts a number at a byte of the page, its low byte first.
-fn put_number(bytes: &mut Page, at: usize, number: u64)
-    requires { at ≤ 4088 }
+// Puts a number of so many bytes at a byte of the page, its high byte first.
+fn put_number(bytes: &mut Page, at: usize, size: usize, number: u64)
+    requires size { size ≤ 8 }
+    requires room { at ≤ 4088 }
 {
-    let parts = number.to_le_bytes();
-    for index in 0..8 {
-        bytes[at + index] = parts[index];
+    let parts = number.to_be_bytes();
+    for index in 0..size {
+        bytes[at + index] = parts[8 - size + index];
     }
 }
 
-// A node with entries 10 keys apart that start at version 1, of which so many are alive; the others were closed at version 2. Each number
-// is put with 8 bytes, and those that are too many are overwritten by the next.
+// A node with entries 10 keys apart that start at version 1, of which so many are alive; the others were closed at version 2.
 fn node(level: u8, place: u32, before: u64, child: u64, entries: usize, alive: usize) -> Page
     requires { entries ≤ 96 }
 {
     let mut bytes = blank_page();
     bytes[1] = level;
-    put_number(&mut bytes, 2, entries as u64);
-    put_number(&mut bytes, 4, u64::from(place));
-    put_number(&mut bytes, 8, before);
+    put_number(&mut bytes, 2, 2, entries as u64);
+    put_number(&mut bytes, 4, 4, u64::from(place));
+    put_number(&mut bytes, 8, 8, before);
     for index in 0..entries {
         let at = 16 + 40 * index;
         let end = if index < alive { u32::MAX } else { 2 };
-        put_number(&mut bytes, at, 10 * index as u64);
-        put_number(&mut bytes, at + 8, 1);
-        put_number(&mut bytes, at + 12, u64::from(end));
-        put_number(&mut bytes, at + 16, 1);
-        put_number(&mut bytes, at + 24, 0);
-        put_number(&mut bytes, at + 32, child);
+        put_number(&mut bytes, at, 8, 10 * index as u64);
+        put_number(&mut bytes, at + 8, 4, 1);
+        put_number(&mut bytes, at + 12, 4, u64::from(end));
+        put_number(&mut bytes, at + 24, 8, 1);
+        put_number(&mut bytes, at + 32, 8, child);
     }
     bytes
 }
@@ -139,10 +138,8 @@ fn one_place_for_a_half_and_a_root(rt: HostRuntime) -> Result<(), Fail> {
 fn two_entries_of_one_low(rt: HostRuntime) -> Result<(), Fail> {
     let mut stage = MemStage::new(rt.alloc(), 10);
     let mut twice = node(1, 1, 0, 0, 2, 2);
-    put_number(&mut twice, 56, 0);
-    put_number(&mut twice, 64, 2);
-    put_number(&mut twice, 68, u64::from(u32::MAX));
-    put_number(&mut twice, 72, 1);
+    put_number(&mut twice, 56, 8, 0);
+    put_number(&mut twice, 64, 4, 2);
     let page = page_of(&mut stage, &twice)?;
     let mut tree = tree_of(&mut stage, page)?;
     assert_eq!(rt;
