@@ -1,16 +1,16 @@
 //! The entries of pages of cuts.
-ghost use Rattle.std.specs.Prelude.{◌≡◌, ◌+◌, ◌≤◌, ◌++◌, length, IsTrue};
+ghost use Rattle.std.specs.Prelude.{◌≡◌, ◌+◌, ◌≤◌, ◌++◌, length, take, IsTrue};
 ghost use Rattle.std.specs.List.{All, flat_map, list_all};
-ghost use Rattle.arrayvec.specs.ArrayVec.{array_vec_len};
 ghost use Rattle.page_layout.specs.Entries.{entries_at};
 ghost use Rattle.page_layout.specs.TreeValue.{IsTreeTyped, tree_at, tree_fits};
 ghost use Rattle.page_layout.specs.BaEntry.{outside_bytes, outside_at, pocket_at, trees_at, IsOutsideTyped, outside_fits, ba_entry_bytes, ba_entry_at, IsBaEntryTyped, ba_entry_fits, length-ba_entry, ba_entry-back};
 
 use crate::entry::{Entry, Own, put_all};
-use crate::front::{Front, put, put_u32, put_u64};
+use crate::front::{put, put_u32, put_u64};
 use crate::number::{number_u32, number_u64, skip};
 use crate::tree_value::{plain_tree_fits, tree_fits};
 use bw_types::{BaEntry, Outside, Tree};
+use page_ports::Page;
 
 // Stands where trees have the number of levels of the first one, which is at most 16.
 pub(crate) const POCKET: u8 = 255;
@@ -18,34 +18,34 @@ pub(crate) const POCKET: u8 = 255;
 const MOST_IN_POCKET: u32 = 60;
 
 #[tactic(auto, unfolding(crate::specs::Numbers::zeros))]
-fn put_pocket(front: &mut Front, page: u64, count: u32)
-    requires { array_vec_len front.old + 112 ≤ 4096 }
-    ensures items { front.new.items ≡ front.old.items ++ outside_bytes (Outside.Pocket page count) }
-    ensures len { array_vec_len front.new ≡ array_vec_len front.old + 112 }
+fn put_pocket(page: &mut Page, place: usize, pocket: u64, count: u32)
+    requires { place + 112 ≤ 4096 }
+    ensures { take (place + 112) page.new ≡ take place page.old ++ outside_bytes (Outside.Pocket pocket count) }
 {
-    put_u64(front, page);
-    put(front, &[POCKET, 0, 0, 0]);
-    put_u32(front, count);
-    put(front, &[0; 96]);
+    put_u64(page, place, pocket);
+    put(page, place + 8, &[POCKET, 0, 0, 0]);
+    put_u32(page, place + 12, count);
+    put(page, place + 16, &[0; 96]);
 }
 
-fn put_trees(front: &mut Front, subtotal: &Tree, borders: &[Tree; 3])
-    requires { array_vec_len front.old + 112 ≤ 4096 }
-    ensures items { front.new.items ≡ front.old.items ++ outside_bytes (Outside.Trees subtotal.now borders.now) }
-    ensures len { array_vec_len front.new ≡ array_vec_len front.old + 112 }
+fn put_trees(page: &mut Page, place: usize, subtotal: &Tree, borders: &[Tree; 3])
+    requires { place + 112 ≤ 4096 }
+    ensures { take (place + 112) page.new ≡ take place page.old ++ outside_bytes (Outside.Trees subtotal.now borders.now) }
 {
-    subtotal.put(front);
-    put_all(front, borders);
+    subtotal.put(page, place);
+    put_all(page, place + 28, borders);
 }
 
-fn put_outside(front: &mut Front, outside: &Outside)
-    requires { array_vec_len front.old + 112 ≤ 4096 }
-    ensures items { front.new.items ≡ front.old.items ++ outside_bytes outside.now }
-    ensures len { array_vec_len front.new ≡ array_vec_len front.old + 112 }
+fn put_outside(page: &mut Page, place: usize, outside: &Outside)
+    requires { place + 112 ≤ 4096 }
+    ensures { take (place + 112) page.new ≡ take place page.old ++ outside_bytes outside.now }
 {
     match outside {
-        Outside::Pocket { page, count } => put_pocket(front, *page, *count),
-        Outside::Trees { subtotal, borders } => put_trees(front, subtotal, borders),
+        Outside::Pocket {
+            page: pocket,
+            count,
+        } => put_pocket(page, place, *pocket, *count),
+        Outside::Trees { subtotal, borders } => put_trees(page, place, subtotal, borders),
     }
 }
 
@@ -127,9 +127,9 @@ impl Entry<Own> for BaEntry {
 
     ghost precedes = { λ _ _. Unit {0} };
 
-    fn put(&self, front: &mut Front) {
-        put_u64(front, self.child);
-        put_outside(front, &self.outside);
+    fn put(&self, page: &mut Page, place: usize) {
+        put_u64(page, place, self.child);
+        put_outside(page, place + 8, &self.outside);
     }
 
     fn get(bytes: &[u8]) -> BaEntry {

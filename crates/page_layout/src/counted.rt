@@ -1,31 +1,27 @@
 //! Pages of a kind with a level, a count, a word, a double word and as many entries.
-ghost use Rattle.std.specs.Prelude.{◌≡◌, ◌+◌, ◌*◌, ◌<◌, ◌≤◌, ◌^◌, ◌↔◌, IsTrue, length, drop, slice_index};
+ghost use Rattle.std.specs.Prelude.{◌≡◌, ◌+◌, ◌*◌, ◌<◌, ◌≤◌, ◌^◌, ◌↔◌, IsTrue, length, take, drop, slice_index};
 ghost use Rattle.std.specs.List.{All};
-ghost use Rattle.arrayvec.specs.ArrayVec.{array_vec_len};
 ghost use Rattle.page_layout.specs.Numbers.{number_in};
 ghost use Rattle.page_layout.specs.Respelled.{Respells};
 ghost use Rattle.page_layout.specs.TestedRow.{SpellsRow};
 ghost use Rattle.page_layout.specs.Counted.{front, counted_page, body_of, word_of, double_of, entries_of};
 
 use crate::entry::{Entry, Own, get_all, put_all, stand_in_order};
-use crate::front::{Front, finish, put_u8, put_u16, put_u32, put_u64};
+use crate::front::{finish, put_u8, put_u16, put_u32, put_u64};
 use crate::number::{after, bytes_of, number_u16, number_u32, number_u64};
 use crate::same::are_zeros;
 use arrayvec::ArrayVec;
 use page_ports::Page;
 
-/// The common front of 16 bytes: what bytes 0, 1, 2 to 3, 4 to 7 and 8 to 15 spell.
-pub(crate) fn start(kind: u8, level: u8, count: u16, word: u32, double: u64) -> Front
-    ensures items { result.items ≡ front kind level count word double }
-    ensures len { array_vec_len result ≡ 16 }
+/// Writes the common front of 16 bytes: what bytes 0, 1, 2 to 3, 4 to 7 and 8 to 15 spell.
+pub(crate) fn start(page: &mut Page, kind: u8, level: u8, count: u16, word: u32, double: u64)
+    ensures { take 16 page.new ≡ front kind level count word double }
 {
-    let mut front = Front::new();
-    put_u8(&mut front, kind);
-    put_u8(&mut front, level);
-    put_u16(&mut front, count);
-    put_u32(&mut front, word);
-    put_u64(&mut front, double);
-    front
+    put_u8(page, 0, kind);
+    put_u8(page, 1, level);
+    put_u16(page, 2, count);
+    put_u32(page, 4, word);
+    put_u64(page, 8, double);
 }
 
 /// Makes the page the one of this front and these entries.
@@ -41,9 +37,9 @@ pub(crate) fn write_counted<F, T: Entry<F>>(
     requires room { 16 + length entries.now * T.SIZE ≤ 4096 }
     ensures { page.new ≡ counted_page T.spelling kind level word double entries.now }
 {
-    let mut front = start(kind, level, entries.len() as u16, word, double);
-    put_all(&mut front, entries);
-    finish(&front, page);
+    start(page, kind, level, entries.len() as u16, word, double);
+    put_all(page, 16, entries);
+    finish(page, 16 + entries.len() * T::SIZE);
 }
 
 /// The entries that a page may spell, at most this many.

@@ -4,8 +4,9 @@ ghost use Rattle.page_layout.specs.CutNode.{cut_node_bytes, cut_node_at, IsCutNo
 ghost use Rattle.page_layout.specs.Cuts.{SpellCuts, node_fits, fills, CutsAreTested, CutsAreRead, CutsHaveOneSpelling, NodesAreCounted};
 
 use crate::entry::{Entry, Own, each_keeps};
-use crate::front::{Front, put, put_u8, put_u64};
+use crate::front::{put, put_u8, put_u64};
 use crate::number::{number_u64, skip};
+use page_ports::Page;
 
 const ENTRY: u8 = 0;
 
@@ -36,11 +37,11 @@ impl Entry<Own> for CutNode {
 
     ghost precedes = { λ _ _. Unit {0} };
 
-    fn put(&self, front: &mut Front) {
-        put_u8(front, self.tag);
-        put_u8(front, self.dimension);
-        put(front, &[0; 6]);
-        put_u64(front, self.key);
+    fn put(&self, page: &mut Page, place: usize) {
+        put_u8(page, place, self.tag);
+        put_u8(page, place + 1, self.dimension);
+        put(page, place + 2, &[0; 6]);
+        put_u64(page, place + 8, self.key);
     }
 
     fn get(bytes: &[u8]) -> CutNode {

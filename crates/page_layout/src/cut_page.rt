@@ -97,10 +97,11 @@ impl Spelled for CutPage {
     ghost value_in = { cut_page_in };
 
     fn write(&self, page: &mut Page) {
-        let mut front = start(KIND, self.level, self.entries.len() as u16, 0, 0);
-        put_all(&mut front, self.cuts.as_slice());
-        put_all(&mut front, self.entries.as_slice());
-        finish(&front, page);
+        let entries = 16 + self.cuts.len() * 16;
+        start(page, KIND, self.level, self.entries.len() as u16, 0, 0);
+        put_all(page, 16, self.cuts.as_slice());
+        put_all(page, entries, self.entries.as_slice());
+        finish(page, entries + self.entries.len() * 120);
     }
 
     fn guess(page: &Page) -> CutPage {

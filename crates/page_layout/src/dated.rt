@@ -1,20 +1,20 @@
 //! Objects with their dates, in the forms that the leaves of object tables have them.
-ghost use Rattle.std.specs.Prelude.{◌≡◌, ◌+◌, ◌<◌, ◌≤◌, ◌++◌, length, IsTrue};
+ghost use Rattle.std.specs.Prelude.{◌≡◌, ◌+◌, ◌<◌, ◌≤◌, ◌++◌, length, take, IsTrue};
 ghost use Rattle.std.specs.List.{All};
 ghost use Rattle.std.specs.Int.{w64};
 ghost use Rattle.std.specs.Int.RustNames.{FitsSigned};
-ghost use Rattle.arrayvec.specs.ArrayVec.{array_vec_len};
 ghost use Rattle.page_layout.specs.Entries.{entries_at};
 ghost use Rattle.page_layout.specs.Signed.{signed_at};
 ghost use Rattle.page_layout.specs.Dated.{object_bytes, object_at, IsObjectTyped, date_bytes, dated_bytes, dated_at, IsDatedTyped, end_fits, ends_fit, withdrawal_fits, dates_fit, dated_fits, by_id_at, by_id_fits, by_life_bytes, by_life_at, by_life_fits, life_precedes, length-dated, length-by_life, by_id-back, by_life-back};
 
 use crate::entry::{Entry, get_all, put_all};
-use crate::front::{Front, put_u32, put_u64};
+use crate::front::{put_u32, put_u64};
 use crate::number::{number_u32, number_u64, skip};
 use crate::signed::number_i64;
 use crate::three::{put_three_u32, three_u32};
 use arrayvec::ArrayVec;
 use bw_types::{Dated, Object};
+use page_ports::Page;
 
 const GREATEST_END: u32 = 4294967294;
 
@@ -24,36 +24,33 @@ pub(crate) struct ById;
 /// The form of tables by id and life.
 pub(crate) struct ByLife;
 
-fn put_object(front: &mut Front, object: &Object)
-    requires { array_vec_len front.old + 256 ≤ 4096 }
-    ensures items { front.new.items ≡ front.old.items ++ object_bytes object.now }
-    ensures len { array_vec_len front.new ≡ array_vec_len front.old + 256 }
+fn put_object(page: &mut Page, place: usize, object: &Object)
+    requires { place + 256 ≤ 4096 }
+    ensures { take (place + 256) page.new ≡ take place page.old ++ object_bytes object.now }
 {
-    put_u64(front, object.id);
-    put_three_u32(front, &object.low);
-    put_three_u32(front, &object.high);
-    object.weight.put(front);
-    put_all(front, &object.coeffs);
+    put_u64(page, place, object.id);
+    put_three_u32(page, place + 8, &object.low);
+    put_three_u32(page, place + 20, &object.high);
+    object.weight.put(page, place + 32);
+    put_all(page, place + 40, &object.coeffs);
 }
 
-fn put_dates(front: &mut Front, dated: &Dated)
-    requires { array_vec_len front.old + 16 ≤ 4096 }
-    ensures items { front.new.items ≡ front.old.items ++ date_bytes dated.now }
-    ensures len { array_vec_len front.new ≡ array_vec_len front.old + 16 }
+fn put_dates(page: &mut Page, place: usize, dated: &Dated)
+    requires { place + 16 ≤ 4096 }
+    ensures { take (place + 16) page.new ≡ take place page.old ++ date_bytes dated.now }
 {
-    put_u32(front, dated.added);
-    put_u32(front, dated.add_event);
-    put_u32(front, dated.withdrawn);
-    put_u32(front, dated.withdraw_event);
+    put_u32(page, place, dated.added);
+    put_u32(page, place + 4, dated.add_event);
+    put_u32(page, place + 8, dated.withdrawn);
+    put_u32(page, place + 12, dated.withdraw_event);
 }
 
-fn put_dated(front: &mut Front, dated: &Dated)
-    requires { array_vec_len front.old + 272 ≤ 4096 }
-    ensures items { front.new.items ≡ front.old.items ++ dated_bytes dated.now }
-    ensures len { array_vec_len front.new ≡ array_vec_len front.old + 272 }
+fn put_dated(page: &mut Page, place: usize, dated: &Dated)
+    requires { place + 272 ≤ 4096 }
+    ensures { take (place + 272) page.new ≡ take place page.old ++ dated_bytes dated.now }
 {
-    put_object(front, &dated.object);
-    put_dates(front, dated);
+    put_object(page, place, &dated.object);
+    put_dates(page, place + 256, dated);
 }
 
 fn get_coefficients(bytes: &[u8]) -> [i64; 27]
@@ -153,8 +150,8 @@ impl Entry<ById> for Dated {
 
     ghost precedes = { λ d next. d.object.id < next.object.id };
 
-    fn put(&self, front: &mut Front) {
-        put_dated(front, self);
+    fn put(&self, page: &mut Page, place: usize) {
+        put_dated(page, place, self);
     }
 
     fn get(bytes: &[u8]) -> Dated {
@@ -189,9 +186,9 @@ impl Entry<ByLife> for Dated {
 
     ghost precedes = { λ d next. IsTrue (life_precedes d.object.id d.life next.object.id next.life) };
 
-    fn put(&self, front: &mut Front) {
-        put_dated(front, self);
-        put_u32(front, self.life);
+    fn put(&self, page: &mut Page, place: usize) {
+        put_dated(page, place, self);
+        put_u32(page, place + 272, self.life);
     }
 
     fn get(bytes: &[u8]) -> Dated {

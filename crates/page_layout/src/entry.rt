@@ -1,13 +1,14 @@
 //! Entries of one size, and rows of them.
-ghost use Rattle.std.specs.Prelude.{◌≡◌, ℕ, ◌+◌, ◌*◌, ◌<◌, ◌≤◌, ◌^◌, ◌++◌, ◌↔◌, List, length, IsTrue};
+ghost use Rattle.std.specs.Prelude.{◌≡◌, ℕ, ◌+◌, ◌*◌, ◌<◌, ◌≤◌, ◌^◌, ◌++◌, ◌↔◌, List, length, take, IsTrue};
 ghost use Rattle.std.specs.List.{flat_map, All, AllAdjacentBelow};
 ghost use Rattle.arrayvec.specs.ArrayVec.{array_vec_len};
 ghost use Rattle.page_layout.specs.Numbers.{spelled, number_in, length-spelled, number_in-spelled};
 ghost use Rattle.page_layout.specs.Entries.{entries_at, AreInOrder};
 
-use crate::front::{Front, put_u64};
+use crate::front::put_u64;
 use crate::number::{number_u64, skip};
 use arrayvec::ArrayVec;
+use page_ports::Page;
 
 /// The form of entries that are spelled in one way alone.
 pub(crate) struct Own;
@@ -31,11 +32,10 @@ pub(crate) trait Entry<F>: Copy + Default {
     // The rule of an entry and the next one.
     ghost precedes: { Self → Self → Type 0 };
 
-    /// Appends the value's bytes.
-    fn put(&self, front: &mut Front)
-        requires { array_vec_len front.old + SIZE ≤ 4096 }
-        ensures items { front.new.items ≡ front.old.items ++ spelling self.now }
-        ensures len { array_vec_len front.new ≡ array_vec_len front.old + SIZE };
+    /// Writes the value's bytes into a page at a place. What stands before it stays.
+    fn put(&self, page: &mut Page, place: usize)
+        requires { place + SIZE ≤ 4096 }
+        ensures { take (place + SIZE) page.new ≡ take place page.old ++ spelling self.now };
 
     /// The value that the first bytes may spell.
     fn get(bytes: &[u8]) -> Self
@@ -56,14 +56,15 @@ pub(crate) trait Entry<F>: Copy + Default {
     ghost reads_back: { (level : ℕ) (x : Self) (rest : List ℕ) → is_typed x → keeps level x → value_at (spelling x ++ rest) ≡ x };
 }
 
-/// Appends the entries in a row.
-pub(crate) fn put_all<F, T: Entry<F>>(front: &mut Front, entries: &[T])
-    requires { array_vec_len front.old + length entries.now * T.SIZE ≤ 4096 }
-    ensures items { front.new.items ≡ front.old.items ++ flat_map T.spelling entries.now }
-    ensures len { array_vec_len front.new ≡ array_vec_len front.old + length entries.now * T.SIZE }
+/// Writes the entries in a row into a page, from a place on.
+pub(crate) fn put_all<F, T: Entry<F>>(page: &mut Page, place: usize, entries: &[T])
+    requires { place + length entries.now * T.SIZE ≤ 4096 }
+    ensures { take (place + length entries.now * T.SIZE) page.new ≡ take place page.old ++ flat_map T.spelling entries.now }
 {
+    let mut next = place;
     for entry in entries {
-        entry.put(front);
+        entry.put(page, next);
+        next += T::SIZE;
     }
 }
 
@@ -160,8 +161,8 @@ impl Entry<Own> for u64 {
 
     ghost precedes = { λ home next. home < next };
 
-    fn put(&self, front: &mut Front) {
-        put_u64(front, *self);
+    fn put(&self, page: &mut Page, place: usize) {
+        put_u64(page, place, *self);
     }
 
     fn get(bytes: &[u8]) -> u64 {

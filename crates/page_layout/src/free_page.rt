@@ -31,7 +31,8 @@ impl Spelled for FreePage {
     ghost value_in = { free_page_in };
 
     fn write(&self, page: &mut Page) {
-        finish(&start(FREE_PAGE, 0, 0, 0, self.next), page);
+        start(page, FREE_PAGE, 0, 0, 0, self.next);
+        finish(page, 16);
     }
 
     fn guess(page: &Page) -> FreePage {

@@ -1,87 +1,76 @@
-//! The front of a page, to which fields are appended.
-ghost use Rattle.std.specs.Prelude.{◌≡◌, ◌+◌, ◌≤◌, ◌++◌, ◌∷◌, [], length};
-ghost use Rattle.arrayvec.specs.ArrayVec.{array_vec_len};
+//! Numbers and bytes written into a page, one after another from its beginning on.
+ghost use Rattle.std.specs.Prelude.{◌≡◌, ◌+◌, ◌≤◌, ◌++◌, ◌∷◌, [], length, take};
 ghost use Rattle.page_layout.specs.Numbers.{spelled, padded};
 
-use arrayvec::ArrayVec;
 use byteorder::{BigEndian, ByteOrder};
-use page_ports::{Page, blank_page};
+use page_ports::Page;
 
-/// The bytes of a page that are spelled so far.
-pub(crate) type Front = ArrayVec<u8, 4096>;
-
-/// Appends these bytes.
-pub(crate) fn put(front: &mut Front, bytes: &[u8])
-    requires { array_vec_len front.old + length bytes.now ≤ 4096 }
-    ensures items { front.new.items ≡ front.old.items ++ bytes.now }
-    ensures len { array_vec_len front.new ≡ array_vec_len front.old + length bytes.now }
+/// Writes these bytes at a place. What stands before it stays.
+pub(crate) fn put(page: &mut Page, place: usize, bytes: &[u8])
+    requires { place + length bytes.now ≤ 4096 }
+    ensures { take (place + length bytes.now) page.new ≡ take place page.old ++ bytes.now }
 {
-    let room = front.try_extend_from_slice(bytes);
-    prove!(room.is_ok());
+    page[place..place + bytes.len()].copy_from_slice(bytes);
 }
 
-/// Appends a byte.
-pub(crate) fn put_u8(front: &mut Front, number: u8)
-    requires { array_vec_len front.old + 1 ≤ 4096 }
-    ensures items { front.new.items ≡ front.old.items ++ number ∷ [] }
-    ensures len { array_vec_len front.new ≡ array_vec_len front.old + 1 }
+/// Writes a byte.
+pub(crate) fn put_u8(page: &mut Page, place: usize, number: u8)
+    requires { place + 1 ≤ 4096 }
+    ensures { take (place + 1) page.new ≡ take place page.old ++ number ∷ [] }
 {
-    front.push(number);
+    page[place] = number;
 }
 
-/// Appends two bytes.
+/// Writes two bytes.
 #[tactic(auto, unfolding(crate::specs::Numbers::spelled))]
-pub(crate) fn put_u16(front: &mut Front, number: u16)
-    requires { array_vec_len front.old + 2 ≤ 4096 }
-    ensures items { front.new.items ≡ front.old.items ++ spelled 2 number }
-    ensures len { array_vec_len front.new ≡ array_vec_len front.old + 2 }
+pub(crate) fn put_u16(page: &mut Page, place: usize, number: u16)
+    requires { place + 2 ≤ 4096 }
+    ensures { take (place + 2) page.new ≡ take place page.old ++ spelled 2 number }
 {
     let mut bytes = [0; 2];
     BigEndian::write_u16(&mut bytes, number);
-    put(front, &bytes);
+    put(page, place, &bytes);
 }
 
-/// Appends four bytes.
+/// Writes four bytes.
 #[tactic(auto, unfolding(crate::specs::Numbers::spelled))]
-pub(crate) fn put_u32(front: &mut Front, number: u32)
-    requires { array_vec_len front.old + 4 ≤ 4096 }
-    ensures items { front.new.items ≡ front.old.items ++ spelled 4 number }
-    ensures len { array_vec_len front.new ≡ array_vec_len front.old + 4 }
+pub(crate) fn put_u32(page: &mut Page, place: usize, number: u32)
+    requires { place + 4 ≤ 4096 }
+    ensures { take (place + 4) page.new ≡ take place page.old ++ spelled 4 number }
 {
     let mut bytes = [0; 4];
     BigEndian::write_u32(&mut bytes, number);
-    put(front, &bytes);
+    put(page, place, &bytes);
 }
 
-/// Appends eight bytes.
+/// Writes eight bytes.
 #[tactic(auto, unfolding(crate::specs::Numbers::spelled))]
-pub(crate) fn put_u64(front: &mut Front, number: u64)
-    requires { array_vec_len front.old + 8 ≤ 4096 }
-    ensures items { front.new.items ≡ front.old.items ++ spelled 8 number }
-    ensures len { array_vec_len front.new ≡ array_vec_len front.old + 8 }
+pub(crate) fn put_u64(page: &mut Page, place: usize, number: u64)
+    requires { place + 8 ≤ 4096 }
+    ensures { take (place + 8) page.new ≡ take place page.old ++ spelled 8 number }
 {
     let mut bytes = [0; 8];
     BigEndian::write_u64(&mut bytes, number);
-    put(front, &bytes);
+    put(page, place, &bytes);
 }
 
-/// Appends sixteen bytes.
+/// Writes sixteen bytes.
 #[tactic(auto, unfolding(crate::specs::Numbers::spelled))]
-pub(crate) fn put_u128(front: &mut Front, number: u128)
-    requires { array_vec_len front.old + 16 ≤ 4096 }
-    ensures items { front.new.items ≡ front.old.items ++ spelled 16 number }
-    ensures len { array_vec_len front.new ≡ array_vec_len front.old + 16 }
+pub(crate) fn put_u128(page: &mut Page, place: usize, number: u128)
+    requires { place + 16 ≤ 4096 }
+    ensures { take (place + 16) page.new ≡ take place page.old ++ spelled 16 number }
 {
     let mut bytes = [0; 16];
     BigEndian::write_u128(&mut bytes, number);
-    put(front, &bytes);
+    put(page, place, &bytes);
 }
 
-/// The page that begins with these bytes, and has zeros after them.
-pub(crate) fn finish(front: &Front, page: &mut Page)
-    ensures { page.new ≡ padded front.now.items }
+/// Writes zeros from a place on.
+pub(crate) fn finish(page: &mut Page, place: usize)
+    requires { place ≤ 4096 }
+    ensures { page.new ≡ padded (take place page.old) }
 {
-    let bytes = front.as_slice();
-    *page = blank_page();
-    page[..bytes.len()].copy_from_slice(bytes);
+    for at in place..4096 {
+        put_u8(page, at, 0);
+    }
 }

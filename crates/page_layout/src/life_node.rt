@@ -7,7 +7,7 @@ ghost use Rattle.page_layout.specs.Dated.{life_precedes};
 use crate::counted::{read_entries, write_counted};
 use crate::dated::{ByLife, life_precedes};
 use crate::entry::{Entry, Own, are_in_order};
-use crate::front::{Front, put_u32, put_u64};
+use crate::front::{put_u32, put_u64};
 use crate::life_view::is_node;
 use crate::number::{bytes_of, number_u32, number_u64, skip};
 use crate::spelled::{Spelled, TreePage};
@@ -60,10 +60,10 @@ impl Entry<Own> for LifeEntry {
 
     ghost precedes = { λ e next. IsTrue (life_precedes e.low_id e.low_life next.low_id next.low_life) };
 
-    fn put(&self, front: &mut Front) {
-        put_u64(front, self.low_id);
-        put_u32(front, self.low_life);
-        put_u64(front, self.child);
+    fn put(&self, page: &mut Page, place: usize) {
+        put_u64(page, place, self.low_id);
+        put_u32(page, place + 8, self.low_life);
+        put_u64(page, place + 12, self.child);
     }
 
     fn get(bytes: &[u8]) -> LifeEntry {

@@ -1,14 +1,13 @@
 //! The meta page: page 2, with the counts of the warehouse and the trees that it consists of.
-ghost use Rattle.std.specs.Prelude.{◌≡◌, ◌++◌, ◌≤◌, length};
+ghost use Rattle.std.specs.Prelude.{◌≡◌, ◌+◌, ◌*◌, ◌++◌, ◌≤◌, length, take};
 ghost use Rattle.std.specs.List.{All};
-ghost use Rattle.arrayvec.specs.ArrayVec.{array_vec_len};
 ghost use Rattle.page_layout.specs.TreeValue.{IsTreeTyped};
 ghost use Rattle.page_layout.specs.Meta.{IsMeta, IsTyped, count_bytes, root_bytes, roots_of, meta_in, meta_page};
 ghost use Rattle.page_layout.specs.MetaLaws.{meta_in-page};
 
 use crate::entry::{Entry, Own, each_keeps, get_all, put_all};
 use crate::free_page::next_fits;
-use crate::front::{Front, finish, put, put_u8, put_u32, put_u64, put_u128};
+use crate::front::{finish, put, put_u8, put_u32, put_u64, put_u128};
 use crate::number::{after, number_u32, number_u64, number_u128};
 use crate::spelled::Spelled;
 use crate::tree_value::plain_tree_fits;
@@ -40,31 +39,27 @@ pub struct Meta {
     pub roots: ArrayVec<Tree, 96>,
 }
 
-fn counts(meta: &Meta) -> Front
-    ensures items { result.items ≡ count_bytes meta.now }
-    ensures len { array_vec_len result ≡ 48 }
+fn put_counts(page: &mut Page, meta: &Meta)
+    ensures { take 48 page.new ≡ count_bytes meta.now }
 {
-    let mut front = Front::new();
-    put_u8(&mut front, KIND);
-    put_u8(&mut front, meta.lives);
-    put(&mut front, &[0, 0]);
-    put_u32(&mut front, meta.version);
-    put_u32(&mut front, meta.events);
-    put_u32(&mut front, meta.rows);
-    put_u64(&mut front, meta.allotted);
-    put_u64(&mut front, meta.free);
-    put_u128(&mut front, meta.mass);
-    front
+    put_u8(page, 0, KIND);
+    put_u8(page, 1, meta.lives);
+    put(page, 2, &[0, 0]);
+    put_u32(page, 4, meta.version);
+    put_u32(page, 8, meta.events);
+    put_u32(page, 12, meta.rows);
+    put_u64(page, 16, meta.allotted);
+    put_u64(page, 24, meta.free);
+    put_u128(page, 32, meta.mass);
 }
 
-fn put_roots(front: &mut Front, meta: &Meta)
-    requires room { array_vec_len front.old ≤ 48 }
+fn put_roots(page: &mut Page, meta: &Meta)
     requires few { length meta.now.roots.items ≤ 96 }
-    ensures { front.new.items ≡ front.old.items ++ root_bytes meta.now }
+    ensures { take (80 + length meta.now.roots.items * 28) page.new ≡ take 48 page.old ++ root_bytes meta.now }
 {
-    meta.table.put(front);
-    put_u32(front, meta.roots.len() as u32);
-    put_all(front, meta.roots.as_slice());
+    meta.table.put(page, 48);
+    put_u32(page, 76, meta.roots.len() as u32);
+    put_all(page, 80, meta.roots.as_slice());
 }
 
 fn read_roots(page: &Page) -> ArrayVec<Tree, 96>
@@ -85,9 +80,9 @@ impl Spelled for Meta {
     ghost value_in = { meta_in };
 
     fn write(&self, page: &mut Page) {
-        let mut front = counts(self);
-        put_roots(&mut front, self);
-        finish(&front, page);
+        put_counts(page, self);
+        put_roots(page, self);
+        finish(page, 80 + self.roots.len() * 28);
     }
 
     fn guess(page: &Page) -> Meta {

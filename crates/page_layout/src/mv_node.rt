@@ -7,7 +7,7 @@ ghost use Rattle.page_layout.specs.MvNodeLaws.{mv_node_in-page};
 use crate::children::child_fits;
 use crate::counted::{read_double, read_entries, read_word, write_counted};
 use crate::entry::{Entry, Own, are_in_order};
-use crate::front::{Front, put_u32, put_u64, put_u128};
+use crate::front::{put_u32, put_u64, put_u128};
 use crate::mv_view::is_node;
 use crate::number::{bytes_of, number_u32, number_u64, number_u128, skip};
 use crate::spelled::{Spelled, TreePage};
@@ -57,12 +57,12 @@ impl Entry<Own> for MvEntry {
 
     ghost precedes = { λ e next. IsTrue (mv_precedes e next) };
 
-    fn put(&self, front: &mut Front) {
-        put_u64(front, self.low);
-        put_u32(front, self.start);
-        put_u32(front, self.end);
-        put_u128(front, self.value);
-        put_u64(front, self.child);
+    fn put(&self, page: &mut Page, place: usize) {
+        put_u64(page, place, self.low);
+        put_u32(page, place + 8, self.start);
+        put_u32(page, place + 12, self.end);
+        put_u128(page, place + 16, self.value);
+        put_u64(page, place + 32, self.child);
     }
 
     fn get(bytes: &[u8]) -> MvEntry {
@@ -80,7 +80,8 @@ impl Entry<Own> for MvEntry {
     }
 
     fn precedes(&self, next: &MvEntry) -> bool {
-        self.low < next.low || (self.low == next.low && self.start < next.start)
+        // Which of the two decides differs from entry to entry: no branch could be foreseen.
+        (self.low < next.low) | ((self.low == next.low) & (self.start < next.start))
     }
 
     ghost has_size = { λ x _. length-mv_entry x };

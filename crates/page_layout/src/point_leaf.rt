@@ -6,7 +6,7 @@ ghost use Rattle.page_layout.specs.PointLeafLaws.{point_leaf_in-page};
 
 use crate::counted::{read_double, read_entries, write_counted};
 use crate::entry::{Entry, Own};
-use crate::front::{Front, put_u32, put_u128};
+use crate::front::{put_u32, put_u128};
 use crate::number::{bytes_of, number_u32, number_u128, skip};
 use crate::point_view::is_leaf;
 use crate::spelled::{Spelled, TreePage};
@@ -43,10 +43,10 @@ impl Entry<Own> for Point {
 
     ghost precedes = { λ _ _. Unit {0} };
 
-    fn put(&self, front: &mut Front) {
-        put_three_u64(front, &self.keys);
-        put_u32(front, self.version);
-        put_u128(front, self.weight);
+    fn put(&self, page: &mut Page, place: usize) {
+        put_three_u64(page, place, &self.keys);
+        put_u32(page, place + 24, self.version);
+        put_u128(page, place + 28, self.weight);
     }
 
     fn get(bytes: &[u8]) -> Point {

@@ -8,7 +8,7 @@ ghost use Rattle.page_layout.specs.SbNodeLaws.{sb_node_in-page};
 use crate::children::child_fits;
 use crate::counted::{read_entries, write_counted};
 use crate::entry::{Entry, Own, are_in_order};
-use crate::front::{Front, put_u32, put_u64, put_u128};
+use crate::front::{put_u32, put_u64, put_u128};
 use crate::number::{bytes_of, number_u32, number_u64, number_u128, skip};
 use crate::sb_view::is_node;
 use crate::spelled::{Spelled, TreePage};
@@ -51,10 +51,10 @@ impl Entry<Own> for SbEntry {
 
     ghost precedes = { λ e next. e.low < next.low };
 
-    fn put(&self, front: &mut Front) {
-        put_u32(front, self.low);
-        put_u128(front, self.value);
-        put_u64(front, self.child);
+    fn put(&self, page: &mut Page, place: usize) {
+        put_u32(page, place, self.low);
+        put_u128(page, place + 4, self.value);
+        put_u64(page, place + 20, self.child);
     }
 
     fn get(bytes: &[u8]) -> SbEntry {

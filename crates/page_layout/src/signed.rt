@@ -5,8 +5,9 @@ ghost use Rattle.std.specs.Int.RustNames.{FitsSigned};
 ghost use Rattle.page_layout.specs.Signed.{signed_bytes, signed_at, length-signed, signed-back};
 
 use crate::entry::{Entry, Own};
-use crate::front::{Front, put_u64};
+use crate::front::put_u64;
 use crate::number::number_u64;
+use page_ports::Page;
 
 /// The signed number in the first eight bytes.
 pub(crate) fn number_i64(bytes: &[u8]) -> i64
@@ -33,8 +34,8 @@ impl Entry<Own> for i64 {
 
     ghost precedes = { λ _ _. Unit {0} };
 
-    fn put(&self, front: &mut Front) {
-        put_u64(front, self.cast_unsigned());
+    fn put(&self, page: &mut Page, place: usize) {
+        put_u64(page, place, self.cast_unsigned());
     }
 
     fn get(bytes: &[u8]) -> i64 {

@@ -4,7 +4,7 @@ ghost use Rattle.bw_types.specs.Fits.{IsInRange};
 ghost use Rattle.page_layout.specs.Super.{IsSuper, IsTyped, super_in, format_of, degree_byte, degree_in, super_page};
 ghost use Rattle.page_layout.specs.SuperLaws.{super_in-page};
 
-use crate::front::{Front, finish, put, put_u8, put_u32, put_u64};
+use crate::front::{finish, put, put_u8, put_u32, put_u64};
 use crate::number::{after, number_u32, number_u64};
 use crate::spelled::Spelled;
 use bw_types::Params;
@@ -72,16 +72,15 @@ impl Spelled for Super {
     ghost value_in = { super_in };
 
     fn write(&self, page: &mut Page) {
-        let mut front = Front::new();
-        put(&mut front, b"BOXSUMWH");
-        put_u8(&mut front, format_of(self.params.origin));
-        put_u8(&mut front, self.params.dims);
-        put_u8(&mut front, degree_byte(self.params.degree));
-        put_u8(&mut front, 0);
-        put_u32(&mut front, self.params.events);
-        put_u64(&mut front, self.params.pages);
-        put_u32(&mut front, self.params.origin);
-        finish(&front, page);
+        put(page, 0, b"BOXSUMWH");
+        put_u8(page, 8, format_of(self.params.origin));
+        put_u8(page, 9, self.params.dims);
+        put_u8(page, 10, degree_byte(self.params.degree));
+        put_u8(page, 11, 0);
+        put_u32(page, 12, self.params.events);
+        put_u64(page, 16, self.params.pages);
+        put_u32(page, 24, self.params.origin);
+        finish(page, 28);
     }
 
     fn guess(page: &Page) -> Super {

@@ -6,7 +6,7 @@ ghost use Rattle.page_layout.specs.TableNodeLaws.{table_node_in_use, table_node_
 use crate::counted::{read_entries, write_counted};
 use crate::dated::ById;
 use crate::entry::{Entry, Own, are_in_order};
-use crate::front::{Front, put_u64};
+use crate::front::put_u64;
 use crate::number::{bytes_of, number_u64, skip};
 use crate::spelled::{Spelled, TreePage};
 use crate::table_view::is_node;
@@ -59,9 +59,9 @@ impl Entry<Own> for TableEntry {
 
     ghost precedes = { λ e next. e.low < next.low };
 
-    fn put(&self, front: &mut Front) {
-        put_u64(front, self.low);
-        put_u64(front, self.child);
+    fn put(&self, page: &mut Page, place: usize) {
+        put_u64(page, place, self.low);
+        put_u64(page, place + 8, self.child);
     }
 
     fn get(bytes: &[u8]) -> TableEntry {

@@ -1,31 +1,29 @@
 //! Three numbers of one size in a row.
-ghost use Rattle.std.specs.Prelude.{◌≡◌, ◌+◌, ◌≤◌, ◌++◌, length};
-ghost use Rattle.arrayvec.specs.ArrayVec.{array_vec_len};
+ghost use Rattle.std.specs.Prelude.{◌≡◌, ◌+◌, ◌≤◌, ◌++◌, length, take};
 ghost use Rattle.page_layout.specs.Three.{three_bytes, three_in};
 
-use crate::front::{Front, put_u32, put_u64};
+use crate::front::{put_u32, put_u64};
 use crate::number::{number_u32, number_u64, skip};
+use page_ports::Page;
 
-/// Appends three numbers of four bytes each.
-pub(crate) fn put_three_u32(front: &mut Front, numbers: &[u32; 3])
-    requires { array_vec_len front.old + 12 ≤ 4096 }
-    ensures items { front.new.items ≡ front.old.items ++ three_bytes 4 numbers.now }
-    ensures len { array_vec_len front.new ≡ array_vec_len front.old + 12 }
+/// Writes three numbers of four bytes each.
+pub(crate) fn put_three_u32(page: &mut Page, place: usize, numbers: &[u32; 3])
+    requires { place + 12 ≤ 4096 }
+    ensures { take (place + 12) page.new ≡ take place page.old ++ three_bytes 4 numbers.now }
 {
-    put_u32(front, numbers[0]);
-    put_u32(front, numbers[1]);
-    put_u32(front, numbers[2]);
+    put_u32(page, place, numbers[0]);
+    put_u32(page, place + 4, numbers[1]);
+    put_u32(page, place + 8, numbers[2]);
 }
 
-/// Appends three numbers of eight bytes each.
-pub(crate) fn put_three_u64(front: &mut Front, numbers: &[u64; 3])
-    requires { array_vec_len front.old + 24 ≤ 4096 }
-    ensures items { front.new.items ≡ front.old.items ++ three_bytes 8 numbers.now }
-    ensures len { array_vec_len front.new ≡ array_vec_len front.old + 24 }
+/// Writes three numbers of eight bytes each.
+pub(crate) fn put_three_u64(page: &mut Page, place: usize, numbers: &[u64; 3])
+    requires { place + 24 ≤ 4096 }
+    ensures { take (place + 24) page.new ≡ take place page.old ++ three_bytes 8 numbers.now }
 {
-    put_u64(front, numbers[0]);
-    put_u64(front, numbers[1]);
-    put_u64(front, numbers[2]);
+    put_u64(page, place, numbers[0]);
+    put_u64(page, place + 8, numbers[1]);
+    put_u64(page, place + 16, numbers[2]);
 }
 
 /// The three numbers in the first twelve bytes.

@@ -3,9 +3,10 @@ ghost use Rattle.std.specs.Prelude.{◌≡◌, IsTrue};
 ghost use Rattle.page_layout.specs.TreeValue.{tree_bytes, tree_at, IsTreeTyped, is_all_zero, has_pages, tree_fits, plain_tree_fits, length-tree, tree-back};
 
 use crate::entry::{Entry, Own};
-use crate::front::{Front, put, put_u8, put_u32, put_u64};
+use crate::front::{put, put_u8, put_u32, put_u64};
 use crate::number::{number_u32, number_u64, skip};
 use bw_types::Tree;
+use page_ports::Page;
 
 fn is_all_zero(tree: &Tree) -> bool
     ensures { result ≡ is_all_zero tree.now }
@@ -55,13 +56,13 @@ impl Entry<Own> for Tree {
 
     ghost precedes = { λ _ _. Unit {0} };
 
-    fn put(&self, front: &mut Front) {
-        put_u64(front, self.root);
-        put_u8(front, self.levels);
-        put(front, &[0, 0, 0]);
-        put_u32(front, self.count);
-        put_u32(front, self.changes);
-        put_u64(front, self.last);
+    fn put(&self, page: &mut Page, place: usize) {
+        put_u64(page, place, self.root);
+        put_u8(page, place + 8, self.levels);
+        put(page, place + 9, &[0, 0, 0]);
+        put_u32(page, place + 12, self.count);
+        put_u32(page, place + 16, self.changes);
+        put_u64(page, place + 20, self.last);
     }
 
     fn get(bytes: &[u8]) -> Tree {
