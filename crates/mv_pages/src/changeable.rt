@@ -26,7 +26,7 @@ pub fn is_changeable(node: &MvNode, version: u32) -> bool
 fn are_past(entries: &[MvEntry], version: u32) -> bool
     ensures { result ≡ list_all (is_past version) entries.now }
 {
-    entries.iter().all(|e| e.start <= version && (e.end == OPEN || e.end <= version))
+    entries.iter().all(|e| (e.start <= version) & ((e.end == OPEN) | (e.end <= version)))
 }
 
 // Whether the low is above the last one.
@@ -45,10 +45,11 @@ fn do_ascend(entries: &[MvEntry], version: u32) -> bool
 {
     let mut last = None;
     for e in entries {
-        if is_alive(e, version) {
-            if !follows(last, e.low) {
-                return false;
-            }
+        let alive = is_alive(e, version);
+        if alive & !follows(last, e.low) {
+            return false;
+        }
+        if alive {
             last = Some(e.low);
         }
     }

@@ -13,14 +13,15 @@ pub(crate) const OPEN: u32 = 4294967295;
 pub(crate) fn is_alive(e: &MvEntry, version: u32) -> bool
     ensures { result ≡ is_alive version e.now }
 {
-    e.start <= version && (version < e.end || e.end == OPEN)
+    // No branch: which entries are alive cannot be foreseen.
+    (e.start <= version) & ((version < e.end) | (e.end == OPEN))
 }
 
 /// Whether the entry is alive at the version and begins at or below the key.
 pub(crate) fn reaches(e: &MvEntry, key: u64, version: u32) -> bool
     ensures { result ≡ reaches key version e.now }
 {
-    e.low <= key && is_alive(e, version)
+    (e.low <= key) & is_alive(e, version)
 }
 
 /// The index of the entry that is alive at the version and begins at the low.
@@ -29,7 +30,7 @@ pub(crate) fn alive_index(entries: &[MvEntry], low: u64, version: u32) -> Option
 {
     entries
         .iter()
-        .position(|e| e.low == low && is_alive(e, version))
+        .position(|e| (e.low == low) & is_alive(e, version))
 }
 
 /// The index of the last entry that is alive at the version and begins at or below the key.
@@ -51,7 +52,7 @@ pub(crate) fn next_index(entries: &[MvEntry], key: u64, version: u32) -> Option<
 {
     entries
         .iter()
-        .position(|e| key < e.low && is_alive(e, version))
+        .position(|e| (key < e.low) & is_alive(e, version))
 }
 
 /// The index of the first entry that begins above the low.

@@ -1,7 +1,7 @@
 -- A walk over the entries of a node, one after another.
-use Rattle.std.proofs.Common.{◌≡◌, ℕ, ◌+◌, ◌%◌, ◌^◌, ◌<◌, ◌≤◌, ◌==◌, true, false, cond, nat_le, nat_lt, IsSome, List, [], ◌∷◌, ◌++◌, Option, Some, None, inl, inr, refl, sym, ap, ◌∙◌, subst, arith}
+use Rattle.std.proofs.Common.{◌≡◌, ℕ, ◌+◌, ◌%◌, ◌^◌, ◌<◌, ◌≤◌, ◌==◌, ◌⊎◌, ◌&&◌, Bool, true, false, not, cond, nat_le, nat_lt, is_some, IsSome, List, [], ◌∷◌, ◌++◌, Option, Some, None, inl, inr, refl, sym, ap, ◌∙◌, subst, arith}
 use Rattle.std.proofs.Math.Nat.{mod-add-mod}
-use Rattle.std.proofs.lemmas.Bool.{cases_Bool, and_from, and_left, and_right, le-leb, le-ltb, lt-leb, lt-ltb, cond-true, eq-eqb}
+use Rattle.std.proofs.lemmas.Bool.{cases_Bool, and_from, and_left, and_right, le-leb, le-ltb, leb-false, leb-true, lt-leb, lt-ltb, cond-true, eq-eqb}
 use Rattle.std.proofs.lemmas.List.Sums.{sum_by-append}
 use Rattle.page_layout.specs.declared.mv_node.MvNode.{MvNode}
 use Rattle.page_layout.specs.declared.mv_node.MvEntry.{MvEntry}
@@ -125,6 +125,44 @@ module _ (es : List MvEntry) (e : MvEntry) (place : Place) (w : Walked) (walked 
         last = last ∙ walked.last ∙ ap lead_of (sym (last_same here.0));
         next = next ∙ ap low_of (sym (next_push es e key v ∙ ap (first_or (next_entry es key v)) here.1 ∙ first));
       }
+
+  same : IsWalked more place w → (w2 : Walked) → w2.value ≡ w.value → w2.last ≡ w.last → w2.next ≡ w.next → IsWalked more place w2
+  same told w2 value last next = record { value = value ∙ told.value; last = last ∙ told.last; next = next ∙ told.next }
+
+  nothing : (w.value + 0) % 2 ^ 128 ≡ w.value
+  nothing =
+      let none : value_of es key v + 0 ≡ value_of es key v = omega arith in
+      ap (λ (n : ℕ). (n + 0) % 2 ^ 128) walked.value ∙ mod-add-mod (value_of es key v) (2 ^ 128) 0 ∙ ap (λ (n : ℕ). n % 2 ^ 128) none ∙ sym walked.value
+
+  some_or_none : (o : Option ℕ) (none : Bool) → is_some o ≡ not none → (IsSome o × (none ≡ false)) ⊎ ((o ≡ None) × (none ≡ true))
+  some_or_none None true is = inr (refl, refl)
+  some_or_none (Some x) false is = inl (cc, refl)
+  some_or_none None false is = absurd cc
+  some_or_none (Some x) true is = absurd cc
+
+  -- One more entry as the walk takes it in: by whether it is alive, where it begins, and whether there was a next one.
+  pub walked_on : (alive none : Bool) → is_alive v e ≡ alive → is_some w.next ≡ not none → (w2 : Walked)
+      → w2.value ≡ (w.value + cond (alive && nat_le e.low key) e.value 0) % 2 ^ 128
+      → w2.last ≡ cond (alive && nat_le e.low key) (lead_of (Some e)) w.last
+      → w2.next ≡ cond ((alive && nat_lt key e.low) && none) (Some e.low) w.next → IsWalked more place w2
+  walked_on false none lives is w2 value last next = same (walked_dead lives) w2 (value ∙ nothing) last next
+  walked_on true none lives is w2 value last next = elim (cases_Bool (nat_le e.low key)) [
+    | inl le ↦
+        let at : e.low ≤ key = leb-true e.low key le in
+        walked_below lives at w2
+        (value ∙ ap (λ (b : Bool). (w.value + cond b e.value 0) % 2 ^ 128) le)
+        (last ∙ ap (λ (b : Bool). cond b (lead_of (Some e)) w.last) le)
+        (next ∙ ap (λ (b : Bool). cond (b && none) (Some e.low) w.next) (le-ltb key e.low at))
+    | inr gt ↦
+        let above : key < e.low = leb-false e.low key gt in
+        let value2 : w2.value ≡ w.value = value ∙ ap (λ (b : Bool). (w.value + cond b e.value 0) % 2 ^ 128) gt ∙ nothing in
+        let last2 : w2.last ≡ w.last = last ∙ ap (λ (b : Bool). cond b (lead_of (Some e)) w.last) gt in
+        let next2 : w2.next ≡ cond none (Some e.low) w.next = next ∙ ap (λ (b : Bool). cond (b && none) (Some e.low) w.next) (lt-ltb key e.low above) in
+        elim (some_or_none w.next none is) [
+          | inl some ↦ same (walked_past lives above some.0) w2 value2 last2 (next2 ∙ ap (λ (b : Bool). cond b (Some e.low) w.next) some.1)
+          | inr absent ↦ walked_next lives above absent.0 w2 value2 last2 (next2 ∙ ap (λ (b : Bool). cond b (Some e.low) w.next) absent.1)
+        ]
+  ]
 
 lead_found : (o : Option MvEntry) (l : Lead) → lead_of o ≡ Some l → (e : MvEntry) × (o ≡ Some e) × (e.child ≡ l.child) × (e.low ≡ l.low)
 lead_found None l is = (let none : ◌≡◌ {A = Option Lead} None (Some l) = is in absurd cc)

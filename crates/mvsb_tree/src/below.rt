@@ -27,7 +27,7 @@ use page_ports::{Stage, StageFault};
 pub fn add_on<S: Stage>(
     stage: &mut S,
     page: u64,
-    node: MvNode,
+    mut node: MvNode,
     place: Place,
     value: u128,
     last: &mut u64,
@@ -64,7 +64,6 @@ pub fn add_on<S: Stage>(
         → S.free_in_order stage.old → result ≢ Err (StageFault.Damaged p) }
     ensures grows { Grows S.Pages (node.level + node.level) stage.old stage.new result }
 {
-    let mut node = node;
     let Some(step) = step_from(&node, place) else {
         add_to_leaf(&mut node, place.key, place.version, value);
         return store(stage, page, &node, place.version, last);

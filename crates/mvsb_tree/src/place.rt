@@ -38,7 +38,8 @@ const OPEN: u32 = 4294967295;
 pub fn is_alive(e: &MvEntry, version: u32) -> bool
     ensures { result ≡ spec_is_alive version e.now }
 {
-    e.start <= version && (version < e.end || e.end == OPEN)
+    // No branch: which entries are alive cannot be foreseen.
+    (e.start <= version) & ((version < e.end) | (e.end == OPEN))
 }
 
 fn ends_after(high: Option<u64>, low: u64) -> bool
@@ -54,7 +55,7 @@ fn ends_after(high: Option<u64>, low: u64) -> bool
 pub fn begins_within(e: &MvEntry, place: Place) -> bool
     ensures { result ≡ spec_begins_within place e.now }
 {
-    !is_alive(e, place.version) || (place.low <= e.low && ends_after(place.high, e.low))
+    !is_alive(e, place.version) | ((place.low <= e.low) & ends_after(place.high, e.low))
 }
 
 fn begin_within(entries: &[MvEntry], place: Place) -> bool

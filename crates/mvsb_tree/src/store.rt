@@ -47,7 +47,8 @@ pub fn store<S: Stage>(
     Ok(Some(replaced))
 }
 
-// Closes a node of more than 96 entries.
+// Closes a node of more than 96 entries. Stands by itself, so that a node that fits does not pay for the room of the copies.
+#[inline(never)]
 fn close<S: Stage>(
     stage: &mut S,
     page: u64,

@@ -1,9 +1,9 @@
 //! What a node tells, in one walk over its entries where they stand.
-ghost use Rattle.std.specs.Prelude.{◌≡◌, ◌⊎◌, ◌∷◌, ◌++◌, [], List, IsSome, IfSome, None};
+ghost use Rattle.std.specs.Prelude.{◌≡◌, ◌⊎◌, ◌∷◌, ◌++◌, [], List, cond, IsSome, IfSome, Some, None};
 ghost use Rattle.mv_pages.specs.Alive.{child_of, node_value};
 ghost use Rattle.page_layout.specs.declared.mv_node.MvEntry.{MvEntry};
 ghost use Rattle.mvsb_tree.specs.Damage.{IsInPlace, LeadsTo};
-ghost use Rattle.mvsb_tree.specs.Walks.{IsWalked, TellsOf};
+ghost use Rattle.mvsb_tree.specs.Walks.{IsWalked, TellsOf, lead_of};
 
 use crate::place::{Place, begins_within, inner_place, is_alive};
 use crate::step::Step;
@@ -59,27 +59,43 @@ pub fn told_on(view: &View<MvNode>, place: Place) -> Option<Told>
 fn walk_on(walked: Walked, e: &MvEntry, place: Place) -> Walked
     ensures { (es : List MvEntry) → IsWalked es place walked → IsWalked (es ++ e.now ∷ []) place result }
 {
-    if !is_alive(e, place.version) {
-        return walked;
-    }
-    if e.low <= place.key {
-        return Walked {
-            value: walked.value.wrapping_add(e.value),
-            last: Some(Lead {
-                child: e.child,
-                low: e.low,
-            }),
-            next: walked.next,
-        };
-    }
-    if walked.next.is_some() {
-        return walked;
-    }
+    // Conditions are joined and not branched on: which entries are alive cannot be foreseen.
+    let alive = is_alive(e, place.version);
+    let below = alive & (e.low <= place.key);
+    let first = alive & (place.key < e.low) & walked.next.is_none();
     Walked {
-        value: walked.value,
-        last: walked.last,
-        next: Some(e.low),
+        value: walked.value.wrapping_add(worth(e, below)),
+        last: last_with(walked.last, e, below),
+        next: next_with(walked.next, e, first),
     }
+}
+
+// What the entry adds, if it counts.
+fn worth(e: &MvEntry, counts: bool) -> u128
+    ensures { result ≡ cond counts e.now.value 0 }
+{
+    e.value.wrapping_mul(u128::from(counts))
+}
+
+// The last entry, which is this one if it leads on.
+fn last_with(last: Option<Lead>, e: &MvEntry, leads: bool) -> Option<Lead>
+    ensures { result ≡ cond leads (lead_of (Some e.now)) last }
+{
+    if leads {
+        Some(Lead {
+            child: e.child,
+            low: e.low,
+        })
+    } else {
+        last
+    }
+}
+
+// Where the next one begins, which is this one if it is the first.
+fn next_with(next: Option<u64>, e: &MvEntry, first: bool) -> Option<u64>
+    ensures { result ≡ cond first (Some e.now.low) next }
+{
+    if first { Some(e.low) } else { next }
 }
 
 // What the node tells, all of whose entries were passed, or `None` where an index node leads nowhere.

@@ -60,9 +60,8 @@ pub(crate) fn put_u128(page: &mut Page, place: usize, number: u128)
     requires { place + 16 ≤ 4096 }
     ensures { take (place + 16) page.new ≡ take place page.old ++ spelled 16 number }
 {
-    let mut bytes = [0; 16];
-    BigEndian::write_u128(&mut bytes, number);
-    put(page, place, &bytes);
+    put_u64(page, place, (number >> 64) as u64);
+    put_u64(page, place + 8, (number % (1 << 64)) as u64);
 }
 
 /// Writes zeros from a place on.

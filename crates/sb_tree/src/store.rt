@@ -1,5 +1,5 @@
 //! Storing a node in its page, or in two.
-ghost use Rattle.std.specs.Prelude.{◌≡◌, ℕ, Err, IsTrue, IsSome, IfOk};
+ghost use Rattle.std.specs.Prelude.{◌≡◌, ℕ, Some, Err, IsTrue, IsSome, IfOk, length};
 ghost use Rattle.page_ports.specs.Calls.{Grows};
 ghost use Rattle.sb_tree.specs.Stored.{IsSecondOf, IsStorable, IsStored};
 
@@ -23,6 +23,23 @@ pub fn store<S: Stage>(stage: &mut S, page: u64, node: SbNode) -> Result<Option<
         put_page(stage, page, &node)?;
         return Ok(None);
     }
+    let second = store_halves(stage, page, node)?;
+    Ok(Some(second))
+}
+
+// Stores the first 32 of 65 entries in the page, and the others in a new one, which is the result. Stands by itself, so that a node
+// that fits does not pay for the room of the halves.
+#[inline(never)]
+fn store_halves<S: Stage>(stage: &mut S, page: u64, node: SbNode) -> Result<Second, StageFault>
+    requires rules { IsStorable node }
+    requires full { length node.entries.items ≡ 65 }
+    requires in_map { IsTrue (S.tells stage.old) → IsSome (S.map stage.old page) }
+    ensures stored { IfOk result (λ second. IsTrue (S.tells stage.old)
+        → IsStored node.level node.entries.items (S.map stage.old) (S.map stage.new) page (Some second)) }
+    ensures second { IfOk result (λ second. IsSecondOf node.entries.items (Some second)) }
+    ensures damaged { (p : ℕ) → result ≡ Err (StageFault.Damaged p) → IsTrue (S.tells stage.old) → ¬ S.free_in_order stage.old }
+    ensures grows { Grows S.Pages 1 stage.old stage.new result }
+{
     let mut first = node.entries;
     let second = split_off(&mut first, 32);
     let low = second.as_slice()[0].low;
@@ -44,8 +61,8 @@ pub fn store<S: Stage>(stage: &mut S, page: u64, node: SbNode) -> Result<Option<
             entries: first,
         },
     )?;
-    Ok(Some(Second {
+    Ok(Second {
         low,
         page: second_page,
-    }))
+    })
 }
