@@ -1,5 +1,5 @@
 //! The entries of pages of cuts.
-ghost use Rattle.std.specs.Prelude.{◌≡◌, ◌+◌, ◌≤◌, ◌++◌, length, take, IsTrue};
+ghost use Rattle.std.specs.Prelude.{◌≡◌, ◌+◌, ◌*◌, ◌≤◌, ◌++◌, ◌↔◌, length, take, IsTrue};
 ghost use Rattle.std.specs.List.{All, flat_map, list_all};
 ghost use Rattle.page_layout.specs.Entries.{entries_at};
 ghost use Rattle.page_layout.specs.TreeValue.{IsTreeTyped, tree_at, tree_fits};
@@ -109,6 +109,55 @@ fn outside_fits(outside: &Outside) -> bool
             plain_tree_fits(subtotal) && borders_fit(borders)
         }
     }
+}
+
+// Whether a tree keeps its rule, where its bytes stand.
+fn tree_fits_at(bytes: &[u8]) -> bool
+    requires { 28 ≤ length bytes.now }
+    ensures { result ≡ tree_fits (tree_at bytes.now) }
+{
+    tree_fits(&Tree::get(bytes))
+}
+
+#[tactic(auto, unfolding(crate::specs::Entries::entries_at))]
+fn borders_fit_at(bytes: &[u8]) -> bool
+    requires { 84 ≤ length bytes.now }
+    ensures { result ≡ list_all tree_fits (entries_at tree_at 28 3 bytes.now) }
+{
+    let second = skip(bytes, 28);
+    tree_fits_at(bytes) && (tree_fits_at(second) && tree_fits_at(skip(second, 28)))
+}
+
+fn outside_fits_at(bytes: &[u8]) -> bool
+    requires { 112 ≤ length bytes.now }
+    ensures { result ≡ outside_fits (outside_at bytes.now) }
+{
+    if bytes[8] == POCKET {
+        return outside_fits(&get_pocket(bytes));
+    }
+    plain_tree_fits(&Tree::get(bytes)) && borders_fit_at(skip(bytes, 28))
+}
+
+// Whether an entry keeps its rule, where its bytes stand: an entry in memory is four times what is asked here.
+fn entry_fits_at(bytes: &[u8]) -> bool
+    requires { 120 ≤ length bytes.now }
+    ensures { result ≡ ba_entry_fits (ba_entry_at bytes.now) }
+{
+    number_u64(bytes) >= 3 && outside_fits_at(skip(bytes, 8))
+}
+
+/// Whether so many entries in a row keep their rules, where their bytes stand.
+pub(crate) fn entries_fit_at(count: usize, bytes: &[u8]) -> bool
+    requires { count * 120 ≤ length bytes.now }
+    ensures { IsTrue result ↔ All (λ e. IsTrue (ba_entry_fits e)) (entries_at ba_entry_at 120 count bytes.now) }
+{
+    if count == 0 {
+        return true;
+    }
+    if !entry_fits_at(bytes) {
+        return false;
+    }
+    entries_fit_at(count - 1, skip(bytes, 120))
 }
 
 impl Entry<Own> for BaEntry {

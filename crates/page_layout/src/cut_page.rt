@@ -7,6 +7,7 @@ ghost use Rattle.page_layout.specs.Counted.{not_free};
 ghost use Rattle.page_layout.specs.CutPage.{IsCutPage, IsTyped, count_in, nodes_in, entries_in, cut_page_in, cut_page_page};
 ghost use Rattle.page_layout.specs.CutPageLaws.{cut_page_in-page};
 
+use crate::ba_entry::entries_fit_at;
 use crate::counted::{read_body, read_count, read_double, read_word, start};
 use crate::cut_node::{CutNode, spell_cuts};
 use crate::entry::{each_keeps, get_all, put_all};
@@ -57,6 +58,27 @@ fn read_cut_entries(page: &Page, count: usize) -> ArrayVec<BaEntry, 17>
 {
     let nodes = (2 * count).saturating_sub(1);
     get_all(count, skip(read_body(page), nodes * 16))
+}
+
+// Whether what the page may spell keeps its rules, which are tested where its bytes stand.
+fn keeps_rules_at(page: &Page) -> bool
+    ensures rules { IsTrue result ↔ IsCutPage (cut_page_in page.now) }
+    ensures typed { IsTyped (cut_page_in page.now) }
+{
+    let _bytes = bytes_of(page);
+    let level = page[1];
+    let count = count_in(page);
+    let nodes = read_nodes(page, count);
+    if level < 2 || level > 16 {
+        return false;
+    }
+    if count < 1 {
+        return false;
+    }
+    if !spell_cuts(nodes.as_slice(), count) {
+        return false;
+    }
+    entries_fit_at(count, skip(read_body(page), nodes.len() * 16))
 }
 
 // Whether the page is the spelling of what it may spell.
@@ -122,8 +144,7 @@ impl Spelled for CutPage {
     }
 
     fn is_spelled(page: &Page) -> bool {
-        let value = CutPage::guess(page);
-        value.keeps_rules() && is_exact(page)
+        keeps_rules_at(page) && is_exact(page)
     }
 
     ghost reads_back = { cut_page_in-page };

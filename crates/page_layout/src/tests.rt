@@ -219,6 +219,33 @@ fn a_full_page_of_cuts(rt: HostRuntime) -> Result<(), Fail> {
     Ok(())
 }
 
+#[test]
+fn each_tree_of_an_entry_is_tested(rt: HostRuntime) -> Result<(), Fail> {
+    let mut page = blank_page();
+    page[0] = 4;
+    page[1] = 2;
+    page[3] = 1;
+    page[39] = 3;
+    assert!(rt; CutPage::read(&page).is_some());
+    for tree in [40, 68, 96, 124] {
+        // Levels, but no root and nothing in it; then no count; then a tree.
+        page[tree + 8] = 16;
+        assert!(rt; CutPage::read(&page).is_none());
+        page[tree + 7] = 3;
+        assert!(rt; CutPage::read(&page).is_none());
+        page[tree + 15] = 1;
+        assert!(rt; CutPage::read(&page).is_some());
+        page[tree + 8] = 17;
+        assert!(rt; CutPage::read(&page).is_none());
+        page[tree + 8] = 16;
+        // Only a border may have a directory.
+        page[tree + 19] = 1;
+        assert!(rt; CutPage::read(&page).is_some() == (tree > 40));
+        page[tree + 19] = 0;
+    }
+    Ok(())
+}
+
 // How many objects a leaf has that is read in place, and the id and life of the last one.
 fn last_life(page: &Page) -> Option<(usize, u64, u32)> {
     let view = View::<LifeNode>::on(page)?;
