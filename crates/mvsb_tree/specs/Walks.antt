@@ -1,5 +1,5 @@
 -- What a walk over the entries of a node tells of a key and a version.
-use Rattle.std.specs.Prelude.{◌≡◌, ℕ, ◌%◌, ◌^◌, List, Option, Some, None}
+use Rattle.std.specs.Prelude.{◌≡◌, ℕ, ◌%◌, ◌^◌, List, Option, Some, None, if◌then◌else◌}
 use Rattle.page_ports.specs.Pages.{PageMap}
 use Rattle.page_layout.specs.MvNode.{mv_node_page}
 use Rattle.page_layout.specs.declared.mv_node.MvNode.{MvNode}
@@ -10,6 +10,7 @@ use Rattle.mvsb_tree.specs.declared.place.Place.{Place}
 use Rattle.mvsb_tree.specs.declared.step.Step.{Step}
 use Rattle.mvsb_tree.specs.declared.told.Lead.{Lead}
 use Rattle.mvsb_tree.specs.declared.told.Told.{Told}
+use Rattle.mvsb_tree.specs.declared.told.Walk.{Walk}
 use Rattle.mvsb_tree.specs.declared.told.Walked.{Walked}
 use Rattle.mvsb_tree.specs.Damage.{FitsPlace, LeadsTo}
 
@@ -17,6 +18,14 @@ use Rattle.mvsb_tree.specs.Damage.{FitsPlace, LeadsTo}
 abbrev pub lead_of : Option MvEntry → Option Lead
 lead_of None = None
 lead_of (Some e) = Some (record { child = e.child; low = e.low })
+
+-- what was found, of the plain numbers of a walk
+abbrev pub walked_of : Walk → Walked
+walked_of walk = record {
+  value = walk.value;
+  last = if walk.leads then Some (record { child = walk.child; low = walk.low }) else None;
+  next = if walk.ends then Some walk.next else None;
+}
 
 -- This is what the entries tell at the place's key and version.
 pub record IsWalked (entries : List MvEntry) (place : Place) (walked : Walked) : Type 0 where

@@ -3,7 +3,7 @@ ghost use Rattle.std.specs.Prelude.{◌≡◌, ◌⊎◌, ◌∷◌, ◌++◌, [
 ghost use Rattle.mv_pages.specs.Alive.{child_of, node_value};
 ghost use Rattle.page_layout.specs.declared.mv_node.MvEntry.{MvEntry};
 ghost use Rattle.mvsb_tree.specs.Damage.{IsInPlace, LeadsTo};
-ghost use Rattle.mvsb_tree.specs.Walks.{IsWalked, TellsOf, lead_of};
+ghost use Rattle.mvsb_tree.specs.Walks.{IsWalked, TellsOf, walked_of};
 
 use crate::place::{Place, begins_within, inner_place, is_alive};
 use crate::step::Step;
@@ -34,39 +34,57 @@ pub struct Walked {
     pub next: Option<u64>,
 }
 
+// The same in plain numbers: `child` and `low` mean something where an entry `leads` on, and `next` where one
+// `ends` the place. A number is chosen without a branch; the compiler makes one where an option is set.
+#[derive(Clone, Copy)]
+pub struct Walk {
+    value: u128,
+    leads: bool,
+    child: u64,
+    low: u64,
+    ends: bool,
+    next: u64,
+}
+
 /// What a node tells in a place, or `None` exactly where it does not keep to the place.
 pub fn told_on(view: &View<MvNode>, place: Place) -> Option<Told>
     ensures none { result ≡ None → IsInPlace view.now.level place view.now → ⊥ }
     ensures fits { IfSome result (λ told. IsInPlace view.now.level place view.now) }
     ensures told { IfSome result (λ told. TellsOf view.now place told) }
 {
-    let mut walked = Walked {
+    let mut walk = Walk {
         value: 0,
-        last: None,
-        next: None,
+        leads: false,
+        child: 0,
+        low: 0,
+        ends: false,
+        next: 0,
     };
     for index in 0..view.len() {
         let e = view.entry(index);
         if !begins_within(&e, place) {
             return None;
         }
-        walked = walk_on(walked, &e, place);
+        walk = walk_on(walk, &e, place);
     }
-    told_of(view, walked, place)
+    told_of(view, settled(walk), place)
 }
 
 // What the entries tell with one more.
-fn walk_on(walked: Walked, e: &MvEntry, place: Place) -> Walked
-    ensures { (es : List MvEntry) → IsWalked es place walked → IsWalked (es ++ e.now ∷ []) place result }
+fn walk_on(walk: Walk, e: &MvEntry, place: Place) -> Walk
+    ensures { (es : List MvEntry) → IsWalked es place (walked_of walk) → IsWalked (es ++ e.now ∷ []) place (walked_of result) }
 {
     // Conditions are joined and not branched on: which entries are alive cannot be foreseen.
     let alive = is_alive(e, place.version);
     let below = alive & (e.low <= place.key);
-    let first = alive & (place.key < e.low) & walked.next.is_none();
-    Walked {
-        value: walked.value.wrapping_add(worth(e, below)),
-        last: last_with(walked.last, e, below),
-        next: next_with(walked.next, e, first),
+    let first = alive & (place.key < e.low) & !walk.ends;
+    Walk {
+        value: walk.value.wrapping_add(worth(e, below)),
+        leads: walk.leads | below,
+        child: pick(below, e.child, walk.child),
+        low: pick(below, e.low, walk.low),
+        ends: walk.ends | first,
+        next: pick(first, e.low, walk.next),
     }
 }
 
@@ -77,25 +95,41 @@ fn worth(e: &MvEntry, counts: bool) -> u128
     e.value.wrapping_mul(u128::from(counts))
 }
 
-// The last entry, which is this one if it leads on.
-fn last_with(last: Option<Lead>, e: &MvEntry, leads: bool) -> Option<Lead>
-    ensures { result ≡ cond leads (lead_of (Some e.now)) last }
+// The one number where the condition holds, else the other.
+fn pick(condition: bool, one: u64, other: u64) -> u64
+    ensures { result ≡ cond condition one other }
 {
-    if leads {
+    one * u64::from(condition) + other * u64::from(!condition)
+}
+
+fn last_in(walk: Walk) -> Option<Lead>
+    ensures { result ≡ (walked_of walk).last }
+{
+    if walk.leads {
         Some(Lead {
-            child: e.child,
-            low: e.low,
+            child: walk.child,
+            low: walk.low,
         })
     } else {
-        last
+        None
     }
 }
 
-// Where the next one begins, which is this one if it is the first.
-fn next_with(next: Option<u64>, e: &MvEntry, first: bool) -> Option<u64>
-    ensures { result ≡ cond first (Some e.now.low) next }
+fn next_in(walk: Walk) -> Option<u64>
+    ensures { result ≡ (walked_of walk).next }
 {
-    if first { Some(e.low) } else { next }
+    if walk.ends { Some(walk.next) } else { None }
+}
+
+// What the walk found.
+fn settled(walk: Walk) -> Walked
+    ensures { result ≡ walked_of walk }
+{
+    Walked {
+        value: walk.value,
+        last: last_in(walk),
+        next: next_in(walk),
+    }
 }
 
 // What the node tells, all of whose entries were passed, or `None` where an index node leads nowhere.

@@ -5,7 +5,7 @@ use Rattle.std.proofs.lemmas.Bool.{and_from}
 use Rattle.std.proofs.lemmas.List.Folds.{list_all_at, list_all_more}
 use Rattle.page_layout.specs.declared.mv_node.MvEntry.{MvEntry}
 use Rattle.mvsb_tree.specs.Damage.{begins_within}
-use Rattle.mvsb_tree.specs.Walks.{IsWalked}
+use Rattle.mvsb_tree.specs.Walks.{IsWalked, walked_of}
 use Rattle.mvsb_tree.proofs.told.told_on.Goals as goal
 
 pub returns-then-not-begins_within-clause-none : goal.returns-then-not-begins_within-clause-none
@@ -26,5 +26,5 @@ loop-index-preserved c =
     let one : take (index + 1) items ≡ take index items ++ e ∷ [] = ap (λ (n : ℕ). take n items) next ∙ take-suc items index e lt ∙ ap (λ (x : MvEntry). take index items ++ x ∷ []) (sym (c.entry-e.ensures e)) in
     record {
       within = list_all_more (begins_within c.args.place) items index e lt ∙ and_from _ _ c.loop-index.invariant.within at;
-      walked = subst (λ (es : List MvEntry). IsWalked es c.args.place c.walk_on-walked.result) (sym one) (c.walk_on-walked.ensures (take index items) c.loop-index.invariant.walked);
+      walked = subst (λ (es : List MvEntry). IsWalked es c.args.place (walked_of c.walk_on-walk.result)) (sym one) (c.walk_on-walk.ensures (take index items) c.loop-index.invariant.walked);
     }
