@@ -30,8 +30,8 @@ fn node(level: u8, place: u32, before: u64, child: u64) -> MvNode {
     }
 }
 
-// A tree with this page as its root from version 1 on.
-fn tree_of(stage: &mut MemStage, root: u64) -> Result<Tree, StageFault> {
+// A tree with this page as its root from version 1 on, which is the last page of its chain.
+pub(crate) fn tree_of(stage: &mut MemStage, root: u64) -> Result<Tree, StageFault> {
     let mut roots = Tree::default();
     sb_add(stage, &mut roots, 1, u128::from(root))?;
     Ok(Tree {

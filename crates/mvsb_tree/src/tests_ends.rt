@@ -3,9 +3,9 @@
 ghost use Rattle.std.specs.Prelude.{◌≤◌};
 
 use crate::mv_add;
+use crate::tests_broken::tree_of;
 use bw_types::Tree;
 use page_ports::{MemStage, Page, Stage, StageFault, blank_page};
-use sb_tree::sb_add;
 use std::test::Fail;
 
 // Puts a number of so many bytes at a byte of the page, its high byte first.
@@ -47,19 +47,6 @@ fn page_of(stage: &mut MemStage, bytes: &Page) -> Result<u64, StageFault> {
     bytes[0] = 3;
     stage.put(page, &bytes)?;
     Ok(page)
-}
-
-// A tree with this root, which is the last page of its chain.
-fn tree_of(stage: &mut MemStage, root: u64) -> Result<Tree, StageFault> {
-    let mut roots = Tree::default();
-    sb_add(stage, &mut roots, 1, u128::from(root))?;
-    Ok(Tree {
-        root: roots.root,
-        levels: roots.levels,
-        count: 1,
-        changes: 1,
-        last: root,
-    })
 }
 
 #[test]
