@@ -18,9 +18,9 @@ use crate::replaced::Replaced;
 use crate::step::step_from;
 use crate::store::store;
 use mv_pages::is_changeable;
-use page_access::read_in_place;
-use page_layout::MvNode;
-use page_ports::{Stage, StageFault};
+use page_access::view_in_place;
+use page_layout::{MvNode, View};
+use page_ports::{Stage, StageFault, blank_page};
 
 /// Adds a value from a key and a version on to the node of the page and below it. Where the node is
 /// closed, the result is what takes its part.
@@ -68,7 +68,15 @@ pub fn add_on<S: Stage>(
         add_to_leaf(&mut node, place.key, place.version, value);
         return store(stage, page, &node, place.version, last);
     };
-    let child: MvNode = read_in_place(stage, step.child, node.level - 1, step.place)?;
+    let mut bytes = blank_page();
+    let view: View<MvNode> = view_in_place(
+        stage,
+        step.child,
+        node.level - 1,
+        step.place,
+        &mut bytes,
+    )?;
+    let child = view.to_value();
     if !is_changeable(&child, place.version) {
         return Err(StageFault::Damaged(step.child));
     }

@@ -5,9 +5,9 @@ ghost use Rattle.mv_pages.specs.Alive.{is_alive as spec_is_alive, or_later};
 ghost use Rattle.mvsb_tree.specs.Damage.{IsInPlace, begins_within as spec_begins_within, root_place as spec_root_place};
 ghost use Rattle.mvsb_tree.specs.Stands.{ends_after as spec_ends_after};
 
-use mv_pages::{Reached, child_at};
+use mv_pages::{Reached, child_at, child_on};
 use page_access::PlaceFor;
-use page_layout::{MvEntry, MvNode};
+use page_layout::{MvEntry, MvNode, View};
 
 /// How a call that seeks a key at a version reaches a node: as the one for the keys from `low` on and,
 /// where there is a `high`, before it.
@@ -64,6 +64,19 @@ fn begin_within(entries: &[MvEntry], place: Place) -> bool
     entries.iter().all(|e| begins_within(e, place))
 }
 
+// The same of the entries of a node that is read in place.
+fn all_begin_within(view: &View<MvNode>, place: Place) -> bool
+    ensures { result ≡ list_all (spec_begins_within place) view.now.entries.items }
+{
+    for index in 0..view.len() {
+        let e = view.entry(index);
+        if !begins_within(&e, place) {
+            return false;
+        }
+    }
+    true
+}
+
 /// The place of the child that a node in this place leads to.
 pub fn inner_place(reached: Reached, place: Place) -> Place
     ensures low { result.low ≡ reached.low }
@@ -88,5 +101,10 @@ impl PlaceFor<MvNode> for Place {
     fn admits(&self, level: u8, node: &MvNode) -> bool {
         begin_within(node.entries.as_slice(), *self)
             && (level == 1 || child_at(node, self.key, self.version).is_some())
+    }
+
+    fn admits_view(&self, level: u8, view: &View<MvNode>) -> bool {
+        all_begin_within(view, *self)
+            && (level == 1 || child_on(view, self.key, self.version).is_some())
     }
 }

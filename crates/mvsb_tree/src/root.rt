@@ -13,9 +13,9 @@ use crate::below::add_on;
 use crate::place::root_place;
 use crate::top::top_of;
 use mv_pages::is_changeable;
-use page_access::{PlaceFor, read_page};
-use page_layout::MvNode;
-use page_ports::{Stage, StageFault};
+use page_access::{PlaceFor, view_page};
+use page_layout::{MvNode, View};
+use page_ports::{Stage, StageFault, blank_page};
 
 /// Adds a value from a key and a version on to the nodes from the root down, and gives the page of the
 /// root from the version on.
@@ -57,7 +57,9 @@ pub fn add_at_root<S: Stage>(
     if root < 3 {
         return Err(StageFault::Damaged(root));
     }
-    let node: MvNode = read_page(stage, root)?;
+    let mut bytes = blank_page();
+    let view: View<MvNode> = view_page(stage, root, &mut bytes)?;
+    let node = view.to_value();
     let level = node.level;
     let place = root_place(key, version);
     if !place.admits(level, &node) || !is_changeable(&node, version) {

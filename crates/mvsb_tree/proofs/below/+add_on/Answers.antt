@@ -2,7 +2,7 @@ use Rattle.std.proofs.Common.{◌≡◌, ◌+◌, ◌-◌, ◌≤◌, inl, inr, 
 use Rattle.std.proofs.lemmas.Bool.{and_from, iff_false, le-leb}
 use Rattle.std.proofs.lemmas.Result.{IfOk-weaker, err_from_is_err_and}
 use Rattle.page_ports.specs.Pages.{PageMap}
-use Rattle.page_ports.specs.declared.page.StageFault.TheVariants.{Damaged}
+use Rattle.page_ports.specs.declared.page.StageFault.TheVariants.{Damaged, Disk, PageLimit}
 use Rattle.page_layout.specs.Damage.{HoldsNoNode}
 use Rattle.page_layout.specs.declared.mv_node.MvNode.{MvNode}
 use Rattle.mv_pages.specs.Lows.{alive_lows}
@@ -24,7 +24,7 @@ use Rattle.mvsb_tree.proofs.Becoming.{ends_above, ends_below, ends_leaf, made_ab
 use Rattle.mvsb_tree.proofs.Directories as directories
 use Rattle.mvsb_tree.proofs.Exits.{err_same_staged, exit_error, read_damaged}
 use Rattle.mvsb_tree.proofs.Growing.{named_second}
-use Rattle.mvsb_tree.proofs.Nodes.{node_on-spelled, same_spelled}
+use Rattle.mvsb_tree.proofs.Nodes.{fits_as, found_as, node_on-spelled, same_spelled}
 use Rattle.mvsb_tree.proofs.Sound.{root_spelled}
 use Rattle.mvsb_tree.proofs.Sounding.{Fails, changeable_where_stands, child_fits, child_undamaged}
 use Rattle.mvsb_tree.proofs.Assembling.{AddsBelow, both_apart, cut_inside_too, first_apart, index_added, leaf_added, leaf_here, of_cut, outer_fits, stored_apart}
@@ -70,20 +70,20 @@ returns-clause-made g t c = IfOk-weaker c.store-2.result _ _ (λ r stored tells.
     let place = c.args.place in
     let node = c.args.node in
     let step = c.in-Some.step in
-    let child = c.in_ok-child.child in
+    let child = c.to_value-child.result in
     let new = c.change.new.node in
     let last = c.args.last.now in
     let last1 = c.add_on.new.last in
     let replaced = c.in_ok-replaced.replaced in
-    let read = c.read_in_place.ensures.reads.read in
+    let read = c.view_in_place.ensures.reads.read in
     let grows = c.add_on.ensures.grows.went_on in
     let level : ℕ = node.level - 2 in
     let at_level : node.level ≡ suc (suc level) = omega (arith, c.in-Some.ensures.level) in
-    let child_level : child.level ≡ suc level = c.in_ok-child.ensures.node.fits.at_level ∙ (let e : node.level - 1 ≡ suc level = omega (arith, c.in-Some.ensures.level) in e) in
+    let child_level : child.level ≡ suc level = (fits_as (c.args.node.level - 1) c.in-Some.step.place _ _ c.to_value-child.ensures c.in_ok-view.ensures.node).fits.at_level ∙ (let e : node.level - 1 ≡ suc level = omega (arith, c.in-Some.ensures.level) in e) in
     let is : node_on m0 c.args.page ≡ node = node_on-spelled m0 c.args.page node c.requires.typed c.requires.rules (c.requires.there tells) in
-    let spelled = c.in_ok-child.ensures.node.fits in
-    let child_is : node_on m0 step.child ≡ child = node_on-spelled m0 step.child child spelled.typed spelled.rules (c.in_ok-child.ensures.found tells) in
-    let made = child_made m0 (g.S.Pages.map c.read_in_place.new.pages) m1 (suc level) child step.place place.key place.version c.args.value last last1 replaced read.map child_level
+    let spelled = (fits_as (c.args.node.level - 1) c.in-Some.step.place _ _ c.to_value-child.ensures c.in_ok-view.ensures.node).fits in
+    let child_is : node_on m0 step.child ≡ child = node_on-spelled m0 step.child child spelled.typed spelled.rules (found_as (g.S.Pages.map c.args.stage.now) c.in-Some.step.child _ _ c.to_value-child.ensures (c.in_ok-view.ensures.found tells)) in
+    let made = child_made m0 (g.S.Pages.map c.view_in_place.new.pages) m1 (suc level) child step.place place.key place.version c.args.value last last1 replaced read.map child_level
     c.in-Some.ensures.leads.key c.in-Some.ensures.leads.version (c.in_ok-replaced.ensures.made (read.tells ∙ tells)) in
     let placed = placed_later m0 m1 c.args.page node new (made.below + new_pages made.changed place.version) last last1 is c.requires.typed (subst IsSome (sym (c.requires.there tells)) refl) made.places c.change.ensures.past in
     subst (λ (l : ℕ). IsMade l m0 m2 node place.key place.version c.args.value last c.store-2.new.last r) (sym at_level)
@@ -94,7 +94,7 @@ pub returns-clause-directories : goal.returns-clause-directories
 returns-clause-directories g t c = IfOk-weaker c.store-2.result _ _ (λ r stored tells.
     let m0 : PageMap = g.S.Pages.map c.args.stage.now in
     let m1 : PageMap = g.S.Pages.map c.add_on.new.stage in
-    let read = c.read_in_place.ensures.reads.read in
+    let read = c.view_in_place.ensures.reads.read in
     let grows = c.add_on.ensures.grows.went_on in
     let first : KeepsDirectories m0 m1 = subst (λ (m : PageMap). KeepsDirectories m m1) read.map (c.in_ok-replaced.ensures.directories (read.tells ∙ tells)) in
     let none = directories.still_none m0 m1 c.args.page first (directories.no_directory m0 c.args.page c.args.node (c.requires.there tells)) in
@@ -136,13 +136,13 @@ returns-clause-apart g t c = IfOk-weaker c.store-2.result _ _ (λ r stored tells
     let m1 : PageMap = g.S.Pages.map c.add_on.new.stage in
     let place = c.args.place in
     let step = c.in-Some.step in
-    let child = c.in_ok-child.child in
-    let map_is = c.read_in_place.ensures.reads.read.map in
-    let a0 : OthersStay (way_pages child.level (g.S.Pages.map c.read_in_place.new.pages) step.child step.place.key step.place.version) (g.S.Pages.map c.read_in_place.new.pages) m1 = c.in_ok-replaced.ensures.apart (search rules) in
+    let child = c.to_value-child.result in
+    let map_is = c.view_in_place.ensures.reads.read.map in
+    let a0 : OthersStay (way_pages child.level (g.S.Pages.map c.view_in_place.new.pages) step.child step.place.key step.place.version) (g.S.Pages.map c.view_in_place.new.pages) m1 = c.in_ok-replaced.ensures.apart (search rules) in
     let a1 = subst (λ (m : PageMap). OthersStay (way_pages child.level m step.child step.place.key step.place.version) m m1) map_is a0 in
     let a2 = subst (λ (k : ℕ). OthersStay (way_pages child.level m0 step.child k step.place.version) m0 m1) c.in-Some.ensures.leads.key a1 in
     let a3 = subst (λ (w : ℕ). OthersStay (way_pages child.level m0 step.child place.key w) m0 m1) c.in-Some.ensures.leads.version a2 in
-    let a4 = subst (λ (l : ℕ). OthersStay (way_pages l m0 step.child place.key place.version) m0 m1) c.in_ok-child.ensures.node.fits.at_level a3 in
+    let a4 = subst (λ (l : ℕ). OthersStay (way_pages l m0 step.child place.key place.version) m0 m1) (fits_as (c.args.node.level - 1) c.in-Some.step.place _ _ c.to_value-child.ensures c.in_ok-view.ensures.node).fits.at_level a3 in
     both_apart m0 m1 (g.S.Pages.map c.store-2.new.stage) c.args.node.level c.args.page step.child c.args.node c.change.new.node place.version place.key c.add_on.new.last c.store-2.new.last r
     c.in-Some.ensures.level c.requires.rules c.requires.typed (c.requires.there tells) c.in-Some.ensures.leads.child_is a4 (stored (search rules)) p off some) c.store-2.ensures.stored
 
@@ -152,7 +152,7 @@ returns-clause-added g t c = IfOk-weaker c.store-2.result _ _ (λ r stored tells
     let m1 : PageMap = g.S.Pages.map c.add_on.new.stage in
     let place = c.args.place in
     let step = c.in-Some.step in
-    let child = c.in_ok-child.child in
+    let child = c.to_value-child.result in
     let node = c.args.node in
     let value = c.args.value in
     let last = c.args.last.now in
@@ -163,16 +163,16 @@ returns-clause-added g t c = IfOk-weaker c.store-2.result _ _ (λ r stored tells
     let lows = alive_lows node.entries.items v in
     let level : ℕ = node.level - 2 in
     let at_level : node.level ≡ suc (suc level) = omega (arith, c.in-Some.ensures.level) in
-    let child_level : child.level ≡ suc level = c.in_ok-child.ensures.node.fits.at_level ∙ (let e : node.level - 1 ≡ suc level = omega (arith, c.in-Some.ensures.level) in e) in
-    let map_is = c.read_in_place.ensures.reads.read.map in
-    let r0 : AddsBelow child.level (g.S.Pages.map c.read_in_place.new.pages) m1 step.child step.place.version step.place.key value step.place.low step.place.high last last1 replaced = c.in_ok-replaced.ensures.added (search rules) in
+    let child_level : child.level ≡ suc level = (fits_as (c.args.node.level - 1) c.in-Some.step.place _ _ c.to_value-child.ensures c.in_ok-view.ensures.node).fits.at_level ∙ (let e : node.level - 1 ≡ suc level = omega (arith, c.in-Some.ensures.level) in e) in
+    let map_is = c.view_in_place.ensures.reads.read.map in
+    let r0 : AddsBelow child.level (g.S.Pages.map c.view_in_place.new.pages) m1 step.child step.place.version step.place.key value step.place.low step.place.high last last1 replaced = c.in_ok-replaced.ensures.added (search rules) in
     let r1 = subst (λ (m : PageMap). AddsBelow child.level m m1 step.child step.place.version step.place.key value step.place.low step.place.high last last1 replaced) map_is r0 in
     let r2 = subst (λ (l : ℕ). AddsBelow l m0 m1 step.child step.place.version step.place.key value step.place.low step.place.high last last1 replaced) child_level r1 in
     let r3 = subst (λ (w : ℕ). AddsBelow (suc level) m0 m1 step.child w step.place.key value step.place.low step.place.high last last1 replaced) c.in-Some.ensures.leads.version r2 in
     let r4 = subst (λ (k : ℕ). AddsBelow (suc level) m0 m1 step.child v k value step.place.low step.place.high last last1 replaced) c.in-Some.ensures.leads.key r3 in
     let r5 = subst (λ (l : ℕ). AddsBelow (suc level) m0 m1 step.child v key value l step.place.high last last1 replaced) c.in-Some.ensures.leads.low r4 in
     let r6 = subst (λ (e : Option ℕ). AddsBelow (suc level) m0 m1 step.child v key value (inner_low place.low lows key) e last last1 replaced) c.in-Some.ensures.leads.high r5 in
-    let a0 : OthersStay (way_pages child.level (g.S.Pages.map c.read_in_place.new.pages) step.child step.place.key step.place.version) (g.S.Pages.map c.read_in_place.new.pages) m1 = c.in_ok-replaced.ensures.apart (search rules) in
+    let a0 : OthersStay (way_pages child.level (g.S.Pages.map c.view_in_place.new.pages) step.child step.place.key step.place.version) (g.S.Pages.map c.view_in_place.new.pages) m1 = c.in_ok-replaced.ensures.apart (search rules) in
     let a1 = subst (λ (m : PageMap). OthersStay (way_pages child.level m step.child step.place.key step.place.version) m m1) map_is a0 in
     let a2 = subst (λ (k : ℕ). OthersStay (way_pages child.level m0 step.child k step.place.version) m0 m1) c.in-Some.ensures.leads.key a1 in
     let a3 = subst (λ (w : ℕ). OthersStay (way_pages child.level m0 step.child key w) m0 m1) c.in-Some.ensures.leads.version a2 in
@@ -186,10 +186,10 @@ returns-clause-added g t c = IfOk-weaker c.store-2.result _ _ (λ r stored tells
 
 pub returns-clause-grows : goal.returns-clause-grows
 returns-clause-grows g t c =
-    let read = c.read_in_place.ensures.reads.read in
+    let read = c.view_in_place.ensures.reads.read in
     let rec = c.add_on.ensures.grows in
     let put = c.store-2.ensures.grows in
-    let level = c.in_ok-child.ensures.node.fits.at_level in
+    let level = (fits_as (c.args.node.level - 1) c.in-Some.step.place _ _ c.to_value-child.ensures c.in_ok-view.ensures.node).fits.at_level in
     let two = c.in-Some.ensures.level in
     record {
       went_on = record {
@@ -208,6 +208,52 @@ returns-clause-grows g t c =
       page_limit = λ n e. let d = put.page_limit n e in (d.0 ∙ rec.went_on.limit ∙ read.limit, d.1, omega (arith, d.2, rec.went_on.at_most, read.allotted, level, two));
     }
 
+pub returns-then-not-is_changeable-clause-grows : goal.returns-then-not-is_changeable-clause-grows
+returns-then-not-is_changeable-clause-grows g t c =
+    let read = c.view_in_place.ensures.reads.read in
+    record {
+      went_on = record {
+        tells = read.tells;
+        base = read.base;
+        limit = read.limit;
+        free_in_order = λ _ ordered. read.free_in_order ordered;
+        none_forgotten = search rules;
+        allotted = omega (arith, read.allotted);
+        at_most = omega (arith, read.allotted);
+        gets = read.gets;
+        faults = read.faults;
+      };
+      keeps = search rules;
+      disk = λ e. absurd cc;
+      page_limit = λ n e. absurd cc;
+    }
+
+pub returns-in_err-replaced-clause-grows : goal.returns-in_err-replaced-clause-grows
+returns-in_err-replaced-clause-grows g t c =
+    let read = c.view_in_place.ensures.reads.read in
+    let rec = c.in_err-replaced.ensures.grows in
+    let level = (fits_as (c.args.node.level - 1) c.in-Some.step.place _ _ c.to_value-child.ensures c.in_ok-view.ensures.node).fits.at_level in
+    let two = c.in-Some.ensures.level in
+    let told = err_from_is_err_and c.from_residual-in_err-replaced.result c.from_residual-in_err-replaced.ensures.1 in
+    record {
+      went_on = record {
+        tells = rec.went_on.tells ∙ read.tells;
+        base = rec.went_on.base ∙ read.base;
+        limit = rec.went_on.limit ∙ read.limit;
+        free_in_order = search rules;
+        none_forgotten = search rules;
+        allotted = omega (arith, rec.went_on.allotted, read.allotted);
+        at_most = omega (arith, rec.went_on.at_most, read.allotted, level, two);
+        gets = omega (arith, rec.went_on.gets, read.gets);
+        faults = omega (arith, rec.went_on.faults, read.faults);
+      };
+      keeps = search rules;
+      disk = λ e. (let risen = rec.disk (ap Err (exit_error c.from_residual-in_err-replaced.result c.in_err-replaced.field-0.0 Disk told e)) in search rules);
+      page_limit = λ n e.
+          let d = rec.page_limit n (ap Err (exit_error c.from_residual-in_err-replaced.result c.in_err-replaced.field-0.0 (PageLimit n) told e)) in
+          (d.0 ∙ read.limit, d.1, omega (arith, d.2, read.allotted, level, two));
+    }
+
 pub returns-in_default-clause-sound : goal.returns-in_default-clause-sound
 returns-in_default-clause-sound g t c = λ test places least p tells key_test s h ways ordered. (
     let m0 : PageMap = g.S.Pages.map c.args.stage.now in
@@ -219,8 +265,8 @@ returns-in_default-clause-sound g t c = λ test places least p tells key_test s 
     let is : node_on m0 c.args.page ≡ node = node_on-spelled m0 c.args.page node c.requires.typed c.requires.rules (c.requires.there tells) in
     c.store.ensures.sound places p tells s top.listed (c.add_to_leaf.ensures.past.place ∙ sym (ap (λ (n : MvNode). n.place) is)) (c.add_to_leaf.ensures.past.before ∙ sym (ap (λ (n : MvNode). n.before) is)) ordered)
 
-pub returns-in_err-child-clause-sound : goal.returns-in_err-child-clause-sound
-returns-in_err-child-clause-sound g t c = λ test places least p tells key_test s h ways ordered e. (
+pub returns-in_err-view-clause-sound : goal.returns-in_err-view-clause-sound
+returns-in_err-view-clause-sound g t c = λ test places least p tells key_test s h ways ordered e. (
     let m0 : PageMap = g.S.Pages.map c.args.stage.now in
     let place = c.args.place in
     let step = c.in-Some.step in
@@ -234,8 +280,8 @@ returns-in_err-child-clause-sound g t c = λ test places least p tells key_test 
     let key_in : IsKeyIn place.low place.high key = record { from = c.requires.key.0; before = c.requires.key.1; fits = c.requires.key_fits } in
     let way = child_fits level m0 nodes c.args.page step.child place step.place node least at_level there c.requires.typed c.requires.rules c.in-Some.ensures.leads (ways key key_in) in
     let told = err_from_is_err_and c.from_residual.result c.from_residual.ensures.1 in
-    let same = read_damaged c.from_residual.result c.in_err-child.field-0.0 p told e in
-    let why = c.in_err-child.ensures.damaged p (ap Err same) in
+    let same = read_damaged c.from_residual.result c.in_err-view.field-0.0 p told e in
+    let why = c.in_err-view.ensures.damaged p (ap Err same) in
     let less : node.level - 1 ≡ suc level = omega (arith, at_level) in
     child_undamaged level m0 nodes step.child step.place way (subst (λ (l : ℕ). HoldsNoNode FitsPlace m0 l step.place step.child) less (why.1 tells)))
 
@@ -253,11 +299,11 @@ returns-then-not-is_changeable-clause-sound g t c = λ test places least p tells
     let there = c.requires.there tells in
     let key_in : IsKeyIn place.low place.high key = record { from = c.requires.key.0; before = c.requires.key.1; fits = c.requires.key_fits } in
     let way = child_fits level m0 nodes c.args.page step.child place step.place node least at_level there c.requires.typed c.requires.rules c.in-Some.ensures.leads (ways key key_in) in
-    let child = c.in_ok-child.child in
-    let spelled = c.in_ok-child.ensures.node.fits in
+    let child = c.to_value-child.result in
+    let spelled = (fits_as (c.args.node.level - 1) c.in-Some.step.place _ _ c.to_value-child.ensures c.in_ok-view.ensures.node).fits in
     let ns = root_spelled (suc level) m0 nodes step.child step.place.version step.place.key step.place.low step.place.high 24 way in
     let at_version = subst (λ (w : ℕ). NodeStands m0 nodes (suc level) step.child w step.place.low step.place.high 24) c.in-Some.ensures.leads.version ns in
-    let can = changeable_where_stands m0 nodes (suc level) step.child v step.place.low step.place.high 24 child c.requires.changeable.last (h step.child ns.listed).past at_version (c.in_ok-child.ensures.found tells) spelled.typed spelled.rules in
+    let can = changeable_where_stands m0 nodes (suc level) step.child v step.place.low step.place.high 24 child c.requires.changeable.last (h step.child ns.listed).past at_version (found_as (g.S.Pages.map c.args.stage.now) c.in-Some.step.child _ _ c.to_value-child.ensures (c.in_ok-view.ensures.found tells)) spelled.typed spelled.rules in
     iff_false c.is_changeable.ensures c.if-not-is_changeable.true can)
 
 pub returns-in_err-replaced-clause-sound : goal.returns-in_err-replaced-clause-sound
@@ -273,14 +319,14 @@ returns-in_err-replaced-clause-sound g t c = λ test places least p tells key_te
     let at_level : node.level ≡ suc (suc level) = omega (arith, c.in-Some.ensures.level) in
     let there = c.requires.there tells in
     let key_in : IsKeyIn place.low place.high key = record { from = c.requires.key.0; before = c.requires.key.1; fits = c.requires.key_fits } in
-    let child = c.in_ok-child.child in
+    let child = c.to_value-child.result in
     let last = c.args.last.now in
     let lows = alive_lows node.entries.items v in
     let told = err_from_is_err_and c.from_residual-in_err-replaced.result c.from_residual-in_err-replaced.ensures.1 in
     let same = exit_error c.from_residual-in_err-replaced.result c.in_err-replaced.field-0.0 (Damaged p) told e in
-    let child_level : child.level ≡ suc level = c.in_ok-child.ensures.node.fits.at_level ∙ (let e : node.level - 1 ≡ suc level = omega (arith, c.in-Some.ensures.level) in e) in
-    let read = c.read_in_place.ensures.reads.read in
-    let r0 : Fails child.level (g.S.Pages.map c.read_in_place.new.pages) step.child step.place.version step.place.key step.place.low step.place.high last =
+    let child_level : child.level ≡ suc level = (fits_as (c.args.node.level - 1) c.in-Some.step.place _ _ c.to_value-child.ensures c.in_ok-view.ensures.node).fits.at_level ∙ (let e : node.level - 1 ≡ suc level = omega (arith, c.in-Some.ensures.level) in e) in
+    let read = c.view_in_place.ensures.reads.read in
+    let r0 : Fails child.level (g.S.Pages.map c.view_in_place.new.pages) step.child step.place.version step.place.key step.place.low step.place.high last =
     λ test1 places1 least1 kt s1 h1 w1. c.in_err-replaced.ensures.sound test1 places1 least1 p (read.tells ∙ tells) kt s1 h1 w1 (read.free_in_order ordered) (ap Err same) in
     let r1 = subst (λ (m : PageMap). Fails child.level m step.child step.place.version step.place.key step.place.low step.place.high last) read.map r0 in
     let r2 = subst (λ (l : ℕ). Fails l m0 step.child step.place.version step.place.key step.place.low step.place.high last) child_level r1 in
@@ -304,22 +350,22 @@ returns-clause-sound g t c = λ test places least p tells key_test s h ways orde
     let there = c.requires.there tells in
     let key_in : IsKeyIn place.low place.high key = record { from = c.requires.key.0; before = c.requires.key.1; fits = c.requires.key_fits } in
     let m1 : PageMap = g.S.Pages.map c.add_on.new.stage in
-    let child = c.in_ok-child.child in
+    let child = c.to_value-child.result in
     let value = c.args.value in
     let last = c.args.last.now in
     let last1 = c.add_on.new.last in
     let replaced = c.in_ok-replaced.replaced in
     let lows = alive_lows node.entries.items v in
-    let child_level : child.level ≡ suc level = c.in_ok-child.ensures.node.fits.at_level ∙ (let e : node.level - 1 ≡ suc level = omega (arith, c.in-Some.ensures.level) in e) in
-    let read = c.read_in_place.ensures.reads.read in
-    let r0 : AddsBelow child.level (g.S.Pages.map c.read_in_place.new.pages) m1 step.child step.place.version step.place.key value step.place.low step.place.high last last1 replaced = c.in_ok-replaced.ensures.added (search rules) in
+    let child_level : child.level ≡ suc level = (fits_as (c.args.node.level - 1) c.in-Some.step.place _ _ c.to_value-child.ensures c.in_ok-view.ensures.node).fits.at_level ∙ (let e : node.level - 1 ≡ suc level = omega (arith, c.in-Some.ensures.level) in e) in
+    let read = c.view_in_place.ensures.reads.read in
+    let r0 : AddsBelow child.level (g.S.Pages.map c.view_in_place.new.pages) m1 step.child step.place.version step.place.key value step.place.low step.place.high last last1 replaced = c.in_ok-replaced.ensures.added (search rules) in
     let r1 = subst (λ (m : PageMap). AddsBelow child.level m m1 step.child step.place.version step.place.key value step.place.low step.place.high last last1 replaced) read.map r0 in
     let r2 = subst (λ (l : ℕ). AddsBelow l m0 m1 step.child step.place.version step.place.key value step.place.low step.place.high last last1 replaced) child_level r1 in
     let r3 = subst (λ (w : ℕ). AddsBelow (suc level) m0 m1 step.child w step.place.key value step.place.low step.place.high last last1 replaced) c.in-Some.ensures.leads.version r2 in
     let r4 = subst (λ (k : ℕ). AddsBelow (suc level) m0 m1 step.child v k value step.place.low step.place.high last last1 replaced) c.in-Some.ensures.leads.key r3 in
     let r5 = subst (λ (l : ℕ). AddsBelow (suc level) m0 m1 step.child v key value l step.place.high last last1 replaced) c.in-Some.ensures.leads.low r4 in
     let r6 = subst (λ (o : Option ℕ). AddsBelow (suc level) m0 m1 step.child v key value (inner_low place.low lows key) o last last1 replaced) c.in-Some.ensures.leads.high r5 in
-    let a0 : OthersStay (way_pages child.level (g.S.Pages.map c.read_in_place.new.pages) step.child step.place.key step.place.version) (g.S.Pages.map c.read_in_place.new.pages) m1 = c.in_ok-replaced.ensures.apart (search rules) in
+    let a0 : OthersStay (way_pages child.level (g.S.Pages.map c.view_in_place.new.pages) step.child step.place.key step.place.version) (g.S.Pages.map c.view_in_place.new.pages) m1 = c.in_ok-replaced.ensures.apart (search rules) in
     let a1 = subst (λ (m : PageMap). OthersStay (way_pages child.level m step.child step.place.key step.place.version) m m1) read.map a0 in
     let a2 = subst (λ (k : ℕ). OthersStay (way_pages child.level m0 step.child k step.place.version) m0 m1) c.in-Some.ensures.leads.key a1 in
     let a3 = subst (λ (w : ℕ). OthersStay (way_pages child.level m0 step.child key w) m0 m1) c.in-Some.ensures.leads.version a2 in
@@ -348,14 +394,14 @@ returns-in_default-clause-damaged g t c = λ p e tells. (
       | inr unordered ↦ inr (inr unordered)
     ])
 
-pub returns-in_err-child-clause-damaged : goal.returns-in_err-child-clause-damaged
-returns-in_err-child-clause-damaged g t c = λ p e tells. (
+pub returns-in_err-view-clause-damaged : goal.returns-in_err-view-clause-damaged
+returns-in_err-view-clause-damaged g t c = λ p e tells. (
     let m0 : PageMap = g.S.Pages.map c.args.stage.now in
     let step = c.in-Some.step in
     let node = c.args.node in
     let told = err_from_is_err_and c.from_residual.result c.from_residual.ensures.1 in
-    let same = read_damaged c.from_residual.result c.in_err-child.field-0.0 p told e in
-    let why = c.in_err-child.ensures.damaged p (ap Err same) in
+    let same = read_damaged c.from_residual.result c.in_err-view.field-0.0 p told e in
+    let why = c.in_err-view.ensures.damaged p (ap Err same) in
     let some : 1 ≤ node.level - 1 = omega (arith, c.in-Some.ensures.level) in
     inl (add_past_here m0 c.args.place step.place node step.child p some c.in-Some.ensures.leads why.0 (λ other bytes here fits. why.1 tells other bytes here fits.0)))
 
@@ -364,12 +410,12 @@ returns-then-not-is_changeable-clause-damaged g t c = λ p e tells. (
     let m0 : PageMap = g.S.Pages.map c.args.stage.now in
     let step = c.in-Some.step in
     let node = c.args.node in
-    let child = c.in_ok-child.child in
-    let spelled = c.in_ok-child.ensures.node.fits in
+    let child = c.to_value-child.result in
+    let spelled = (fits_as (c.args.node.level - 1) c.in-Some.step.place _ _ c.to_value-child.ensures c.in_ok-view.ensures.node).fits in
     let some : 1 ≤ node.level - 1 = omega (arith, c.in-Some.ensures.level) in
     let never = iff_false c.is_changeable.ensures c.if-not-is_changeable.true in
     inl (add_past_here m0 c.args.place step.place node step.child p some c.in-Some.ensures.leads (sym (err_same_staged step.child p e)) (λ other bytes here fits.
-    let is : child ≡ other = same_spelled m0 step.child child other bytes spelled.typed spelled.rules (c.in_ok-child.ensures.found tells) fits.0.fits.typed fits.0.fits.rules fits.0.fits.spelled here in
+    let is : child ≡ other = same_spelled m0 step.child child other bytes spelled.typed spelled.rules (found_as (g.S.Pages.map c.args.stage.now) c.in-Some.step.child _ _ c.to_value-child.ensures (c.in_ok-view.ensures.found tells)) fits.0.fits.typed fits.0.fits.rules fits.0.fits.spelled here in
     let can = subst (λ (w : ℕ). IsChangeable w other.entries.items) c.in-Some.ensures.leads.version fits.1 in
     never (subst (λ (n : MvNode). IsChangeable c.args.place.version n.entries.items) (sym is) can))))
 
@@ -385,27 +431,27 @@ returns-in_err-replaced-clause-damaged g t c = λ p e tells. (
     let m0 : PageMap = g.S.Pages.map c.args.stage.now in
     let step = c.in-Some.step in
     let node = c.args.node in
-    let child = c.in_ok-child.child in
-    let read = c.read_in_place.ensures.reads.read in
+    let child = c.to_value-child.result in
+    let read = c.view_in_place.ensures.reads.read in
     let told = err_from_is_err_and c.from_residual-in_err-replaced.result c.from_residual-in_err-replaced.ensures.1 in
     let same = exit_error c.from_residual-in_err-replaced.result c.in_err-replaced.field-0.0 (Damaged p) told e in
-    let child_level : child.level ≡ node.level - 1 = c.in_ok-child.ensures.node.fits.at_level in
+    let child_level : child.level ≡ node.level - 1 = (fits_as (c.args.node.level - 1) c.in-Some.step.place _ _ c.to_value-child.ensures c.in_ok-view.ensures.node).fits.at_level in
     let some : 1 ≤ node.level - 1 = omega (arith, c.in-Some.ensures.level) in
     let can : IsChangeable step.place.version child.entries.items = subst (λ (w : ℕ). IsChangeable w child.entries.items) (sym c.in-Some.ensures.leads.version) (c.is_changeable.ensures.0 c.if-not-is_changeable.false) in
     elim (c.in_err-replaced.ensures.damaged p (ap Err same) (read.tells ∙ tells)) [
-      | inl past ↦ inl (add_past_further m0 c.args.place step.place node child step.child p (mv_node_page child) some c.in-Some.ensures.leads (c.in_ok-child.ensures.found tells) (c.in_ok-child.ensures.node, can)
+      | inl past ↦ inl (add_past_further m0 c.args.place step.place node child step.child p (mv_node_page child) some c.in-Some.ensures.leads (found_as (g.S.Pages.map c.args.stage.now) c.in-Some.step.child _ _ c.to_value-child.ensures (c.in_ok-view.ensures.found tells)) ((fits_as (c.args.node.level - 1) c.in-Some.step.place _ _ c.to_value-child.ensures c.in_ok-view.ensures.node), can)
           (subst (λ (m : PageMap). IsDamagedPastForAdd m step.place child p) read.map past))
       | inr (inl found) ↦
           let ends = found.1 in
           let below : IsWholePast m0 step.place child = subst (λ (m : PageMap). IsWholePast m step.place child) read.map found.0 in
-          let whole = whole_index m0 c.args.place step.place node child step.child c.in-Some.ensures.leads (c.in_ok-child.ensures.found tells) (c.in_ok-child.ensures.node, can) below in
+          let whole = whole_index m0 c.args.place step.place node child step.child c.in-Some.ensures.leads (found_as (g.S.Pages.map c.args.stage.now) c.in-Some.step.child _ _ c.to_value-child.ensures (c.in_ok-view.ensures.found tells)) ((fits_as (c.args.node.level - 1) c.in-Some.step.place _ _ c.to_value-child.ensures c.in_ok-view.ensures.node), can) below in
           let place = c.args.place in
           let last = c.args.last.now in
           let level : ℕ = node.level - 1 in
           let at_level : node.level ≡ suc level = omega (arith, c.in-Some.ensures.level) in
-          let spelled = c.in_ok-child.ensures.node.fits in
-          let child_is : node_on m0 step.child ≡ child = node_on-spelled m0 step.child child spelled.typed spelled.rules (c.in_ok-child.ensures.found tells) in
-          let here = child_ends m0 (g.S.Pages.map c.read_in_place.new.pages) level child step.place place.key place.version c.args.value last p read.map child_level
+          let spelled = (fits_as (c.args.node.level - 1) c.in-Some.step.place _ _ c.to_value-child.ensures c.in_ok-view.ensures.node).fits in
+          let child_is : node_on m0 step.child ≡ child = node_on-spelled m0 step.child child spelled.typed spelled.rules (found_as (g.S.Pages.map c.args.stage.now) c.in-Some.step.child _ _ c.to_value-child.ensures (c.in_ok-view.ensures.found tells)) in
+          let here = child_ends m0 (g.S.Pages.map c.view_in_place.new.pages) level child step.place place.key place.version c.args.value last p read.map child_level
           c.in-Some.ensures.leads.key c.in-Some.ensures.leads.version ends in
           inr (inl (
             whole,
@@ -422,25 +468,25 @@ returns-clause-damaged g t c = λ p e tells. (
     let place = c.args.place in
     let node = c.args.node in
     let step = c.in-Some.step in
-    let child = c.in_ok-child.child in
+    let child = c.to_value-child.result in
     let new = c.change.new.node in
     let last = c.args.last.now in
     let last1 = c.add_on.new.last in
     let replaced = c.in_ok-replaced.replaced in
-    let read = c.read_in_place.ensures.reads.read in
+    let read = c.view_in_place.ensures.reads.read in
     let grows = c.add_on.ensures.grows.went_on in
     let level : ℕ = node.level - 2 in
     let at_level : node.level ≡ suc (suc level) = omega (arith, c.in-Some.ensures.level) in
-    let child_level : child.level ≡ suc level = c.in_ok-child.ensures.node.fits.at_level ∙ (let e : node.level - 1 ≡ suc level = omega (arith, c.in-Some.ensures.level) in e) in
+    let child_level : child.level ≡ suc level = (fits_as (c.args.node.level - 1) c.in-Some.step.place _ _ c.to_value-child.ensures c.in_ok-view.ensures.node).fits.at_level ∙ (let e : node.level - 1 ≡ suc level = omega (arith, c.in-Some.ensures.level) in e) in
     let is : node_on m0 c.args.page ≡ node = node_on-spelled m0 c.args.page node c.requires.typed c.requires.rules (c.requires.there tells) in
-    let spelled = c.in_ok-child.ensures.node.fits in
-    let child_is : node_on m0 step.child ≡ child = node_on-spelled m0 step.child child spelled.typed spelled.rules (c.in_ok-child.ensures.found tells) in
-    let made = child_made m0 (g.S.Pages.map c.read_in_place.new.pages) m1 (suc level) child step.place place.key place.version c.args.value last last1 replaced read.map child_level
+    let spelled = (fits_as (c.args.node.level - 1) c.in-Some.step.place _ _ c.to_value-child.ensures c.in_ok-view.ensures.node).fits in
+    let child_is : node_on m0 step.child ≡ child = node_on-spelled m0 step.child child spelled.typed spelled.rules (found_as (g.S.Pages.map c.args.stage.now) c.in-Some.step.child _ _ c.to_value-child.ensures (c.in_ok-view.ensures.found tells)) in
+    let made = child_made m0 (g.S.Pages.map c.view_in_place.new.pages) m1 (suc level) child step.place place.key place.version c.args.value last last1 replaced read.map child_level
     c.in-Some.ensures.leads.key c.in-Some.ensures.leads.version (c.in_ok-replaced.ensures.made (read.tells ∙ tells)) in
     let placed = placed_later m0 m1 c.args.page node new (made.below + new_pages made.changed place.version) last last1 is c.requires.typed (subst IsSome (sym (c.requires.there tells)) refl) made.places c.change.ensures.past in
     let can : IsChangeable step.place.version child.entries.items = subst (λ (w : ℕ). IsChangeable w child.entries.items) (sym c.in-Some.ensures.leads.version) (c.is_changeable.ensures.0 c.if-not-is_changeable.false) in
     let below : IsWholePast m0 step.place child = subst (λ (m : PageMap). IsWholePast m step.place child) read.map (c.in_ok-replaced.ensures.whole (read.tells ∙ tells)) in
-    let whole = whole_index m0 place step.place node child step.child c.in-Some.ensures.leads (c.in_ok-child.ensures.found tells) (c.in_ok-child.ensures.node, can) below in
+    let whole = whole_index m0 place step.place node child step.child c.in-Some.ensures.leads (found_as (g.S.Pages.map c.args.stage.now) c.in-Some.step.child _ _ c.to_value-child.ensures (c.in_ok-view.ensures.found tells)) ((fits_as (c.args.node.level - 1) c.in-Some.step.place _ _ c.to_value-child.ensures c.in_ok-view.ensures.node), can) below in
     elim (c.store-2.ensures.damaged p e (grows.tells ∙ read.tells ∙ tells) placed) [
       | inl end ↦ inr (inl (
         whole,
@@ -458,8 +504,8 @@ pub returns-clause-whole : goal.returns-clause-whole
 returns-clause-whole g t c = IfOk-weaker c.store-2.result _ _ (λ r stored tells.
     let m0 : PageMap = g.S.Pages.map c.args.stage.now in
     let step = c.in-Some.step in
-    let child = c.in_ok-child.child in
-    let read = c.read_in_place.ensures.reads.read in
+    let child = c.to_value-child.result in
+    let read = c.view_in_place.ensures.reads.read in
     let can : IsChangeable step.place.version child.entries.items = subst (λ (w : ℕ). IsChangeable w child.entries.items) (sym c.in-Some.ensures.leads.version) (c.is_changeable.ensures.0 c.if-not-is_changeable.false) in
     let below : IsWholePast m0 step.place child = subst (λ (m : PageMap). IsWholePast m step.place child) read.map (c.in_ok-replaced.ensures.whole (read.tells ∙ tells)) in
-    whole_index m0 c.args.place step.place c.args.node child step.child c.in-Some.ensures.leads (c.in_ok-child.ensures.found tells) (c.in_ok-child.ensures.node, can) below) c.store-2.ensures.stored
+    whole_index m0 c.args.place step.place c.args.node child step.child c.in-Some.ensures.leads (found_as (g.S.Pages.map c.args.stage.now) c.in-Some.step.child _ _ c.to_value-child.ensures (c.in_ok-view.ensures.found tells)) ((fits_as (c.args.node.level - 1) c.in-Some.step.place _ _ c.to_value-child.ensures c.in_ok-view.ensures.node), can) below) c.store-2.ensures.stored

@@ -22,7 +22,7 @@ use Rattle.mvsb_tree.proofs.Assembling.{AddsBelow}
 use Rattle.mvsb_tree.proofs.Exits.{both_if, err_same_staged, exit_error, read_damaged}
 use Rattle.mvsb_tree.proofs.Growing.{named_second}
 use Rattle.mvsb_tree.proofs.Lasting.{some_by_name}
-use Rattle.mvsb_tree.proofs.Nodes.{node_on-spelled}
+use Rattle.mvsb_tree.proofs.Nodes.{found_as, node_on-spelled, spells_as}
 use Rattle.mvsb_tree.proofs.Sound.{root_spelled}
 use Rattle.mvsb_tree.proofs.Sounding.{Fails, changeable_where_stands, root_in_place}
 use Rattle.mvsb_tree.proofs.Topping.{tops}
@@ -35,20 +35,20 @@ returns-clause-added g c =
     let m0 : PageMap = g.S.Pages.map c.args.stage.now in
     let m1 : PageMap = g.S.Pages.map c.add_on.new.stage in
     let m2 : PageMap = g.S.Pages.map c.top_of.new.stage in
-    let node = c.in_ok-node.node in
+    let node = c.to_value-node.result in
     let replaced = c.in_ok-replaced.replaced in
     let v = c.args.version in
     let key = c.args.key in
     let root = c.args.root in
     let last1 = c.add_on.new.last in
     IfOk-weaker c.top_of.result _ _ (λ top told tells test places key_test s h ways.
-    let spells = c.in_ok-node.ensures.spells in
-    let there = c.in_ok-node.ensures.found tells in
+    let spells = (spells_as _ _ c.to_value-node.ensures c.in_ok-view.ensures.spells) in
+    let there = found_as (g.S.Pages.map c.args.stage.now) c.args.root _ _ c.to_value-node.ensures (c.in_ok-view.ensures.found tells) in
     let some : root ≡ 0 → ⊥ = λ none. omega (arith, none, c.if-root-lt3.false) in
     let level : root_level m0 root ≡ node.level = level_of_root m0 root node some spells.typed spells.rules there in
-    let r0 : AddsBelow node.level (g.S.Pages.map c.read_page.new.pages) m1 root c.root_place-place.result.version c.root_place-place.result.key c.args.value c.root_place-place.result.low c.root_place-place.result.high c.args.last.now last1 replaced =
+    let r0 : AddsBelow node.level (g.S.Pages.map c.view_page.new.pages) m1 root c.root_place-place.result.version c.root_place-place.result.key c.args.value c.root_place-place.result.low c.root_place-place.result.high c.args.last.now last1 replaced =
     c.in_ok-replaced.ensures.added (search rules) in
-    let r1 = subst (λ (m : PageMap). AddsBelow node.level m m1 root c.root_place-place.result.version c.root_place-place.result.key c.args.value c.root_place-place.result.low c.root_place-place.result.high c.args.last.now last1 replaced) c.read_page.ensures.reads.read.map r0 in
+    let r1 = subst (λ (m : PageMap). AddsBelow node.level m m1 root c.root_place-place.result.version c.root_place-place.result.key c.args.value c.root_place-place.result.low c.root_place-place.result.high c.args.last.now last1 replaced) c.view_page.ensures.reads.read.map r0 in
     let r2 = subst (λ (q : Place). AddsBelow node.level m0 m1 root q.version q.key c.args.value q.low q.high c.args.last.now last1 replaced) c.root_place-place.ensures r1 in
     let fits = subst (λ (q : Place). ReplacedFits (Some q.low) q.high replaced) c.root_place-place.ensures c.in_ok-replaced.ensures.fits in
     let nodes : List ℕ = chain_from places m0 c.args.last.now in
@@ -59,8 +59,8 @@ returns-clause-added g c =
     (told.1.1 (search rules)))
     (both_if _ _ c.top_of.result c.top_of.ensures.number (both_if _ _ c.top_of.result c.top_of.ensures.typed c.top_of.ensures.top))
 
-pub returns-in_err-node-clause-sound : goal.returns-in_err-node-clause-sound
-returns-in_err-node-clause-sound g c = λ test places p tells key_test s h ways low ordered e. (
+pub returns-in_err-view-clause-sound : goal.returns-in_err-view-clause-sound
+returns-in_err-view-clause-sound g c = λ test places p tells key_test s h ways low ordered e. (
     let m0 : PageMap = g.S.Pages.map c.args.stage.now in
     let root = c.args.root in
     let v = c.args.version in
@@ -68,8 +68,8 @@ returns-in_err-node-clause-sound g c = λ test places p tells key_test s h ways 
     let nodes : List ℕ = chain_from places m0 c.args.last.now in
     let top = root_spelled (root_level m0 root) m0 nodes root v 0 0 None 1 (ways 0 (omega arith)) in
     let told = err_from_is_err_and c.from_residual.result c.from_residual.ensures.1 in
-    let same = read_damaged c.from_residual.result c.in_err-node.field-0.0 p told e in
-    let why = c.in_err-node.ensures.damaged p (ap Err same) in
+    let same = read_damaged c.from_residual.result c.in_err-view.field-0.0 p told e in
+    let why = c.in_err-view.ensures.damaged p (ap Err same) in
     why.1 tells (node_on m0 root) (mv_node_page (node_on m0 root)) top.spelled (record { spelled = refl; rules = top.rules; typed = top.typed }))
 
 pub returns-then-not-admits-clause-sound : goal.returns-then-not-admits-clause-sound
@@ -80,9 +80,9 @@ returns-then-not-admits-clause-sound g c = λ test places p tells key_test s h w
     let key = c.args.key in
     let nodes : List ℕ = chain_from places m0 c.args.last.now in
     let top = root_spelled (root_level m0 root) m0 nodes root v 0 0 None 1 (ways 0 (omega arith)) in
-    let node = c.in_ok-node.node in
-    let spells = c.in_ok-node.ensures.spells in
-    let there = c.in_ok-node.ensures.found tells in
+    let node = c.to_value-node.result in
+    let spells = (spells_as _ _ c.to_value-node.ensures c.in_ok-view.ensures.spells) in
+    let there = found_as (g.S.Pages.map c.args.stage.now) c.args.root _ _ c.to_value-node.ensures (c.in_ok-view.ensures.found tells) in
     let level : root_level m0 root ≡ node.level = level_of_root m0 root node (λ none. omega (arith, none, c.if-root-lt3.false)) spells.typed spells.rules there in
     let at_level : (q : ℕ) → q < 2 ^ 64 → StandsOnWay node.level m0 nodes root v q 0 None 1 = λ q q_fits. subst (λ (l : ℕ). StandsOnWay l m0 nodes root v q 0 None 1) level (ways q q_fits) in
     elim c.then-not-admits.branch [
@@ -102,15 +102,15 @@ returns-in_err-replaced-clause-sound g c = λ test places p tells key_test s h w
     let key = c.args.key in
     let nodes : List ℕ = chain_from places m0 c.args.last.now in
     let top = root_spelled (root_level m0 root) m0 nodes root v 0 0 None 1 (ways 0 (omega arith)) in
-    let node = c.in_ok-node.node in
-    let spells = c.in_ok-node.ensures.spells in
-    let there = c.in_ok-node.ensures.found tells in
+    let node = c.to_value-node.result in
+    let spells = (spells_as _ _ c.to_value-node.ensures c.in_ok-view.ensures.spells) in
+    let there = found_as (g.S.Pages.map c.args.stage.now) c.args.root _ _ c.to_value-node.ensures (c.in_ok-view.ensures.found tells) in
     let level : root_level m0 root ≡ node.level = level_of_root m0 root node (λ none. omega (arith, none, c.if-root-lt3.false)) spells.typed spells.rules there in
     let at_level : (q : ℕ) → q < 2 ^ 64 → StandsOnWay node.level m0 nodes root v q 0 None 1 = λ q q_fits. subst (λ (l : ℕ). StandsOnWay l m0 nodes root v q 0 None 1) level (ways q q_fits) in
     let told = err_from_is_err_and c.from_residual-in_err-replaced.result c.from_residual-in_err-replaced.ensures.1 in
     let same = exit_error c.from_residual-in_err-replaced.result c.in_err-replaced.field-0.0 (Damaged p) told e in
-    let read = c.read_page.ensures.reads.read in
-    let r0 : Fails node.level (g.S.Pages.map c.read_page.new.pages) root c.root_place-place.result.version c.root_place-place.result.key c.root_place-place.result.low c.root_place-place.result.high c.args.last.now =
+    let read = c.view_page.ensures.reads.read in
+    let r0 : Fails node.level (g.S.Pages.map c.view_page.new.pages) root c.root_place-place.result.version c.root_place-place.result.key c.root_place-place.result.low c.root_place-place.result.high c.args.last.now =
     λ test1 places1 least1 kt s1 h1 w1. c.in_err-replaced.ensures.sound test1 places1 least1 p (read.tells ∙ tells) kt s1 h1 w1 (read.free_in_order ordered) (ap Err same) in
     let r1 = subst (λ (m : PageMap). Fails node.level m root c.root_place-place.result.version c.root_place-place.result.key c.root_place-place.result.low c.root_place-place.result.high c.args.last.now) read.map r0 in
     let r2 = subst (λ (q : Place). Fails node.level m0 root q.version q.key q.low q.high c.args.last.now) c.root_place-place.ensures r1 in
@@ -124,16 +124,16 @@ returns-clause-sound g c = λ test places p tells key_test s h ways low ordered.
     let key = c.args.key in
     let nodes : List ℕ = chain_from places m0 c.args.last.now in
     let top = root_spelled (root_level m0 root) m0 nodes root v 0 0 None 1 (ways 0 (omega arith)) in
-    let node = c.in_ok-node.node in
-    let spells = c.in_ok-node.ensures.spells in
-    let there = c.in_ok-node.ensures.found tells in
+    let node = c.to_value-node.result in
+    let spells = (spells_as _ _ c.to_value-node.ensures c.in_ok-view.ensures.spells) in
+    let there = found_as (g.S.Pages.map c.args.stage.now) c.args.root _ _ c.to_value-node.ensures (c.in_ok-view.ensures.found tells) in
     let level : root_level m0 root ≡ node.level = level_of_root m0 root node (λ none. omega (arith, none, c.if-root-lt3.false)) spells.typed spells.rules there in
     let at_level : (q : ℕ) → q < 2 ^ 64 → StandsOnWay node.level m0 nodes root v q 0 None 1 = λ q q_fits. subst (λ (l : ℕ). StandsOnWay l m0 nodes root v q 0 None 1) level (ways q q_fits) in
     let m1 : PageMap = g.S.Pages.map c.add_on.new.stage in
     let replaced = c.in_ok-replaced.replaced in
     let last1 = c.add_on.new.last in
-    let read = c.read_page.ensures.reads.read in
-    let r0 : AddsBelow node.level (g.S.Pages.map c.read_page.new.pages) m1 root c.root_place-place.result.version c.root_place-place.result.key c.args.value c.root_place-place.result.low c.root_place-place.result.high c.args.last.now last1 replaced =
+    let read = c.view_page.ensures.reads.read in
+    let r0 : AddsBelow node.level (g.S.Pages.map c.view_page.new.pages) m1 root c.root_place-place.result.version c.root_place-place.result.key c.args.value c.root_place-place.result.low c.root_place-place.result.high c.args.last.now last1 replaced =
     c.in_ok-replaced.ensures.added (search rules) in
     let r1 = subst (λ (m : PageMap). AddsBelow node.level m m1 root c.root_place-place.result.version c.root_place-place.result.key c.args.value c.root_place-place.result.low c.root_place-place.result.high c.args.last.now last1 replaced) read.map r0 in
     let r2 = subst (λ (q : Place). AddsBelow node.level m0 m1 root q.version q.key c.args.value q.low q.high c.args.last.now last1 replaced) c.root_place-place.ensures r1 in
@@ -148,9 +148,9 @@ returns-then-not-admits-clause-damaged g c = λ p e tells. (
     let root = c.args.root in
     let v = c.args.version in
     let key = c.args.key in
-    let node = c.in_ok-node.node in
-    let spells = c.in_ok-node.ensures.spells in
-    let there = c.in_ok-node.ensures.found tells in
+    let node = c.to_value-node.result in
+    let spells = (spells_as _ _ c.to_value-node.ensures c.in_ok-view.ensures.spells) in
+    let there = found_as (g.S.Pages.map c.args.stage.now) c.args.root _ _ c.to_value-node.ensures (c.in_ok-view.ensures.found tells) in
     let some : root ≢ 0 = λ none. omega (arith, none, c.if-root-lt3.false) in
     inl (inl (root_add_unfit m0 root (root_place key v) node p some spells.typed spells.rules there (λ inside can. elim c.then-not-admits.branch [
       | then-not-admits-via-then-not-admits w ↦ iff_false c.admits.ensures w.if-not-admits.true (subst (λ (q : Place). IsInPlace node.level q node) (sym c.root_place-place.ensures) inside)
@@ -163,13 +163,13 @@ returns-in_err-replaced-clause-damaged g c = λ p e tells. (
     let root = c.args.root in
     let v = c.args.version in
     let key = c.args.key in
-    let node = c.in_ok-node.node in
-    let spells = c.in_ok-node.ensures.spells in
-    let there = c.in_ok-node.ensures.found tells in
+    let node = c.to_value-node.result in
+    let spells = (spells_as _ _ c.to_value-node.ensures c.in_ok-view.ensures.spells) in
+    let there = found_as (g.S.Pages.map c.args.stage.now) c.args.root _ _ c.to_value-node.ensures (c.in_ok-view.ensures.found tells) in
     let some : root ≢ 0 = λ none. omega (arith, none, c.if-root-lt3.false) in
     let inside : IsInPlace node.level (root_place key v) node = subst (λ (q : Place). IsInPlace node.level q node) c.root_place-place.ensures (c.admits.ensures.0 c.if-not-admits.false) in
     let can : IsChangeable v node.entries.items = c.is_changeable.ensures.0 c.if-not-is_changeable.false in
-    let read = c.read_page.ensures.reads.read in
+    let read = c.view_page.ensures.reads.read in
     let told = err_from_is_err_and c.from_residual-in_err-replaced.result c.from_residual-in_err-replaced.ensures.1 in
     let same = exit_error c.from_residual-in_err-replaced.result c.in_err-replaced.field-0.0 (Damaged p) told e in
     let level : root_level m0 root ≡ node.level = level_of_root m0 root node some spells.typed spells.rules there in
@@ -196,15 +196,15 @@ returns-clause-apart g c = IfOk-weaker c.top_of.result _ _ (λ top is_top tells 
     let root = c.args.root in
     let v = c.args.version in
     let key = c.args.key in
-    let node = c.in_ok-node.node in
-    let spells = c.in_ok-node.ensures.spells in
-    let there = c.in_ok-node.ensures.found tells in
+    let node = c.to_value-node.result in
+    let spells = (spells_as _ _ c.to_value-node.ensures c.in_ok-view.ensures.spells) in
+    let there = found_as (g.S.Pages.map c.args.stage.now) c.args.root _ _ c.to_value-node.ensures (c.in_ok-view.ensures.found tells) in
     let some : root ≢ 0 = λ none. omega (arith, none, c.if-root-lt3.false) in
     let m1 : PageMap = g.S.Pages.map c.add_on.new.stage in
     let m2 : PageMap = g.S.Pages.map c.top_of.new.stage in
-    let read = c.read_page.ensures.reads.read in
+    let read = c.view_page.ensures.reads.read in
     let level : root_level m0 root ≡ node.level = level_of_root m0 root node some spells.typed spells.rules there in
-    let a0 : OthersStay (way_pages node.level (g.S.Pages.map c.read_page.new.pages) root c.root_place-place.result.key c.root_place-place.result.version) (g.S.Pages.map c.read_page.new.pages) m1 = c.in_ok-replaced.ensures.apart (read.tells ∙ tells) in
+    let a0 : OthersStay (way_pages node.level (g.S.Pages.map c.view_page.new.pages) root c.root_place-place.result.key c.root_place-place.result.version) (g.S.Pages.map c.view_page.new.pages) m1 = c.in_ok-replaced.ensures.apart (read.tells ∙ tells) in
     let a1 = subst (λ (m : PageMap). OthersStay (way_pages node.level m root c.root_place-place.result.key c.root_place-place.result.version) m m1) read.map a0 in
     let a2 = subst (λ (q : Place). OthersStay (way_pages node.level m0 root q.key q.version) m0 m1) c.root_place-place.ensures a1 in
     let a3 = subst (λ (l : ℕ). OthersStay (way_pages l m0 root key v) m0 m1) (sym level) a2 in
@@ -215,10 +215,10 @@ pub returns-clause-directories : goal.returns-clause-directories
 returns-clause-directories g c = IfOk-weaker c.top_of.result _ _ (λ top is_top tells.
     let m0 : PageMap = g.S.Pages.map c.args.stage.now in
     let m1 : PageMap = g.S.Pages.map c.add_on.new.stage in
-    let read = c.read_page.ensures.reads.read in
+    let read = c.view_page.ensures.reads.read in
     let first : KeepsDirectories m0 m1 = subst (λ (m : PageMap). KeepsDirectories m m1) read.map (c.in_ok-replaced.ensures.directories (read.tells ∙ tells)) in
     directories.keeps_both m0 m1 (g.S.Pages.map c.top_of.new.stage) first
-    (directories.top_keeps m1 (g.S.Pages.map c.top_of.new.stage) c.args.root c.in_ok-node.node.level c.args.version c.in_ok-replaced.replaced c.add_on.new.last c.top_of.new.last top (is_top (search rules)))) c.top_of.ensures.top
+    (directories.top_keeps m1 (g.S.Pages.map c.top_of.new.stage) c.args.root c.to_value-node.result.level c.args.version c.in_ok-replaced.replaced c.add_on.new.last c.top_of.new.last top (is_top (search rules)))) c.top_of.ensures.top
 
 pub returns-clause-damaged : goal.returns-clause-damaged
 returns-clause-damaged g c = λ p e tells. (
@@ -227,17 +227,17 @@ returns-clause-damaged g c = λ p e tells. (
     let v = c.args.version in
     let key = c.args.key in
     let value = c.args.value in
-    let node = c.in_ok-node.node in
-    let spells = c.in_ok-node.ensures.spells in
-    let there = c.in_ok-node.ensures.found tells in
+    let node = c.to_value-node.result in
+    let spells = (spells_as _ _ c.to_value-node.ensures c.in_ok-view.ensures.spells) in
+    let there = found_as (g.S.Pages.map c.args.stage.now) c.args.root _ _ c.to_value-node.ensures (c.in_ok-view.ensures.found tells) in
     let some : root ≢ 0 = λ none. omega (arith, none, c.if-root-lt3.false) in
-    let mr : PageMap = g.S.Pages.map c.read_page.new.pages in
+    let mr : PageMap = g.S.Pages.map c.view_page.new.pages in
     let m1 : PageMap = g.S.Pages.map c.add_on.new.stage in
     let last = c.args.last.now in
     let last1 = c.add_on.new.last in
     let replaced = c.in_ok-replaced.replaced in
     let place = c.root_place-place.result in
-    let read = c.read_page.ensures.reads.read in
+    let read = c.view_page.ensures.reads.read in
     let grows = c.add_on.ensures.grows.went_on in
     let level : root_level m0 root ≡ node.level = level_of_root m0 root node some spells.typed spells.rules there in
     let on : node_on m0 root ≡ node = node_on-spelled m0 root node spells.typed spells.rules there in
@@ -259,13 +259,36 @@ returns-clause-damaged g c = λ p e tells. (
       | inr unordered ↦ inr (λ ordered. unordered (grows.free_in_order (read.tells ∙ tells) (read.free_in_order ordered)))
     ])
 
+pub returns-clause-grows : goal.returns-clause-grows
+returns-clause-grows g c =
+    let read = c.view_page.ensures.reads.read in
+    let rec = c.add_on.ensures.grows in
+    let top = c.top_of.ensures.grows in
+    let high = (spells_as _ _ c.to_value-node.ensures c.in_ok-view.ensures.spells).rules.high_level in
+    record {
+      went_on = record {
+        tells = top.went_on.tells ∙ rec.went_on.tells ∙ read.tells;
+        base = top.went_on.base ∙ rec.went_on.base ∙ read.base;
+        limit = top.went_on.limit ∙ rec.went_on.limit ∙ read.limit;
+        free_in_order = search rules;
+        none_forgotten = search rules;
+        allotted = omega (arith, top.went_on.allotted, rec.went_on.allotted, read.allotted);
+        at_most = omega (arith, top.went_on.at_most, rec.went_on.at_most, read.allotted, high);
+        gets = omega (arith, top.went_on.gets, rec.went_on.gets, read.gets);
+        faults = omega (arith, top.went_on.faults, rec.went_on.faults, read.faults);
+      };
+      keeps = search rules;
+      disk = search rules;
+      page_limit = λ n e. let d = top.page_limit n e in (d.0 ∙ rec.went_on.limit ∙ read.limit, d.1, omega (arith, d.2, rec.went_on.at_most, read.allotted, high));
+    }
+
 pub returns-clause-few : goal.returns-clause-few
 returns-clause-few g c = λ most tells low. (
     let m0 : PageMap = g.S.Pages.map c.args.stage.now in
-    let spells = c.in_ok-node.ensures.spells in
+    let spells = (spells_as _ _ c.to_value-node.ensures c.in_ok-view.ensures.spells) in
     let some : c.args.root ≢ 0 = λ none. omega (arith, none, c.if-root-lt3.false) in
-    let level : root_level m0 c.args.root ≡ c.in_ok-node.node.level = level_of_root m0 c.args.root c.in_ok-node.node some spells.typed spells.rules (c.in_ok-node.ensures.found tells) in
-    let read = c.read_page.ensures.reads.read in
+    let level : root_level m0 c.args.root ≡ c.to_value-node.result.level = level_of_root m0 c.args.root c.to_value-node.result some spells.typed spells.rules (found_as (g.S.Pages.map c.args.stage.now) c.args.root _ _ c.to_value-node.ensures (c.in_ok-view.ensures.found tells)) in
+    let read = c.view_page.ensures.reads.read in
     let first = c.add_on.ensures.grows in
     let second = c.top_of.ensures.grows in
     search rules)
@@ -277,17 +300,17 @@ returns-clause-closed g c = IfOk-weaker c.top_of.result _ _ (λ top is_top tells
     let v = c.args.version in
     let key = c.args.key in
     let value = c.args.value in
-    let node = c.in_ok-node.node in
-    let spells = c.in_ok-node.ensures.spells in
-    let there = c.in_ok-node.ensures.found tells in
+    let node = c.to_value-node.result in
+    let spells = (spells_as _ _ c.to_value-node.ensures c.in_ok-view.ensures.spells) in
+    let there = found_as (g.S.Pages.map c.args.stage.now) c.args.root _ _ c.to_value-node.ensures (c.in_ok-view.ensures.found tells) in
     let some : root ≢ 0 = λ none. omega (arith, none, c.if-root-lt3.false) in
-    let mr : PageMap = g.S.Pages.map c.read_page.new.pages in
+    let mr : PageMap = g.S.Pages.map c.view_page.new.pages in
     let m1 : PageMap = g.S.Pages.map c.add_on.new.stage in
     let last = c.args.last.now in
     let last1 = c.add_on.new.last in
     let replaced = c.in_ok-replaced.replaced in
     let place = c.root_place-place.result in
-    let read = c.read_page.ensures.reads.read in
+    let read = c.view_page.ensures.reads.read in
     let grows = c.add_on.ensures.grows.went_on in
     let level : root_level m0 root ≡ node.level = level_of_root m0 root node some spells.typed spells.rules there in
     let on : node_on m0 root ≡ node = node_on-spelled m0 root node spells.typed spells.rules there in
