@@ -50,7 +50,7 @@ some_points m tree points s some none =
     first_past [] long all = omega (arith, long)
     first_past (e ∷ es) long all = true≢false (sym (All-head (λ (x : MvEntry). IsTrue (is_past [] x)) e es all))
 
-begun_by : (points : List Point) (v : ℕ) → (points ≡ [] → ⊥) → All (λ q. q.version ≤ v) points → has_begun points v ≡ true
+pub begun_by : (points : List Point) (v : ℕ) → (points ≡ [] → ⊥) → All (λ q. q.version ≤ v) points → has_begun points v ≡ true
 begun_by [] v some all = absurd (some refl)
 begun_by (p ∷ points) v some all = or_left (nat_le p.version v) (has_begun points v) (le-leb p.version v (All-head (λ (q : Point). q.version ≤ v) p points all))
 

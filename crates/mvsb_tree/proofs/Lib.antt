@@ -3,6 +3,7 @@ pub mod Adding
 pub mod Assembling
 pub mod Becoming
 pub mod Beginning
+pub mod Building
 pub mod Chains
 pub mod Costs
 pub mod Counting
@@ -16,6 +17,7 @@ pub mod Exits
 pub mod Firsts
 pub mod Frames
 pub mod Freeing
+pub mod Going
 pub mod Growing
 pub mod Indexing
 pub mod Intervals

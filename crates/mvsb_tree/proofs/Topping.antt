@@ -42,7 +42,7 @@ level_on_way level m nodes page v key low high least some s =
       | inr other ↦ cond-false (page == 0) 0 (node_on m page).level other ∙ top.at_level
     ]
 
-any_key : (q : ℕ) → q < 2 ^ 64 → IsKeyIn 0 None q
+pub any_key : (q : ℕ) → q < 2 ^ 64 → IsKeyIn 0 None q
 any_key q fits = record { from = omega arith; before = refl; fits = fits }
 
 -- One page has the root's part: it is the root.

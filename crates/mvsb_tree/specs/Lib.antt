@@ -1,5 +1,6 @@
 pub mod AddDamage
 pub mod Becoming
+pub mod Built
 pub mod Changed
 pub mod Damage
 pub mod Gone

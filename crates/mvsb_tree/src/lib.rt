@@ -13,6 +13,7 @@
 
 mod add;
 mod below;
+mod build;
 mod chain;
 mod change;
 mod directory;
@@ -33,6 +34,8 @@ mod tests_add;
 #[cfg(test)]
 mod tests_broken;
 #[cfg(test)]
+mod tests_build;
+#[cfg(test)]
 mod tests_ends;
 #[cfg(test)]
 mod tests_index;
@@ -41,6 +44,7 @@ mod top;
 mod value;
 
 pub use add::mv_add;
+pub use build::mv_build;
 pub use free::mv_free;
 pub use laws::{freed_laws, mv_laws};
 pub use mv_index::MvIndex;

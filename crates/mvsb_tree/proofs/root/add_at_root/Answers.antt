@@ -282,6 +282,16 @@ returns-clause-grows g c =
       page_limit = λ n e. let d = top.page_limit n e in (d.0 ∙ rec.went_on.limit ∙ read.limit, d.1, omega (arith, d.2, rec.went_on.at_most, read.allotted, high));
     }
 
+pub returns-in_err-replaced-clause-few : goal.returns-in_err-replaced-clause-few
+returns-in_err-replaced-clause-few g c = λ most tells low. (
+    let m0 : PageMap = g.S.Pages.map c.args.stage.now in
+    let spells = (spells_as _ _ c.to_value-node.ensures c.in_ok-view.ensures.spells) in
+    let some : c.args.root ≢ 0 = λ none. omega (arith, none, c.if-root-lt3.false) in
+    let level : root_level m0 c.args.root ≡ c.to_value-node.result.level = level_of_root m0 c.args.root c.to_value-node.result some spells.typed spells.rules (found_as (g.S.Pages.map c.args.stage.now) c.args.root _ _ c.to_value-node.ensures (c.in_ok-view.ensures.found tells)) in
+    let read = c.view_page.ensures.reads.read in
+    let first = c.in_err-replaced.ensures.grows in
+    search rules)
+
 pub returns-clause-few : goal.returns-clause-few
 returns-clause-few g c = λ most tells low. (
     let m0 : PageMap = g.S.Pages.map c.args.stage.now in

@@ -1,0 +1,141 @@
+//! Trees that are built of points.
+ghost use Rattle.std.specs.Prelude.{◌≡◌, ◌+◌, ◌*◌, ◌^◌, ◌<◌, ◌≤◌, ℕ, Err, IsTrue, IfOk, length, take};
+ghost use Rattle.std.specs.List.{All};
+ghost use Rattle.std.specs.List.Sorted.{IsNonDecreasingBy};
+ghost use Rattle.page_ports.specs.Calls.{Grows};
+ghost use Rattle.page_layout.specs.MvNode.{IsMvNode, IsTyped};
+ghost use Rattle.page_layout.specs.TreeValue.{IsTreeTyped, tree_fits};
+ghost use Rattle.mv_pages.specs.Alive.{IsChangeable};
+ghost use Rattle.mvsb_tree.specs.Built.{IsBuilt, TakesPoints};
+
+use crate::add::mv_add;
+use crate::change::add_to_leaf;
+use crate::laws::mv_laws;
+use bw_types::{Point, Tree};
+use mv_pages::{is_changeable, later_laws, path_laws};
+use page_access::{put_page, view_page};
+use page_layout::{MvNode, View};
+use page_ports::{Stage, StageFault, blank_page};
+use sb_tree::tree_laws;
+
+/// Builds a tree of points, none of which is later than one behind it: page for page the tree that additions one after
+/// another make. As long as its nodes are one leaf, that is kept in memory, and is put to its page once.
+///
+/// At most 24 pages a point are given out. After a refusal the stage is to be abandoned. `Disk` comes only where the count of
+/// faults rose, `PageLimit` only where as many pages are given out as the limit allows, and `Damaged` only where the free
+/// pages are not in order.
+pub fn mv_build<S: Stage>(stage: &mut S, points: &[Point]) -> Result<Tree, StageFault>
+    requires few { length points.now ≤ 2 ^ 31 }
+    requires versions { All (λ p. p.version < 4294967295) points.now }
+    requires in_order { IsNonDecreasingBy (λ p. p.version) points.now }
+    ensures built { IfOk result (λ tree. IsTrue (S.tells stage.old) → IsBuilt points.now (S.map stage.old) (S.map stage.new) tree) }
+    ensures count { IfOk result (λ tree. tree.count ≡ length points.now) }
+    ensures rules { IfOk result (λ tree. IsTrue (tree_fits tree)) }
+    ensures typed { IfOk result (λ tree. IsTreeTyped tree) }
+    ensures damaged { (page : ℕ) → result ≡ Err (StageFault.Damaged page) → IsTrue (S.tells stage.old) → ¬ S.free_in_order stage.old }
+    // Where the stage does not tell its map, the number of pages is not bounded.
+    ensures grows { Grows S.Pages (S.allotted stage.new + 1) stage.old stage.new result }
+    ensures few { IsTrue (S.tells stage.old) → Grows S.Pages (length points.now * 24) stage.old stage.new result }
+{
+    mv_laws();
+    if points.is_empty() {
+        return Ok(Tree::default());
+    }
+    let mut tree = begin(stage, points)?;
+    for index in tree.count as usize..points.len() {
+        let point = &points[index];
+        mv_add(
+            stage,
+            &mut tree,
+            point.keys[0],
+            point.version,
+            point.weight,
+        )?;
+    }
+    Ok(tree)
+}
+
+// Builds a tree of as many of the first points as one leaf has room for.
+fn begin<S: Stage>(stage: &mut S, points: &[Point]) -> Result<Tree, StageFault>
+    requires some { 1 ≤ length points.now }
+    requires few { length points.now ≤ 2 ^ 31 }
+    requires versions { All (λ p. p.version < 4294967295) points.now }
+    requires in_order { IsNonDecreasingBy (λ p. p.version) points.now }
+    ensures built { IfOk result (λ tree. IsTrue (S.tells stage.old) → IsBuilt (take tree.count points.now) (S.map stage.old) (S.map stage.new) tree) }
+    ensures count { IfOk result (λ tree. (1 ≤ tree.count) × (tree.count ≤ length points.now)) }
+    ensures rules { IfOk result (λ tree. IsTrue (tree_fits tree)) }
+    ensures typed { IfOk result (λ tree. IsTreeTyped tree) }
+    ensures damaged { (page : ℕ) → result ≡ Err (StageFault.Damaged page) → IsTrue (S.tells stage.old) → ¬ S.free_in_order stage.old }
+    ensures grows { Grows S.Pages (S.allotted stage.new + 1) stage.old stage.new result }
+    ensures few { IsTrue (S.tells stage.old) → Grows S.Pages 24 stage.old stage.new result }
+{
+    later_laws();
+    let first = &points[0];
+    let mut tree = add_first(stage, points)?;
+    let mut bytes = blank_page();
+    let view: View<MvNode> = view_page(stage, tree.last, &mut bytes)?;
+    let mut leaf = view.to_value();
+    // This is so where the stage tells its map; one that does not may have given any node.
+    if leaf.level == 1 && leaf.place == 1 && is_changeable(&leaf, first.version) {
+        let taken = fill(&mut leaf, points);
+        put_page(stage, tree.last, &leaf)?;
+        tree.count = taken as u32;
+    }
+    Ok(tree)
+}
+
+// Builds a tree of the first point alone.
+fn add_first<S: Stage>(stage: &mut S, points: &[Point]) -> Result<Tree, StageFault>
+    requires some { 1 ≤ length points.now }
+    requires versions { All (λ p. p.version < 4294967295) points.now }
+    ensures built { IfOk result (λ tree. IsTrue (S.tells stage.old) → IsBuilt (take 1 points.now) (S.map stage.old) (S.map stage.new) tree) }
+    ensures count { IfOk result (λ tree. tree.count ≡ 1) }
+    ensures rules { IfOk result (λ tree. IsTrue (tree_fits tree)) }
+    ensures typed { IfOk result (λ tree. IsTreeTyped tree) }
+    ensures damaged { (page : ℕ) → result ≡ Err (StageFault.Damaged page) → IsTrue (S.tells stage.old) → ¬ S.free_in_order stage.old }
+    ensures grows { Grows S.Pages 34 stage.old stage.new result }
+    ensures few { IsTrue (S.tells stage.old) → Grows S.Pages 24 stage.old stage.new result }
+{
+    mv_laws();
+    let first = &points[0];
+    let mut tree = Tree::default();
+    mv_add(
+        stage,
+        &mut tree,
+        first.keys[0],
+        first.version,
+        first.weight,
+    )?;
+    Ok(tree)
+}
+
+/// As many entries as a leaf has room for.
+const FULL: usize = 96;
+
+// Takes points after the first one into the leaf until it is full, and tells how many of all points it has then.
+fn fill(leaf: &mut MvNode, points: &[Point]) -> usize
+    requires some { 1 ≤ length points.now }
+    requires few { length points.now ≤ 2 ^ 31 }
+    requires versions { All (λ p. p.version < 4294967295) points.now }
+    requires in_order { IsNonDecreasingBy (λ p. p.version) points.now }
+    requires leaf { leaf.old.level ≡ 1 }
+    requires rules { IsMvNode leaf.old }
+    requires typed { IsTyped leaf.old }
+    requires changeable { All (λ p. IsChangeable p.version leaf.old.entries.items) points.now }
+    ensures count { (1 ≤ result) × (result ≤ length points.now) }
+    ensures rules { IsMvNode leaf.new }
+    ensures takes { TakesPoints (take 1 points.now) (take result points.now) result leaf.old leaf.new }
+{
+    tree_laws();
+    mv_laws();
+    later_laws();
+    path_laws();
+    for index in 1..points.len() {
+        if leaf.entries.len() >= FULL {
+            return index;
+        }
+        let point = &points[index];
+        add_to_leaf(leaf, point.keys[0], point.version, point.weight);
+    }
+    points.len()
+}
