@@ -12,6 +12,7 @@ pub mod Filtered
 pub mod Rooting
 pub mod Sieves
 pub mod InOrder
+pub mod Runs
 pub mod Pockets
 pub mod BorderTrees
 pub mod Cutting

@@ -7,11 +7,11 @@ ghost use Rattle.page_ports.specs.Calls.{Grows};
 ghost use Rattle.page_layout.specs.TreeValue.{IsTreeTyped, plain_tree_fits, tree_fits};
 ghost use Rattle.ba_build.specs.Built.{IsBuilt, MayBeBuilt};
 
+use crate::over_versions::add_over_versions;
 use ba_trees::tree_kind_laws;
 use bw_types::{Point, Tree};
 use mvsb_tree::mv_add;
 use page_ports::{Stage, StageFault};
-use sb_tree::{sb_add, tree_laws};
 
 /// Builds a tree over versions alone, or over one dimension.
 pub(crate) fn build_in_order<S: Stage>(
@@ -38,26 +38,6 @@ pub(crate) fn build_in_order<S: Stage>(
     } else {
         add_over_keys(stage, points)
     }
-}
-
-// Adds the points to an empty tree over versions, one after another.
-fn add_over_versions<S: Stage>(stage: &mut S, points: &[Point]) -> Result<Tree, StageFault>
-    requires few { length points.now ≤ 2 ^ 31 }
-    ensures built { IfOk result (λ tree. IsTrue (S.tells stage.old) → IsBuilt 0 points.now (S.map stage.old) (S.map stage.new) tree) }
-    ensures count { IfOk result (λ tree. tree.count ≡ length points.now) }
-    ensures rules { IfOk result (λ tree. IsTrue (plain_tree_fits tree)) }
-    ensures typed { IfOk result (λ tree. IsTreeTyped tree) }
-    ensures damaged { (page : ℕ) → result ≡ Err (StageFault.Damaged page) → IsTrue (S.tells stage.old) → ¬ S.free_in_order stage.old }
-    ensures grows { Grows S.Pages (S.allotted stage.new + 1) stage.old stage.new result }
-    ensures few { IsTrue (S.tells stage.old) → Grows S.Pages (length points.now * 8) stage.old stage.new result }
-{
-    tree_kind_laws();
-    tree_laws();
-    let mut tree = Tree::default();
-    for point in points {
-        sb_add(stage, &mut tree, point.version, point.weight)?;
-    }
-    Ok(tree)
 }
 
 // Adds the points to an empty tree over one dimension, one after another: none is later than those behind it.

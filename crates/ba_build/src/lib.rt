@@ -20,6 +20,7 @@ mod in_order;
 mod laws;
 mod leaf;
 mod outside;
+mod over_versions;
 mod page;
 #[cfg(test)]
 mod tests;

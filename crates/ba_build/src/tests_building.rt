@@ -12,8 +12,8 @@ use kdb_pages::{region_of, root_region};
 use mvsb_tree::mv_value;
 use page_access::{read_level, read_page};
 use page_layout::{CutPage, PointLeaf};
-use page_ports::{MemStage, Stage, StageFault};
-use sb_tree::sb_value;
+use page_ports::{MemStage, Pages, Stage, StageFault, blank_page};
+use sb_tree::{sb_add, sb_value};
 use std::alloc::{AllocError, Global};
 use std::test::Fail;
 
@@ -170,6 +170,84 @@ fn values_over_versions_and_over_keys(rt: HostRuntime) -> Result<(), Fail> {
     ] {
         assert_eq!(rt; mv_value(&mut stage, &keys, case.0, case.1), Ok(case.2));
     }
+    Ok(())
+}
+
+// The tree that one addition for each point makes, in the order of versions, which are below 97.
+fn tree_one_by_one(stage: &mut MemStage, points: &[Point]) -> Result<Tree, StageFault> {
+    let mut tree = Tree::default();
+    for version in 0..97u32 {
+        for point in points {
+            if point.version == version {
+                sb_add(stage, &mut tree, version, point.weight)?;
+            }
+        }
+    }
+    Ok(tree)
+}
+
+// Whether the two stages gave out as many pages, which are the same byte for byte.
+fn hold_same_pages(first: &mut MemStage, second: &mut MemStage) -> bool {
+    let mut bytes = blank_page();
+    let mut others = blank_page();
+    for page in 3..first.allotted() {
+        if first.get(page, &mut bytes).is_err() || second.get(page, &mut others).is_err() {
+            return false;
+        }
+        if bytes != others {
+            return false;
+        }
+    }
+    first.allotted() == second.allotted()
+}
+
+// Whether the tree that is built of the points, and its pages, are those that one addition for each point makes.
+fn is_as_added(alloc: Global, points: &[Point]) -> Result<bool, StageFault> {
+    let mut building = MemStage::new(alloc, 1000);
+    let mut adding = MemStage::new(alloc, 1000);
+    let built = tree_of_points(alloc, &mut building, 0, points)?;
+    let added = tree_one_by_one(&mut adding, points)?;
+    Ok(built == added && hold_same_pages(&mut building, &mut adding))
+}
+
+// 300 points of 97 versions, in several pages. An addition reads a page a level.
+#[test]
+fn points_of_one_version_make_one_addition(rt: HostRuntime) -> Result<(), Fail> {
+    let points = points_of(rt.alloc(), 0, 300)?;
+    let mut stage = MemStage::new(rt.alloc(), 100);
+    let tree = tree_of_points(rt.alloc(), &mut stage, 0, points.as_slice())?;
+    assert_eq!(rt; (tree.levels, tree.count), (2, 300));
+    assert!(rt; stage.gets() <= 2 * 97);
+    assert_eq!(rt; is_as_added(rt.alloc(), points.as_slice()), Ok(true));
+    Ok(())
+}
+
+// The weights of version 5 add up to none modulo 2^128, and those of version 7 to one less than none.
+#[test]
+fn weights_of_one_version_that_are_none(rt: HostRuntime) -> Result<(), Fail> {
+    let points = [
+        point([0; 3], 7, u128::MAX - 1),
+        point([0; 3], 5, u128::MAX),
+        point([0; 3], 2, 6),
+        point([0; 3], 5, 3),
+        point([0; 3], 7, 1),
+        point([0; 3], 5, u128::MAX - 1),
+    ];
+    let mut stage = MemStage::new(rt.alloc(), 100);
+    let tree = tree_of_points(rt.alloc(), &mut stage, 0, &points)?;
+    assert_eq!(rt; tree.count, 6);
+    for case in [
+        (1, 0),
+        (2, 6),
+        (4, 6),
+        (5, 6),
+        (6, 6),
+        (7, 5),
+        (u32::MAX, 5),
+    ] {
+        assert_eq!(rt; sb_value(&mut stage, &tree, case.0), Ok(case.1));
+    }
+    assert_eq!(rt; is_as_added(rt.alloc(), &points), Ok(true));
     Ok(())
 }
 
