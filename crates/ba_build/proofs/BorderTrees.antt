@@ -32,8 +32,7 @@ use Rattle.ba_trees.specs.PageLaws.{BordersAreBelow, BordersShareNoKey}
 use Rattle.ba_build.specs.Built.{IsBuilt, MayBeBuilt}
 use Rattle.ba_build.specs.AsBuilt.{IsAsBuilt}
 use Rattle.ba_build.specs.Parts.{OutsideIsBuilt}
-use Rattle.ba_build.proofs.Children.{told}
-use Rattle.ba_build.proofs.InOrder.{grown_further, grown_so_far}
+use Rattle.mvsb_tree.proofs.Going.{grown_further, grown_so_far, told}
 use Rattle.ba_build.proofs.OwnPages.{tree_as_built}
 use Rattle.ba_build.proofs.Paging.{made_apart, made_stay}
 

@@ -1,5 +1,5 @@
 -- The points below a page, and the damaged pages on the way to them.
-use Rattle.std.proofs.Common.{◌≡◌, ◌≢◌, ◌⊎◌, ℕ, zero, suc, ◌+◌, ◌-◌, ◌*◌, ◌<◌, ◌≤◌, List, ◌∷◌, ◌++◌, length, take, drop, get_or, slice_index_or, map, Bool, IsTrue, Some, None, Contains, inl, inr, refl, sym, ap, ◌∙◌, subst, arith, drop-cons, length-append, append_assoc}
+use Rattle.std.proofs.Common.{◌≡◌, ◌≢◌, ◌⊎◌, ℕ, zero, suc, ◌+◌, ◌-◌, ◌*◌, ◌<◌, ◌≤◌, List, ◌∷◌, ◌++◌, length, take, drop, get_or, slice_index_or, map, Some, None, Contains, inl, inr, refl, sym, ap, ◌∙◌, subst, arith, drop-cons, length-append, append_assoc}
 use Rattle.std.proofs.Math.ListN.{get_or-map}
 use Rattle.std.specs.List.{flat_map}
 use Rattle.std.proofs.lemmas.List.{take-append-drop, length-map, get_or_default}
@@ -183,9 +183,6 @@ one_more_child level m mi es i d old now new lt agree so_far more =
     let child : ℕ = (get_or es i d).child in
     more ∙ ap (λ (ps : List Point). ps ++ points_below level mi child) so_far ∙ ap (λ (n : PageMap). (old ++ before) ++ points_below level n child) agree
     ∙ append_assoc old before (f (get_or es i d)) ∙ ap (λ (ps : List Point). old ++ ps) (sym (flat_more f es i d lt))
-
-pub told : (a b : Bool) → a ≡ b → IsTrue b → IsTrue a
-told a b same t = subst IsTrue (sym same) t
 
 -- reads one after the other
 pub read_both : {P : Type 0} (g : Ghosts P) (a b : ℕ) (old mid new : P) → WasRead g a old mid → WasRead g b mid new → WasRead g (g.gets new) old new

@@ -10,10 +10,9 @@ use Rattle.page_ports.specs.FrameLaws.{Replaces-then}
 use Rattle.page_ports.specs.Pages.{PageMap}
 use Rattle.sb_tree.specs.Stands.{IsBalanced, SbStands}
 use Rattle.sb_tree.specs.Steps.{lows_below, tree_pages}
-use Rattle.ba_trees.specs.Kinds.{trees_over}
+use Rattle.ba_build.specs.Built.{IsBuilt}
 use Rattle.ba_build.specs.Runs.{IsRun, run_point}
 use Rattle.ba_build.specs.declared.over_versions.Run.{Run}
-use Rattle.ba_build.proofs.InOrder.{SoFar}
 
 -- the tree with another count
 abbrev pub with_count : Tree → ℕ → Tree
@@ -37,14 +36,15 @@ run_stands pages tree points from run few in_points is s =
     }
 
 -- Then there is a run more.
-pub one_run_so_far : (m0 m1 m2 : PageMap) (points : List Point) (from : ℕ) (run : Run) (old new : Tree) → length points ≤ 2 ^ 31 → from < run.end → run.end ≤ length points
-    → IsRun points from run → new.count ≡ from + 1 → SoFar (trees_over 0) m0 m1 (take from points) old
+pub run_built : (m0 m1 m2 : PageMap) (points : List Point) (from : ℕ) (run : Run) (old new : Tree) → length points ≤ 2 ^ 31 → from < run.end → run.end ≤ length points
+    → IsRun points from run → new.count ≡ from + 1 → IsBuilt 0 (take from points) m0 m1 old
     → SbStands m2 new (run_point run ∷ take from points) → IsBalanced new → Replaces (tree_pages m1 old) (tree_pages m2 new) m1 m2
-    → SoFar (trees_over 0) m0 m2 (take run.end points) (with_count new run.end)
-one_run_so_far m0 m1 m2 points from run old new few begun in_points is count so stands balanced change =
+    → IsBuilt 0 (take run.end points) m0 m2 (with_count new run.end)
+run_built m0 m1 m2 points from run old new few begun in_points is count so stands balanced change =
     let grown : digit_count 32 new.count ≤ digit_count 32 run.end = digits_grow 32 new.count run.end (lit≤ tt) (omega (arith, count, begun)) in
     record {
       stands = run_stands m2 new points from run few in_points is stands;
       balanced = omega (arith, balanced, grown);
+      as_built = tt;
       change = Replaces-then [] (tree_pages m1 old) (tree_pages m2 new) m0 m1 m2 so.change change;
     }

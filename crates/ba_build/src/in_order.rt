@@ -1,7 +1,5 @@
 //! Trees over versions and over one dimension, built by additions in the order of versions.
-ghost use Rattle.std.specs.Prelude.{◌≡◌, ◌≢◌, ◌+◌, ◌-◌, ◌*◌, ◌^◌, ◌<◌, ◌≤◌, ℕ, Err, IsTrue, IfOk, IsPermutation, length};
-ghost use Rattle.std.specs.List.{All};
-ghost use Rattle.std.specs.List.Sorted.{IsNonDecreasingBy};
+ghost use Rattle.std.specs.Prelude.{◌≡◌, ◌≢◌, ◌+◌, ◌*◌, ◌≤◌, ℕ, Err, IsTrue, IfOk, IsPermutation, length};
 ghost use Rattle.bw_types.specs.Heights.{pages_a_point};
 ghost use Rattle.page_ports.specs.Calls.{Grows};
 ghost use Rattle.page_layout.specs.TreeValue.{IsTreeTyped, plain_tree_fits, tree_fits};
@@ -10,7 +8,7 @@ ghost use Rattle.ba_build.specs.Built.{IsBuilt, MayBeBuilt};
 use crate::over_versions::add_over_versions;
 use ba_trees::tree_kind_laws;
 use bw_types::{Point, Tree};
-use mvsb_tree::mv_add;
+use mvsb_tree::mv_build;
 use page_ports::{Stage, StageFault};
 
 /// Builds a tree over versions alone, or over one dimension.
@@ -36,27 +34,6 @@ pub(crate) fn build_in_order<S: Stage>(
     if dims == 0 {
         add_over_versions(stage, points)
     } else {
-        add_over_keys(stage, points)
+        mv_build(stage, points)
     }
-}
-
-// Adds the points to an empty tree over one dimension, one after another: none is later than those behind it.
-fn add_over_keys<S: Stage>(stage: &mut S, points: &[Point]) -> Result<Tree, StageFault>
-    requires few { length points.now ≤ 2 ^ 31 }
-    requires versions { All (λ p. p.version < 2 ^ 32 - 1) points.now }
-    requires in_order { IsNonDecreasingBy (λ p. p.version) points.now }
-    ensures built { IfOk result (λ tree. IsTrue (S.tells stage.old) → IsBuilt 1 points.now (S.map stage.old) (S.map stage.new) tree) }
-    ensures count { IfOk result (λ tree. tree.count ≡ length points.now) }
-    ensures rules { IfOk result (λ tree. IsTrue (tree_fits tree)) }
-    ensures typed { IfOk result (λ tree. IsTreeTyped tree) }
-    ensures damaged { (page : ℕ) → result ≡ Err (StageFault.Damaged page) → IsTrue (S.tells stage.old) → ¬ S.free_in_order stage.old }
-    ensures grows { Grows S.Pages (S.allotted stage.new + 1) stage.old stage.new result }
-    ensures few { IsTrue (S.tells stage.old) → Grows S.Pages (length points.now * 24) stage.old stage.new result }
-{
-    tree_kind_laws();
-    let mut tree = Tree::default();
-    for point in points {
-        mv_add(stage, &mut tree, point.keys[0], point.version, point.weight)?;
-    }
-    Ok(tree)
 }

@@ -4,7 +4,7 @@ use Rattle.std.specs.Prelude.{IsPermutation}
 use Rattle.std.specs.List.{All}
 use Rattle.std.specs.List.Sorted.{IsNonDecreasingBy}
 use Rattle.std.proofs.Math.Path.{fun_ext}
-use Rattle.std.proofs.lemmas.Bool.{cases_Bool, cond-false, eq-eqb, eqb-true, ne_eqb, or_parts, true≢false}
+use Rattle.std.proofs.lemmas.Bool.{cases_Bool, cond-false, eq-eqb, eqb-true, ne_eqb}
 use Rattle.std.proofs.lemmas.List.{get_or-take, get_or_default, length-take-le, take_more}
 use Rattle.std.proofs.lemmas.List.Elements.{All-head}
 use Rattle.std.proofs.lemmas.List.Sorted.{All-permutation, IsPermutation-sym, IsPermutation-to_front}
@@ -38,7 +38,7 @@ use Rattle.mvsb_tree.proofs.Nodes.{node_on-spelled}
 use Rattle.mvsb_tree.proofs.Sound.{root_spelled}
 use Rattle.mvsb_tree.proofs.Topping.{any_key, same_top}
 use Rattle.mvsb_tree.proofs.Values.{level_of_root}
-use Rattle.mvsb_tree.proofs.Whole.{DirectoryAdded, NodesAdded, added_stands, marked_own, nodes_hold}
+use Rattle.mvsb_tree.proofs.Whole.{DirectoryAdded, added_stands, marked_own, nodes_hold}
 
 -- A page that is put as it is changes nothing, and of two puts the later one counts.
 pub put_same : (m : PageMap) (page : ℕ) (bytes : List ℕ) → m page ≡ Some bytes → put_page m page bytes ≡ m

@@ -44,13 +44,7 @@ pub fn mv_build<S: Stage>(stage: &mut S, points: &[Point]) -> Result<Tree, Stage
     let mut tree = begin(stage, points)?;
     for index in tree.count as usize..points.len() {
         let point = &points[index];
-        mv_add(
-            stage,
-            &mut tree,
-            point.keys[0],
-            point.version,
-            point.weight,
-        )?;
+        mv_add(stage, &mut tree, point.keys[0], point.version, point.weight)?;
     }
     Ok(tree)
 }
@@ -99,13 +93,7 @@ fn add_first<S: Stage>(stage: &mut S, points: &[Point]) -> Result<Tree, StageFau
     mv_laws();
     let first = &points[0];
     let mut tree = Tree::default();
-    mv_add(
-        stage,
-        &mut tree,
-        first.keys[0],
-        first.version,
-        first.weight,
-    )?;
+    mv_add(stage, &mut tree, first.keys[0], first.version, first.weight)?;
     Ok(tree)
 }
 

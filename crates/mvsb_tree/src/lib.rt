@@ -34,8 +34,6 @@ mod tests_add;
 #[cfg(test)]
 mod tests_broken;
 #[cfg(test)]
-mod tests_build;
-#[cfg(test)]
 mod tests_ends;
 #[cfg(test)]
 mod tests_index;

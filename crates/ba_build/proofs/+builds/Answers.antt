@@ -20,7 +20,7 @@ use Rattle.ba_build.specs.AsBuilt.{IsLeastKey}
 use Rattle.ba_build.specs.Built.{IsBuilt, MayBeBuilt}
 use Rattle.page_layout.specs.Regions.{above_cut, below_cut, region_at}
 use Rattle.ba_build.specs.Parts.{FitHeight, LieInPage, OutsideIsBuilt, OutsidesAreBuilt, PageIsBuilt}
-use Rattle.ba_build.proofs.Children.{told}
+use Rattle.mvsb_tree.proofs.Going.{told}
 use Rattle.ba_build.proofs.Filtered.{a_page_each, all_built, fewer_outside, none_outside, outside_again, outside_may_be_built}
 use Rattle.ba_build.proofs.Growth.{Grew, grew_freely, grew_more, grows_end, grows_less, grows_then, map_ok, refused}
 use Rattle.ba_build.proofs.Outsides.{fits_beside, left_more, left_set, next_number, one_more_number, outsides_next, same_child}

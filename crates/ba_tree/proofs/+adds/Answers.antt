@@ -48,7 +48,7 @@ use Rattle.std.specs.Prelude.{IsPermutation, slice_index}
 use Rattle.mvsb_tree.proofs.Indexing.{damaged_point, unchanged_stays}
 use Rattle.std.proofs.lemmas.List.Sorted.{length_permutation}
 use Rattle.page_layout.specs.Footprint.{NamesNoneTwice}
-use Rattle.ba_build.proofs.Children.{told}
+use Rattle.mvsb_tree.proofs.Going.{told}
 use Rattle.ba_build.proofs.Paging.{Laws}
 use Rattle.ba_tree.proofs.BelowCalls.{as_many_children, beside_goes, child_bound, child_few, child_from_three, child_goes, child_may_take, child_most, cut_bound, cut_most, level_there, outsides_bound, outsides_most, stays_bound, store_bound, store_most}
 use Rattle.ba_tree.proofs.ChildChanged.{split_child, split_led, stays_children, stays_led, stays_once, stays_outsides}

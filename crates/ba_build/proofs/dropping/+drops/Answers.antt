@@ -9,7 +9,7 @@ use Rattle.sb_tree.proofs.Exits.{exit_error, read_damaged}
 use Rattle.mvsb_tree.specs.Gone.{AreDropped}
 use Rattle.mvsb_tree.proofs.Dropping.{versions_dropped}
 use Rattle.mvsb_tree.proofs.Exits.{both_ok}
-use Rattle.ba_build.proofs.Children.{told}
+use Rattle.mvsb_tree.proofs.Going.{told}
 use Rattle.ba_build.proofs.DropDamage.{border_damaged, child_damaged, index_damaged, outside_damaged, over_more_damaged, over_versions_damaged, subtotal_damaged}
 use Rattle.ba_build.proofs.DropSteps.{border_dropped, entry_dropped, over_more_dropped, over_versions_dropped, own_pages, page_dropped, subtotal_dropped}
 use Rattle.ba_build.proofs.dropping.+drops.Goals as goal

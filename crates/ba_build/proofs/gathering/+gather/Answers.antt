@@ -8,7 +8,8 @@ use Rattle.bw_types.specs.declared.point.Point.{Point}
 use Rattle.page_ports.specs.Pages.{PageMap}
 use Rattle.page_ports.specs.declared.page.StageFault.TheVariants.{Damaged}
 use Rattle.sb_tree.proofs.Exits.{exit_error, read_damaged}
-use Rattle.ba_build.proofs.Children.{child_points, damage_below, damaged_index, leaf_or_past, none_past, one_more_child, own_page, points_spelled, read_both, told}
+use Rattle.ba_build.proofs.Children.{child_points, damage_below, damaged_index, leaf_or_past, none_past, one_more_child, own_page, points_spelled, read_both}
+use Rattle.mvsb_tree.proofs.Going.{told}
 use Rattle.ba_build.proofs.Intact.{intact_all, intact_cuts, intact_next, intact_points}
 use Rattle.ba_build.proofs.gathering.+gather.Goals as goal
 

@@ -3,7 +3,7 @@ use Rattle.std.proofs.lemmas.List.{take_more}
 use Rattle.std.proofs.lemmas.List.Elements.{All-more}
 use Rattle.bw_types.specs.declared.point.Point.{Point}
 use Rattle.page_layout.specs.PointLeaf.{IsPointTyped}
-use Rattle.ba_build.proofs.InOrder.{no_point}
+use Rattle.mvsb_tree.proofs.Building.{no_point}
 use Rattle.ba_build.proofs.leaf.leaf_of.Goals as goal
 
 pub loop-point-preserved : goal.loop-point-preserved

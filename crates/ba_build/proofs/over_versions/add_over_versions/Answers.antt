@@ -6,12 +6,13 @@ use Rattle.bw_types.specs.declared.point.Point.{Point}
 use Rattle.page_ports.specs.Pages.{PageMap}
 use Rattle.page_ports.specs.declared.page.StageFault.TheVariants.{Damaged}
 use Rattle.sb_tree.proofs.Exits.{exit_error}
-use Rattle.ba_trees.specs.Kinds.{trees_over}
+use Rattle.mvsb_tree.proofs.Building.{few_taken}
+use Rattle.mvsb_tree.proofs.Going.{grown_further, grown_so_far, told}
+use Rattle.ba_build.specs.Built.{IsBuilt}
 use Rattle.ba_build.specs.Runs.{run_point}
 use Rattle.ba_build.specs.declared.over_versions.Run.{Run}
-use Rattle.ba_build.proofs.Children.{told}
-use Rattle.ba_build.proofs.InOrder.{SoFar, all_built, few_taken, grown_further, grown_so_far, none_so_far}
-use Rattle.ba_build.proofs.Runs.{one_run_so_far}
+use Rattle.ba_build.proofs.InOrder.{all_built, none_built}
+use Rattle.ba_build.proofs.Runs.{run_built}
 use Rattle.ba_build.proofs.over_versions.add_over_versions.Goals as goal
 
 pub loop-taken-init : goal.loop-taken-init
@@ -25,7 +26,7 @@ loop-taken-init g c =
       count = search rules;
       rules = search rules;
       typed = search rules;
-      built = λ tells. subst (λ (t : Tree). SoFar (trees_over 0) m m (take 0 c.args.points.now) t) (sym none) (none_so_far (trees_over 0) (c.tree_kind_laws.ensures 0) m c.args.points.now);
+      built = λ tells. subst (λ (t : Tree). IsBuilt 0 (take 0 c.args.points.now) m m t) (sym none) (none_built (c.tree_kind_laws.ensures 0) m c.args.points.now);
       few = λ tells. omega arith;
     }
 
@@ -49,7 +50,7 @@ loop-taken-preserved g c =
       built = λ tells.
           let so = c.loop-taken.invariant.built tells in
           let there = told (g.S.Pages.tells c.loop-taken.stage) (g.S.Pages.tells c.args.stage.now) c.loop-taken.invariant.went_on.tells tells in
-          one_run_so_far m0 m1 m2 points i run c.loop-taken.tree c.sb_add.new.tree c.requires.few c.run_from-run.ensures.end.0 c.run_from-run.ensures.end.1 c.run_from-run.ensures.run count so
+          run_built m0 m1 m2 points i run c.loop-taken.tree c.sb_add.new.tree c.requires.few c.run_from-run.ensures.end.0 c.run_from-run.ensures.end.1 c.run_from-run.ensures.run count so
           (c.in_ok-sb_add.ensures.stands there (take i points) (run_point run) so.stands few refl refl)
           (c.in_ok-sb_add.ensures.balanced there (take i points) so.stands few so.balanced)
           (c.in_ok-sb_add.ensures.change there (take i points) so.stands);
@@ -86,7 +87,7 @@ returns-in_err-sb_add-clause-few g c = λ tells.
 
 pub returns-clause-built : goal.returns-clause-built
 returns-clause-built g c = λ tells.
-    all_built 0 (g.S.Pages.map c.args.stage.now) (g.S.Pages.map c.loop-taken.stage) c.args.points.now c.loop-taken.taken c.loop-taken.tree (omega arith) (omega (arith, c.loop-taken-test.false))
+    all_built (g.S.Pages.map c.args.stage.now) (g.S.Pages.map c.loop-taken.stage) c.args.points.now c.loop-taken.taken c.loop-taken.tree (omega (arith, c.loop-taken-test.false))
     (c.loop-taken.invariant.built tells)
 
 pub returns-clause-few : goal.returns-clause-few

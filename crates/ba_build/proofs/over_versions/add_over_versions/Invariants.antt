@@ -2,8 +2,7 @@ use Rattle.std.proofs.Common.{◌≡◌, ◌+◌, ◌-◌, ◌*◌, ◌≤◌, I
 use Rattle.page_ports.specs.Calls.{WentOn}
 use Rattle.page_ports.specs.Frame.{KeepsPages}
 use Rattle.page_layout.specs.TreeValue.{IsTreeTyped, plain_tree_fits}
-use Rattle.ba_trees.specs.Kinds.{trees_over}
-use Rattle.ba_build.proofs.InOrder.{SoFar}
+use Rattle.ba_build.specs.Built.{IsBuilt}
 use Rattle.ba_build.proofs.over_versions.add_over_versions.Given as goal
 
 abbrev pub invariant-loop-taken : goal.invariant-loop-taken
@@ -14,7 +13,7 @@ invariant-loop-taken g l = record {
   count : l.tree.count ≡ l.taken;
   rules : IsTrue (plain_tree_fits l.tree);
   typed : IsTreeTyped l.tree;
-  built : IsTrue (g.S.Pages.tells l.fn.stage) → SoFar (trees_over 0) (g.S.Pages.map l.fn.stage) (g.S.Pages.map l.stage) (take l.taken l.points) l.tree;
+  built : IsTrue (g.S.Pages.tells l.fn.stage) → IsBuilt 0 (take l.taken l.points) (g.S.Pages.map l.fn.stage) (g.S.Pages.map l.stage) l.tree;
   few : IsTrue (g.S.Pages.tells l.fn.stage) → g.S.Pages.allotted l.stage ≤ g.S.Pages.allotted l.fn.stage + l.taken * 8;
 }
 

@@ -4,7 +4,7 @@ use Rattle.std.proofs.lemmas.List.Sorted.{length_permutation}
 use Rattle.bw_types.specs.declared.point.Point.{Point}
 use Rattle.page_layout.specs.PointLeaf.{IsPointTyped}
 use Rattle.kdb_pages.specs.Medians.{IsMedian}
-use Rattle.ba_build.proofs.Children.{told}
+use Rattle.mvsb_tree.proofs.Going.{told}
 use Rattle.ba_build.proofs.Cutting.{differ_at}
 use Rattle.ba_split.proofs.Leaves.{half_numbers, leaf_split}
 use Rattle.ba_split.proofs.leaf.split_leaf.Goals as goal

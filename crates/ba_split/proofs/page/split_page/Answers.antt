@@ -8,7 +8,7 @@ use Rattle.bw_types.specs.declared.region.Region.{Region}
 use Rattle.bw_types.specs.declared.point.Point.{Point}
 use Rattle.ba_build.specs.Built.{MayBeBuilt}
 use Rattle.ba_trees.specs.PageLaws.{OutsideBalanceByItsPages, OutsideInAnyOrder, OutsidePagesAreThere, OutsideStandsByItsPages, PageBalanceByItsPages, PageStandsByItsPages, PagesBelowAreThere}
-use Rattle.ba_build.proofs.Children.{told}
+use Rattle.mvsb_tree.proofs.Going.{told}
 use Rattle.ba_build.proofs.Paging.{Laws}
 use Rattle.page_ports.specs.Pages.{put_page}
 use Rattle.page_ports.specs.declared.page.StageFault.TheVariants.{Damaged}

@@ -12,7 +12,7 @@ use Rattle.ba_trees.specs.Pages.{no_entry}
 use Rattle.ba_trees.specs.Stands.{outside_pages}
 use Rattle.ba_build.specs.Dropped.{IsDamagedForDrop, IsDamagedOutside}
 use Rattle.ba_build.specs.Parts.{OutsideIsBuilt}
-use Rattle.ba_build.proofs.Children.{told}
+use Rattle.mvsb_tree.proofs.Going.{told}
 use Rattle.ba_build.proofs.Outsides.{fits_beside}
 use Rattle.sb_tree.proofs.Exits.{exit_error}
 use Rattle.ba_split.proofs.Sound.{outside_sound, same_entry}

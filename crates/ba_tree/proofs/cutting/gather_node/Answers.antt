@@ -6,7 +6,8 @@ use Rattle.bw_types.specs.declared.ba_entry.BaEntry.{BaEntry}
 use Rattle.page_ports.specs.Pages.{PageMap}
 use Rattle.page_ports.specs.declared.page.StageFault.TheVariants.{Damaged}
 use Rattle.sb_tree.proofs.Exits.{exit_error}
-use Rattle.ba_build.proofs.Children.{child_points, read_both, told}
+use Rattle.ba_build.proofs.Children.{child_points, read_both}
+use Rattle.mvsb_tree.proofs.Going.{told}
 use Rattle.ba_tree.proofs.Gathered.{next_gathered, none_damaged}
 use Rattle.ba_tree.proofs.cutting.gather_node.Goals as goal
 

@@ -5,7 +5,7 @@ use Rattle.bw_types.specs.declared.point.Point.{Point}
 use Rattle.page_ports.specs.Calls.{WentOn}
 use Rattle.page_ports.specs.Pages.{PageMap}
 use Rattle.page_layout.specs.declared.cut_page.CutPage.{CutPage}
-use Rattle.ba_build.proofs.Children.{told}
+use Rattle.mvsb_tree.proofs.Going.{told}
 use Rattle.ba_tree.proofs.Steps.{goes_end, goes_less, goes_told_then, went_then}
 use Rattle.ba_tree.proofs.PutBack.{WasSplit, WasStored, split_bound, split_goes}
 use Rattle.ba_tree.proofs.storing.store.Goals as goal

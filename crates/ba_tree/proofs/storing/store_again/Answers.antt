@@ -1,7 +1,7 @@
 use Rattle.std.proofs.Common.{rules, ap, ◌∙◌}
 use Rattle.page_ports.specs.Pages.{PageMap, put_page}
 use Rattle.page_layout.specs.CutPage.{cut_page_page}
-use Rattle.ba_build.proofs.Children.{told}
+use Rattle.mvsb_tree.proofs.Going.{told}
 use Rattle.ba_build.proofs.Paging.{Laws}
 use Rattle.ba_tree.proofs.Opened.{stored}
 use Rattle.ba_tree.proofs.storing.store_again.Goals as goal

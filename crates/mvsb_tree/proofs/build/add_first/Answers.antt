@@ -1,4 +1,4 @@
-use Rattle.std.proofs.Common.{◌≡◌, ◌+◌, ◌^◌, ◌<◌, ◌≤◌, ◌∷◌, [], ℕ, List, Err, get_or, length, refl, rules, arith, sym, ap, subst, take}
+use Rattle.std.proofs.Common.{◌≡◌, ◌≤◌, [], ℕ, Err, get_or, refl, rules, arith, sym, ap, subst}
 use Rattle.std.specs.List.{All}
 use Rattle.std.proofs.lemmas.List.Elements.{All-nil}
 use Rattle.std.proofs.lemmas.Result.{err_from_is_err_and}

@@ -1,4 +1,4 @@
-use Rattle.std.proofs.Common.{◌≡◌, ◌+◌, ◌^◌, ◌<◌, ◌≤◌, ◌∷◌, [], ℕ, List, Err, Ok, IsTrue, IsSome, get_or, length, refl, rules, arith, sym, ap, ◌∙◌, subst, take}
+use Rattle.std.proofs.Common.{◌≤◌, ℕ, List, Err, IsSome, get_or, rules, arith, sym, ap, ◌∙◌, subst, take}
 use Rattle.std.proofs.lemmas.List.{get_or_default}
 use Rattle.std.proofs.lemmas.Result.{err_from_is_err_and}
 use Rattle.bw_types.specs.declared.point.Point.{Point}

@@ -1,13 +1,8 @@
-use Rattle.std.proofs.Common.{◌≡◌, ◌+◌, ◌^◌, ◌<◌, ◌≤◌, ◌++◌, ◌∷◌, [], ℕ, List, get_or, length, refl, rules, arith, sym, ap, ◌∙◌, subst, take}
-use Rattle.std.specs.Prelude.{IsPermutation}
-use Rattle.std.proofs.lemmas.List.{get_or_default, take_more}
-use Rattle.std.proofs.lemmas.List.Sorted.{IsPermutation-sym, IsPermutation-to_front}
+use Rattle.std.proofs.Common.{◌≡◌, ◌<◌, ◌≤◌, ℕ, List, get_or, length, rules, arith, subst, take}
+use Rattle.std.proofs.lemmas.List.{get_or_default}
 use Rattle.bw_types.specs.declared.point.Point.{Point}
-use Rattle.bw_types.specs.declared.tree.Tree.{Tree}
-use Rattle.page_ports.specs.Pages.{PageMap}
-use Rattle.mv_pages.specs.Alive.{IsChangeable}
 use Rattle.mvsb_tree.specs.Built.{TakesPoints}
-use Rattle.mvsb_tree.proofs.Building.{few_taken, no_point, none_later, takes_more, takes_none}
+use Rattle.mvsb_tree.proofs.Building.{no_point, none_later, takes_more, takes_none}
 use Rattle.mvsb_tree.proofs.build.fill.Goals as goal
 
 pub loop-index-init : goal.loop-index-init

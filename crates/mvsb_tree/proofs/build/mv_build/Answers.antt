@@ -1,4 +1,4 @@
-use Rattle.std.proofs.Common.{◌≡◌, ℕ, ◌*◌, Err, List, get_or, length, refl, rules, arith, ap, take}
+use Rattle.std.proofs.Common.{ℕ, ◌*◌, Err, List, get_or, length, refl, rules, arith, ap, take}
 use Rattle.std.proofs.lemmas.Result.{err_from_is_err_and}
 use Rattle.bw_types.specs.declared.point.Point.{Point}
 use Rattle.page_ports.specs.Pages.{PageMap}
