@@ -10,13 +10,10 @@ use Rattle.page_ports.specs.FrameLaws.{Replaces-then}
 use Rattle.page_ports.specs.Pages.{PageMap}
 use Rattle.sb_tree.specs.Stands.{IsBalanced, SbStands}
 use Rattle.sb_tree.specs.Steps.{lows_below, tree_pages}
+use Rattle.mvsb_tree.specs.Built.{with_count}
 use Rattle.ba_build.specs.Built.{IsBuilt}
 use Rattle.ba_build.specs.Runs.{IsRun, run_point}
 use Rattle.ba_build.specs.declared.over_versions.Run.{Run}
-
--- the tree with another count
-abbrev pub with_count : Tree → ℕ → Tree
-with_count tree n = record { root = tree.root; levels = tree.levels; count = n; changes = tree.changes; last = tree.last }
 
 -- A tree that stands for a run as for one point stands for its points, once it counts them.
 run_stands : (pages : PageMap) (tree : Tree) (points : List Point) (from : ℕ) (run : Run) → length points ≤ 2 ^ 31 → run.end ≤ length points

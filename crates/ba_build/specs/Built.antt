@@ -22,8 +22,8 @@ pub record MayBeBuilt (dims : ℕ) (points : List Point) : Type 0 where
   pub keys : All (λ p. AreKeysBelow dims p.keys) points
   pub versions : All (λ p. p.version < 2 ^ 32 - 1) points
 
--- The tree was built of the points: it stands for them, is balanced, and is as building makes trees. Its pages are new, and no
--- other page changed.
+-- The tree was built of the points: it stands for them, is balanced, and over two and three dimensions is as building makes trees.
+-- Its pages are new, and no other page changed.
 pub record IsBuilt (dims : ℕ) (points : List Point) (before after : PageMap) (tree : Tree) : Type 0 where
   pub stands : (trees_over dims).stands after tree points
   pub balanced : (trees_over dims).balanced after tree

@@ -5,7 +5,7 @@ ghost use Rattle.page_ports.specs.Calls.{Grows};
 ghost use Rattle.page_layout.specs.TreeValue.{IsTreeTyped, plain_tree_fits, tree_fits};
 ghost use Rattle.ba_build.specs.Built.{IsBuilt, MayBeBuilt};
 
-use crate::over_versions::add_over_versions;
+use crate::over_versions::build_over_versions;
 use ba_trees::tree_kind_laws;
 use bw_types::{Point, Tree};
 use mvsb_tree::mv_build;
@@ -32,7 +32,7 @@ pub(crate) fn build_in_order<S: Stage>(
     tree_kind_laws();
     points.sort_unstable_by_key(|point| point.version);
     if dims == 0 {
-        add_over_versions(stage, points)
+        build_over_versions(stage, points)
     } else {
         mv_build(stage, points)
     }

@@ -12,7 +12,7 @@ use page_ports::{Stage, StageFault};
 use sb_tree::{sb_add, tree_laws};
 
 /// Builds a tree over versions: the points of one version that stand one after another make one addition.
-pub(crate) fn add_over_versions<S: Stage>(
+pub(crate) fn build_over_versions<S: Stage>(
     stage: &mut S,
     points: &[Point],
 ) -> Result<Tree, StageFault>
@@ -38,7 +38,8 @@ pub(crate) fn add_over_versions<S: Stage>(
     Ok(tree)
 }
 
-/// Points of one version that stand one after another: where they end, and the total of their weights modulo `2^128`.
+/// Points of one version that stand one after another: the place past the last one, and the total of their weights modulo
+/// `2^128`.
 #[derive(Clone, Copy)]
 struct Run {
     end: usize,

@@ -9,7 +9,7 @@ use crate::tests::collects;
 use crate::{build, drop_tree};
 use bw_types::{BaEntry, Outside, Point, Region, Tree};
 use kdb_pages::{region_of, root_region};
-use mvsb_tree::{mv_add, mv_value};
+use mvsb_tree::mv_value;
 use page_access::{read_level, read_page};
 use page_layout::{CutPage, PointLeaf};
 use page_ports::{MemStage, Pages, Stage, StageFault, blank_page};
@@ -173,18 +173,13 @@ fn values_over_versions_and_over_keys(rt: HostRuntime) -> Result<(), Fail> {
     Ok(())
 }
 
-// The tree that one addition for each point makes over versions or over one dimension, in the order of versions, which are
-// below 300.
-fn tree_one_by_one(stage: &mut MemStage, dims: u8, points: &[Point]) -> Result<Tree, StageFault> {
+// The tree that one addition for each point makes, in the order of versions, which are below 97.
+fn tree_one_by_one(stage: &mut MemStage, points: &[Point]) -> Result<Tree, StageFault> {
     let mut tree = Tree::default();
-    for version in 0..300u32 {
+    for version in 0..97u32 {
         for point in points {
             if point.version == version {
-                if dims == 0 {
-                    sb_add(stage, &mut tree, version, point.weight)?;
-                } else {
-                    mv_add(stage, &mut tree, point.keys[0], version, point.weight)?;
-                }
+                sb_add(stage, &mut tree, version, point.weight)?;
             }
         }
     }
@@ -207,13 +202,11 @@ fn hold_same_pages(first: &mut MemStage, second: &mut MemStage) -> bool {
 }
 
 // Whether the tree that is built of the points, and its pages, are those that one addition for each point makes.
-fn is_as_added(alloc: Global, dims: u8, points: &[Point]) -> Result<bool, StageFault>
-    requires { dims ≤ 1 }
-{
+fn is_as_added(alloc: Global, points: &[Point]) -> Result<bool, StageFault> {
     let mut building = MemStage::new(alloc, 1000);
     let mut adding = MemStage::new(alloc, 1000);
-    let built = tree_of_points(alloc, &mut building, dims, points)?;
-    let added = tree_one_by_one(&mut adding, dims, points)?;
+    let built = tree_of_points(alloc, &mut building, 0, points)?;
+    let added = tree_one_by_one(&mut adding, points)?;
     Ok(built == added && hold_same_pages(&mut building, &mut adding))
 }
 
@@ -225,7 +218,7 @@ fn points_of_one_version_make_one_addition(rt: HostRuntime) -> Result<(), Fail> 
     let tree = tree_of_points(rt.alloc(), &mut stage, 0, points.as_slice())?;
     assert_eq!(rt; (tree.levels, tree.count), (2, 300));
     assert!(rt; stage.gets() <= 2 * 97);
-    assert_eq!(rt; is_as_added(rt.alloc(), 0, points.as_slice()), Ok(true));
+    assert_eq!(rt; is_as_added(rt.alloc(), points.as_slice()), Ok(true));
     Ok(())
 }
 
@@ -254,39 +247,7 @@ fn weights_of_one_version_that_are_none(rt: HostRuntime) -> Result<(), Fail> {
     ] {
         assert_eq!(rt; sb_value(&mut stage, &tree, case.0), Ok(case.1));
     }
-    assert_eq!(rt; is_as_added(rt.alloc(), 0, &points), Ok(true));
-    Ok(())
-}
-
-// As many points, each of a version of its own, at keys in no order.
-fn points_in_turn(alloc: Global, count: u32) -> Result<Vec<Point>, AllocError> {
-    let mut points = Vec::new(alloc);
-    for number in 0..count {
-        let key = u64::from(number).wrapping_mul(0x9e37_79b9_7f4a_7c15) >> 20;
-        points.push(point([key, 0, 0], number, u128::from(number) + 1))?;
-    }
-    Ok(points)
-}
-
-// Fewer points than a leaf has room for, as many, and more.
-#[test]
-fn a_leaf_in_memory_is_that_of_additions(rt: HostRuntime) -> Result<(), Fail> {
-    for count in [1, 2, 95, 96, 97, 300] {
-        let points = points_in_turn(rt.alloc(), count)?;
-        assert_eq!(rt; is_as_added(rt.alloc(), 1, points.as_slice()), Ok(true));
-    }
-    Ok(())
-}
-
-// A leaf and then its directory want a page.
-#[test]
-fn a_build_that_finds_no_page(rt: HostRuntime) -> Result<(), Fail> {
-    let points = [point([20, 0, 0], 1, 7), point([10, 0, 0], 1, 5)];
-    for limit in 3..5 {
-        let mut stage = MemStage::new(rt.alloc(), limit);
-        let built = tree_of_points(rt.alloc(), &mut stage, 1, &points);
-        assert_eq!(rt; built, Err(StageFault::PageLimit(limit)));
-    }
+    assert_eq!(rt; is_as_added(rt.alloc(), &points), Ok(true));
     Ok(())
 }
 

@@ -20,7 +20,7 @@ use Rattle.mv_pages.specs.Alive.{node_value}
 use Rattle.mv_pages.specs.Lows.{alive_lows}
 use Rattle.sb_tree.specs.Laws as over_versions
 use Rattle.sb_tree.specs.Stands as over_versions_stands
-use Rattle.mvsb_tree.specs.Built.{IsBuilt, LeafStands, TakesPoints, counted, with_leaf}
+use Rattle.mvsb_tree.specs.Built.{IsBuilt, StandsFromLast, TakesPoints, with_count, with_last}
 use Rattle.mvsb_tree.specs.Grown.{PastStays}
 use Rattle.mvsb_tree.specs.Laws.{StandsInAnyOrder}
 use Rattle.mvsb_tree.specs.Led.{Led}
@@ -71,7 +71,7 @@ root_fits m nodes root v q some (inr s) = s.0
 -- An addition at the end of the points, which the leaf took in.
 module _ (m : PageMap) (tree : Tree) (points : List Point) (p : Point) (old new : MvNode)
     (in_map : over_versions.PagesAreThere) (by_pages : over_versions.StandsByItsPages) (same : SameLeads)
-    (s : LeafStands m tree points old) (leaf : old.level ≡ 1) (rules : IsMvNode old) (typed : IsTyped old)
+    (s : StandsFromLast m tree points old) (leaf : old.level ≡ 1) (rules : IsMvNode old) (typed : IsTyped old)
     (few : length points < 2 ^ 31) (early : p.version < 4294967295) (key_fits : key_of p < 2 ^ 64) (past : All (λ q. q.version ≤ p.version) points)
     (storable : IsStorable p.version new) (stays : PastStays p.version old new)
     (values : (q : ℕ) → node_value new q p.version ≡ (node_value old q p.version + added_at (key_of p) p.weight q) % 2 ^ 128)
@@ -82,10 +82,10 @@ module _ (m : PageMap) (tree : Tree) (points : List Point) (p : Point) (old new 
   root = tree.last
 
   abbrev after : PageMap
-  after = with_leaf m tree new
+  after = with_last m tree new
 
   abbrev more : Tree
-  more = counted tree (tree.count + 1)
+  more = with_count tree (tree.count + 1)
 
   v_fits : p.version < 2 ^ 32
   v_fits = omega (arith, early)
@@ -120,9 +120,9 @@ module _ (m : PageMap) (tree : Tree) (points : List Point) (p : Point) (old new 
   d : DirectoryAdded m after tree more (p ∷ points) p.version root
   d = joining.directory_added m after after tree more points p (key_of p) p.version p.weight root root tree.last s.stands in_map by_pages past refl v_fits root_is s.number took (directory tree) led refl refl no_root
 
-  pub leaf_takes : LeafStands (with_leaf m tree new) (counted tree (tree.count + 1)) (p ∷ points) new
-      × Replaces (tree_pages m tree) (tree_pages (with_leaf m tree new) (counted tree (tree.count + 1))) m (with_leaf m tree new)
-  leaf_takes =
+  pub last_takes : StandsFromLast (with_last m tree new) (with_count tree (tree.count + 1)) (p ∷ points) new
+      × Replaces (tree_pages m tree) (tree_pages (with_last m tree new) (with_count tree (tree.count + 1))) m (with_last m tree new)
+  last_takes =
       let chain = joining.chain_stands2 m after after tree more points p (key_of p) p.version p.weight root root tree.last s.stands in_map by_pages past refl v_fits root_is s.number took (directory tree) led refl refl no_root in
       let a = joining.nodes_added m after after tree more points p (key_of p) p.version p.weight root root tree.last s.stands in_map by_pages past refl v_fits root_is s.number took (directory tree) led refl refl no_root in
       let places = joining.some_places m after after tree more points p (key_of p) p.version p.weight root root tree.last s.stands in_map by_pages past refl v_fits root_is s.number took (directory tree) led refl refl no_root in
@@ -144,8 +144,8 @@ module _ (m : PageMap) (tree : Tree) (points : List Point) (p : Point) (old new 
       )
 
 -- The order of the points does not count.
-pub leaf_in_any_order : StandsInAnyOrder → (m : PageMap) (tree : Tree) (points others : List Point) (leaf : MvNode) → IsPermutation points others → LeafStands m tree points leaf → LeafStands m tree others leaf
-leaf_in_any_order any m tree points others leaf moved s = record {
+pub last_in_any_order : StandsInAnyOrder → (m : PageMap) (tree : Tree) (points others : List Point) (leaf : MvNode) → IsPermutation points others → StandsFromLast m tree points leaf → StandsFromLast m tree others leaf
+last_in_any_order any m tree points others leaf moved s = record {
   number = s.number;
   levels = s.levels;
   there = s.there;
@@ -155,9 +155,9 @@ leaf_in_any_order any m tree points others leaf moved s = record {
 }
 
 -- A tree that stands for points, the page of whose last place holds a leaf of the first place, stands with that leaf.
-pub one_leaf : (m : PageMap) (tree : Tree) (points : List Point) (leaf : MvNode) → MvStands m tree points → IsBalanced m tree → (points ≡ [] → ⊥) → 3 ≤ tree.last → m tree.last ≡ Some (mv_node_page leaf)
-    → IsTyped leaf → IsMvNode leaf → leaf.place ≡ 1 → LeafStands m tree points leaf
-one_leaf m tree points leaf s balanced some number there typed rules first =
+pub only_leaf : (m : PageMap) (tree : Tree) (points : List Point) (leaf : MvNode) → MvStands m tree points → IsBalanced m tree → (points ≡ [] → ⊥) → 3 ≤ tree.last → m tree.last ≡ Some (mv_node_page leaf)
+    → IsTyped leaf → IsMvNode leaf → leaf.place ≡ 1 → StandsFromLast m tree points leaf
+only_leaf m tree points leaf s balanced some number there typed rules first =
     let levels : tree.levels ≢ 0 = λ none. some (s.some none) in
     let is : node_on m tree.last ≡ leaf = node_on-spelled m tree.last leaf typed rules there in
     let places : place_count m tree ≡ 1 = cond-false (tree.levels == 0) 0 (node_on m tree.last).place (ne_eqb tree.levels 0 levels) ∙ ap (λ (n : MvNode). n.place) is ∙ first in
@@ -206,11 +206,11 @@ in_front points i d lt =
 -- At first the leaf has taken no more points than one.
 pub takes_none : (points : List Point) (leaf : MvNode) → 1 ≤ length points → TakesPoints (take 1 points) (take 1 points) 1 leaf leaf
 takes_none points leaf some map tree s =
-    let same : with_leaf map tree leaf ≡ map = put_same map tree.last (mv_node_page leaf) s.there in
+    let same : with_last map tree leaf ≡ map = put_same map tree.last (mv_node_page leaf) s.there in
     let one : tree.count ≡ 1 = omega (arith, s.stands.count, length-take-le 1 points some) in
-    let is : counted tree 1 ≡ tree = λ i. record { root = tree.root; levels = tree.levels; count = sym one i; changes = tree.changes; last = tree.last } in
-    subst (λ (m : PageMap). LeafStands m (counted tree 1) (take 1 points) leaf × Replaces (tree_pages map tree) (tree_pages m (counted tree 1)) map m) (sym same)
-    (subst (λ (t : Tree). LeafStands map t (take 1 points) leaf × Replaces (tree_pages map tree) (tree_pages map t) map map) (sym is) (s, Replaces-same (tree_pages map tree) map))
+    let is : with_count tree 1 ≡ tree = λ i. record { root = tree.root; levels = tree.levels; count = sym one i; changes = tree.changes; last = tree.last } in
+    subst (λ (m : PageMap). StandsFromLast m (with_count tree 1) (take 1 points) leaf × Replaces (tree_pages map tree) (tree_pages m (with_count tree 1)) map m) (sym same)
+    (subst (λ (t : Tree). StandsFromLast map t (take 1 points) leaf × Replaces (tree_pages map tree) (tree_pages map t) map map) (sym is) (s, Replaces-same (tree_pages map tree) map))
 
 -- Then it takes one more, in what it is when it took the ones before.
 pub takes_more : (points : List Point) (i : ℕ) (first old new : MvNode) → over_versions.PagesAreThere → over_versions.StandsByItsPages → SameLeads → StandsInAnyOrder
@@ -224,15 +224,15 @@ pub takes_more : (points : List Point) (i : ℕ) (first old new : MvNode) → ov
     → IsMvNode new → TakesPoints (take 1 points) (take i points) i first old → TakesPoints (take 1 points) (take (i + 1) points) (i + 1) first new
 takes_more points i first old new in_map by_pages same any lt leaf rules typed few early key_fits past storable stays values tests cut new_rules so map tree s =
     let before = so map tree s in
-    let m : PageMap = with_leaf map tree old in
-    let t : Tree = counted tree i in
+    let m : PageMap = with_last map tree old in
+    let t : Tree = with_count tree i in
     let p : Point = get_or points i no_point in
-    let step = leaf_takes m t (take i points) p old new in_map by_pages same before.0 leaf rules typed (few_taken points i few lt) early key_fits past storable stays values tests cut new_rules in
-    let moved = leaf_in_any_order any (with_leaf m t new) (counted t (i + 1)) (p ∷ take i points) (take (i + 1) points) new (in_front points i no_point lt) step.0 in
-    let twice : with_leaf m t new ≡ with_leaf map tree new = put_twice map tree.last (mv_node_page old) (mv_node_page new) in
-    let T : Tree = counted tree (i + 1) in
-    subst (λ (x : PageMap). LeafStands x T (take (i + 1) points) new × Replaces (tree_pages map tree) (tree_pages x T) map x) twice
-    (moved, Replaces-then (tree_pages map tree) (tree_pages m t) (tree_pages (with_leaf m t new) T) map m (with_leaf m t new) before.1 step.1)
+    let step = last_takes m t (take i points) p old new in_map by_pages same before.0 leaf rules typed (few_taken points i few lt) early key_fits past storable stays values tests cut new_rules in
+    let moved = last_in_any_order any (with_last m t new) (with_count t (i + 1)) (p ∷ take i points) (take (i + 1) points) new (in_front points i no_point lt) step.0 in
+    let twice : with_last m t new ≡ with_last map tree new = put_twice map tree.last (mv_node_page old) (mv_node_page new) in
+    let T : Tree = with_count tree (i + 1) in
+    subst (λ (x : PageMap). StandsFromLast x T (take (i + 1) points) new × Replaces (tree_pages map tree) (tree_pages x T) map x) twice
+    (moved, Replaces-then (tree_pages map tree) (tree_pages m t) (tree_pages (with_last m t new) T) map m (with_last m t new) before.1 step.1)
 
 -- The first addition to an empty tree makes a tree of one point.
 pub first_built : StandsInAnyOrder → (m0 m1 : PageMap) (empty tree : Tree) (points : List Point) → empty ≡ empty_tree → 1 ≤ length points
@@ -260,13 +260,13 @@ last_spells m0 m1 tree points some built none = at_last (place_count m1 tree) (b
 
 -- A tree of one point, whose one node is the leaf: with what the leaf takes it is built of as many points.
 pub leaf_built : (m0 m1 m2 : PageMap) (tree : Tree) (points : List Point) (n : ℕ) (leaf new : MvNode) → 1 ≤ length points → IsBuilt (take 1 points) m0 m1 tree → 3 ≤ tree.last → m1 tree.last ≡ Some (mv_node_page leaf)
-    → IsTyped leaf → IsMvNode leaf → leaf.place ≡ 1 → TakesPoints (take 1 points) (take n points) n leaf new → m2 ≡ with_leaf m1 tree new → IsBuilt (take n points) m0 m2 (counted tree n)
+    → IsTyped leaf → IsMvNode leaf → leaf.place ≡ 1 → TakesPoints (take 1 points) (take n points) n leaf new → m2 ≡ with_last m1 tree new → IsBuilt (take n points) m0 m2 (with_count tree n)
 leaf_built m0 m1 m2 tree points n leaf new some built number there typed rules first takes put =
-    let taken = takes m1 tree (one_leaf m1 tree (take 1 points) leaf built.stands built.balanced (some_taken points some) number there typed rules first) in
-    subst (λ (m : PageMap). IsBuilt (take n points) m0 m (counted tree n)) (sym put) (record {
+    let taken = takes m1 tree (only_leaf m1 tree (take 1 points) leaf built.stands built.balanced (some_taken points some) number there typed rules first) in
+    subst (λ (m : PageMap). IsBuilt (take n points) m0 m (with_count tree n)) (sym put) (record {
       stands = taken.0.stands;
       balanced = taken.0.balanced;
-      change = Replaces-then [] (tree_pages m1 tree) (tree_pages (with_leaf m1 tree new) (counted tree n)) m0 m1 (with_leaf m1 tree new) built.change taken.1;
+      change = Replaces-then [] (tree_pages m1 tree) (tree_pages (with_last m1 tree new) (with_count tree n)) m0 m1 (with_last m1 tree new) built.change taken.1;
     })
 
 -- An addition after that is one point more.

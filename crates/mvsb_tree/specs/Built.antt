@@ -17,26 +17,26 @@ pub record IsBuilt (points : List Point) (before after : PageMap) (tree : Tree) 
   pub change : Replaces [] (tree_pages after tree) before after
 
 -- the tree with another count of points
-abbrev pub counted : Tree → ℕ → Tree
-counted tree count = record { root = tree.root; levels = tree.levels; count = count; changes = tree.changes; last = tree.last }
+abbrev pub with_count : Tree → ℕ → Tree
+with_count tree count = record { root = tree.root; levels = tree.levels; count = count; changes = tree.changes; last = tree.last }
 
--- the map with the leaf in the page of the tree's last place
-abbrev pub with_leaf : PageMap → Tree → MvNode → PageMap
-with_leaf map tree leaf = put_page map tree.last (mv_node_page leaf)
+-- the map with the node in the page of the tree's last place
+abbrev pub with_last : PageMap → Tree → MvNode → PageMap
+with_last map tree node = put_page map tree.last (mv_node_page node)
 
--- The tree stands for the points and is balanced, and the page of its last place holds the leaf, which is the root at each
--- version that no point is after.
-pub record LeafStands (map : PageMap) (tree : Tree) (points : List Point) (leaf : MvNode) : Type 0 where
+-- The tree has levels, stands for the points and is balanced. The page of its last place, at least 3, holds the node, which is
+-- the root at each version that no point is after.
+pub record StandsFromLast (map : PageMap) (tree : Tree) (points : List Point) (node : MvNode) : Type 0 where
   pub number : 3 ≤ tree.last
   pub levels : tree.levels ≢ 0
-  pub there : map tree.last ≡ Some (mv_node_page leaf)
+  pub there : map tree.last ≡ Some (mv_node_page node)
   pub stands : MvStands map tree points
   pub balanced : IsBalanced map tree
   pub root : (version : ℕ) → All (λ p. p.version ≤ version) points → version < 2 ^ 32 → root_at map tree version ≡ tree.last
 
--- Where the old leaf stood in its page for some points, the new one does for others: nothing else of the tree changed but its
--- count, and of the map the leaf's page alone.
-abbrev pub TakesPoints : (before after : List Point) (count : ℕ) (old new : MvNode) → Type 0
-TakesPoints before after count old new = (map : PageMap) (tree : Tree) → LeafStands map tree before old
-    → LeafStands (with_leaf map tree new) (counted tree count) after new
-    × Replaces (tree_pages map tree) (tree_pages (with_leaf map tree new) (counted tree count)) map (with_leaf map tree new)
+-- Where a tree stands for the points from the old node in the page of its last place, it stands for the others, so many, from
+-- the new node there, and the map changes by the tree's pages alone.
+abbrev pub TakesPoints : (points others : List Point) (count : ℕ) (old new : MvNode) → Type 0
+TakesPoints points others count old new = (map : PageMap) (tree : Tree) → StandsFromLast map tree points old
+    → StandsFromLast (with_last map tree new) (with_count tree count) others new
+    × Replaces (tree_pages map tree) (tree_pages (with_last map tree new) (with_count tree count)) map (with_last map tree new)

@@ -18,12 +18,16 @@ use page_layout::{MvNode, View};
 use page_ports::{Stage, StageFault, blank_page};
 use sb_tree::tree_laws;
 
-/// Builds a tree of points, none of which is later than one behind it: page for page the tree that additions one after
-/// another make. As long as its nodes are one leaf, that is kept in memory, and is put to its page once.
+/// Builds a tree of points, none of which is later than one behind it: at most `2^31`, their versions below `2^32 - 1`. The
+/// tree stands for them, past versions included, and is balanced; its pages are new, and no other page changed. No points give
+/// the empty tree.
 ///
-/// At most 24 pages a point are given out. After a refusal the stage is to be abandoned. `Disk` comes only where the count of
-/// faults rose, `PageLimit` only where as many pages are given out as the limit allows, and `Damaged` only where the free
-/// pages are not in order.
+/// Where the stage tells its map, at most 24 pages a point are given out, and `Damaged` comes only where the free pages are not
+/// in order; where it does not, `Damaged` may carry any page that an addition could name. `Disk` comes only where the count of
+/// faults rose, `PageLimit` only where as many pages are given out as the limit allows, and `NoMemory` where the stage has
+/// none. After a refusal the stage is to be abandoned.
+///
+/// The first points, until the leaf has 96 entries, are taken in memory; each one after them is an addition.
 pub fn mv_build<S: Stage>(stage: &mut S, points: &[Point]) -> Result<Tree, StageFault>
     requires few { length points.now ≤ 2 ^ 31 }
     requires versions { All (λ p. p.version < 4294967295) points.now }
@@ -41,7 +45,7 @@ pub fn mv_build<S: Stage>(stage: &mut S, points: &[Point]) -> Result<Tree, Stage
     if points.is_empty() {
         return Ok(Tree::default());
     }
-    let mut tree = begin(stage, points)?;
+    let mut tree = build_leaf(stage, points)?;
     for index in tree.count as usize..points.len() {
         let point = &points[index];
         mv_add(stage, &mut tree, point.keys[0], point.version, point.weight)?;
@@ -50,7 +54,7 @@ pub fn mv_build<S: Stage>(stage: &mut S, points: &[Point]) -> Result<Tree, Stage
 }
 
 // Builds a tree of as many of the first points as one leaf has room for.
-fn begin<S: Stage>(stage: &mut S, points: &[Point]) -> Result<Tree, StageFault>
+fn build_leaf<S: Stage>(stage: &mut S, points: &[Point]) -> Result<Tree, StageFault>
     requires some { 1 ≤ length points.now }
     requires few { length points.now ≤ 2 ^ 31 }
     requires versions { All (λ p. p.version < 4294967295) points.now }
@@ -65,7 +69,7 @@ fn begin<S: Stage>(stage: &mut S, points: &[Point]) -> Result<Tree, StageFault>
 {
     later_laws();
     let first = &points[0];
-    let mut tree = add_first(stage, points)?;
+    let mut tree = build_point(stage, points)?;
     let mut bytes = blank_page();
     let view: View<MvNode> = view_page(stage, tree.last, &mut bytes)?;
     let mut leaf = view.to_value();
@@ -79,7 +83,7 @@ fn begin<S: Stage>(stage: &mut S, points: &[Point]) -> Result<Tree, StageFault>
 }
 
 // Builds a tree of the first point alone.
-fn add_first<S: Stage>(stage: &mut S, points: &[Point]) -> Result<Tree, StageFault>
+fn build_point<S: Stage>(stage: &mut S, points: &[Point]) -> Result<Tree, StageFault>
     requires some { 1 ≤ length points.now }
     requires versions { All (λ p. p.version < 4294967295) points.now }
     ensures built { IfOk result (λ tree. IsTrue (S.tells stage.old) → IsBuilt (take 1 points.now) (S.map stage.old) (S.map stage.new) tree) }
@@ -97,7 +101,7 @@ fn add_first<S: Stage>(stage: &mut S, points: &[Point]) -> Result<Tree, StageFau
     Ok(tree)
 }
 
-/// As many entries as a leaf has room for.
+// As many entries as the page of a leaf has room for.
 const FULL: usize = 96;
 
 // Takes points after the first one into the leaf until it is full, and tells how many of all points it has then.

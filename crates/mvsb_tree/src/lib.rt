@@ -34,6 +34,8 @@ mod tests_add;
 #[cfg(test)]
 mod tests_broken;
 #[cfg(test)]
+mod tests_build;
+#[cfg(test)]
 mod tests_ends;
 #[cfg(test)]
 mod tests_index;

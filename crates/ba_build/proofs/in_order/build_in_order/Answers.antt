@@ -17,24 +17,24 @@ mv_build-requires-clause-versions g c =
 pub returns-then-dims-eq0-clause-built : goal.returns-then-dims-eq0-clause-built
 returns-then-dims-eq0-clause-built g c =
     let m0 : PageMap = g.S.Pages.map c.args.stage.now in
-    let m1 : PageMap = g.S.Pages.map c.add_over_versions.new.stage in
+    let m1 : PageMap = g.S.Pages.map c.build_over_versions.new.stage in
     let old : List Point = c.args.points.now in
     let new : List Point = c.sort_unstable_by_key.new.self in
     let none : c.args.dims ≡ 0 = omega (arith, c.if-dims-eq0.true) in
-    IfOk-weaker c.add_over_versions.result
+    IfOk-weaker c.build_over_versions.result
     (λ (tree : Tree). IsTrue (g.S.Pages.tells c.args.stage.now) → IsBuilt 0 new m0 m1 tree)
     (λ (tree : Tree). IsTrue (g.S.Pages.tells c.args.stage.now) → IsBuilt c.args.dims old m0 m1 tree)
     (λ tree built tells. built_in_any_order c.args.dims m0 m1 new old tree c.requires.dims (c.tree_kind_laws.ensures c.args.dims) c.sort_unstable_by_key.ensures.permutation
     (subst (λ (d : ℕ). IsBuilt d new m0 m1 tree) (sym none) (built tells)))
-    c.add_over_versions.ensures.built
+    c.build_over_versions.ensures.built
 
 pub returns-then-dims-eq0-clause-few : goal.returns-then-dims-eq0-clause-few
 returns-then-dims-eq0-clause-few g c = λ tells.
     let old : List Point = c.args.points.now in
     let new : List Point = c.sort_unstable_by_key.new.self in
     let none : c.args.dims ≡ 0 = omega (arith, c.if-dims-eq0.true) in
-    subst (λ (n : ℕ). Grows g.S.Pages n c.args.stage.now c.add_over_versions.new.stage c.add_over_versions.result)
-    (sym (pages_over_versions c.args.dims (length old) (length new) none (length_permutation old new c.sort_unstable_by_key.ensures.permutation))) (c.add_over_versions.ensures.few tells)
+    subst (λ (n : ℕ). Grows g.S.Pages n c.args.stage.now c.build_over_versions.new.stage c.build_over_versions.result)
+    (sym (pages_over_versions c.args.dims (length old) (length new) none (length_permutation old new c.sort_unstable_by_key.ensures.permutation))) (c.build_over_versions.ensures.few tells)
 
 pub returns-else-dims-eq0-clause-built : goal.returns-else-dims-eq0-clause-built
 returns-else-dims-eq0-clause-built g c =

@@ -11,7 +11,7 @@ use Rattle.mvsb_tree.specs.Laws.{EmptyTreeIsBalanced, EmptyTreeStands}
 use Rattle.mvsb_tree.specs.Stands.{IsBalanced, IsEmptyTree, MvStands}
 use Rattle.mvsb_tree.proofs.Building.{first_built, no_point}
 use Rattle.mvsb_tree.proofs.Exits.{exit_error}
-use Rattle.mvsb_tree.proofs.build.add_first.Goals as goal
+use Rattle.mvsb_tree.proofs.build.build_point.Goals as goal
 
 -- The tree before the first addition.
 empty_stands : (m : PageMap) (tree : Tree) → EmptyTreeStands → EmptyTreeIsBalanced → tree ≡ empty_tree → MvStands m tree [] × IsBalanced m tree

@@ -5,24 +5,24 @@ use Rattle.bw_types.specs.declared.point.Point.{Point}
 use Rattle.bw_types.specs.declared.tree.Tree.{Tree}
 use Rattle.page_ports.specs.Pages.{PageMap}
 use Rattle.page_ports.specs.declared.page.StageFault.TheVariants.{Damaged}
-use Rattle.mvsb_tree.specs.Built.{IsBuilt, with_leaf}
+use Rattle.mvsb_tree.specs.Built.{IsBuilt, with_last}
 use Rattle.mvsb_tree.proofs.Building.{last_spells, leaf_built, no_point}
 use Rattle.mvsb_tree.proofs.Exits.{exit_error, read_damaged}
 use Rattle.mvsb_tree.proofs.Going.{grown_further, grown_so_far, went_reading}
 use Rattle.mvsb_tree.proofs.Nodes.{found_as, spells_as}
-use Rattle.mvsb_tree.proofs.build.begin.Goals as goal
+use Rattle.mvsb_tree.proofs.build.build_leaf.Goals as goal
 
 pub returns-in_err-view-clause-damaged : goal.returns-in_err-view-clause-damaged
 returns-in_err-view-clause-damaged g c = λ page e tells ordered. (
     let m0 : PageMap = g.S.Pages.map c.args.stage.now in
-    let m1 : PageMap = g.S.Pages.map c.add_first.new.stage in
+    let m1 : PageMap = g.S.Pages.map c.build_point.new.stage in
     let same = read_damaged c.from_residual-in_err-view.result c.in_err-view.field-0.0 page (err_from_is_err_and c.from_residual-in_err-view.result c.from_residual-in_err-view.ensures.1) e in
-    let none = (c.in_err-view.ensures.damaged page (ap Err same)).1 (c.add_first.ensures.grows.went_on.tells ∙ tells) in
+    let none = (c.in_err-view.ensures.damaged page (ap Err same)).1 (c.build_point.ensures.grows.went_on.tells ∙ tells) in
     last_spells m0 m1 c.in_ok-tree.tree c.args.points.now c.requires.some (c.in_ok-tree.ensures.built tells) (λ node bytes there spelled node_rules typed. none node bytes there (record { spelled = spelled; rules = node_rules; typed = typed })))
 
 pub returns-in_err-view-clause-few : goal.returns-in_err-view-clause-few
 returns-in_err-view-clause-few g c = λ tells. (
-    let grows = c.add_first.ensures.few tells in
+    let grows = c.build_point.ensures.few tells in
     search rules)
 
 pub fill-taken-requires-clause-changeable : goal.fill-taken-requires-clause-changeable
@@ -36,21 +36,21 @@ fill-taken-requires-clause-changeable g c = λ k d below. (
 pub returns-in_err-put_page-clause-damaged : goal.returns-in_err-put_page-clause-damaged
 returns-in_err-put_page-clause-damaged g c = λ page e tells ordered. (
     let same = exit_error c.from_residual-in_err-put_page.result c.in_err-put_page.field-0.0 (Damaged page) (err_from_is_err_and c.from_residual-in_err-put_page.result c.from_residual-in_err-put_page.ensures.1) e in
-    c.in_err-put_page.ensures.damaged page (c.view_page.ensures.reads.read.tells ∙ c.add_first.ensures.grows.went_on.tells ∙ tells) (ap Err same))
+    c.in_err-put_page.ensures.damaged page (c.view_page.ensures.reads.read.tells ∙ c.build_point.ensures.grows.went_on.tells ∙ tells) (ap Err same))
 
 pub returns-in_err-put_page-clause-grows : goal.returns-in_err-put_page-clause-grows
 returns-in_err-put_page-clause-grows g c =
-    let first = c.add_first.ensures.grows in
+    let first = c.build_point.ensures.grows in
     let read = c.view_page.ensures.reads.read in
     let told = err_from_is_err_and c.from_residual-in_err-put_page.result c.from_residual-in_err-put_page.ensures.1 in
     grown_further g.S.Pages 34 0 _ c.args.stage.now c.view_page.new.pages c.put_page.new.stage (Err c.in_err-put_page.field-0.0) c.from_residual-in_err-put_page.result
-    (went_reading g.S.Pages 34 1 c.args.stage.now c.add_first.new.stage c.view_page.new.pages first.went_on read)
+    (went_reading g.S.Pages 34 1 c.args.stage.now c.build_point.new.stage c.view_page.new.pages first.went_on read)
     (λ t page there. subst (λ (m : PageMap). IsSome (m page)) (sym read.map) (first.keeps t page there)) c.in_err-put_page.ensures.grows
     (omega (arith, c.in_err-put_page.ensures.grows.went_on.allotted)) (λ f e. ap Err (exit_error c.from_residual-in_err-put_page.result c.in_err-put_page.field-0.0 f told e))
 
 pub returns-in_err-put_page-clause-few : goal.returns-in_err-put_page-clause-few
 returns-in_err-put_page-clause-few g c = λ tells. (
-    let grows = c.add_first.ensures.few tells in
+    let grows = c.build_point.ensures.few tells in
     let read = c.view_page.ensures.reads.read in
     let put = c.in_err-put_page.ensures.grows in
     search rules)
@@ -58,31 +58,31 @@ returns-in_err-put_page-clause-few g c = λ tells. (
 pub returns-in_ok-put_page-clause-built : goal.returns-in_ok-put_page-clause-built
 returns-in_ok-put_page-clause-built g c = λ tells. (
     let m0 : PageMap = g.S.Pages.map c.args.stage.now in
-    let m1 : PageMap = g.S.Pages.map c.add_first.new.stage in
+    let m1 : PageMap = g.S.Pages.map c.build_point.new.stage in
     let tree : Tree = c.in_ok-tree.tree in
     let leaf = c.to_value-leaf.result in
-    let told1 = c.add_first.ensures.grows.went_on.tells ∙ tells in
+    let told1 = c.build_point.ensures.grows.went_on.tells ∙ tells in
     let read = c.view_page.ensures.reads.read in
     let spells = spells_as _ _ c.to_value-leaf.ensures c.in_ok-view.ensures.spells in
     let there = found_as m1 tree.last _ _ c.to_value-leaf.ensures (c.in_ok-view.ensures.found told1) in
-    let number = g.met.S.Stage.from_three c.add_first.new.stage tree.last _ told1 there in
-    let put = c.in_ok-put_page.ensures.ok (read.tells ∙ told1) ∙ ap (λ (m : PageMap). with_leaf m tree c.fill-taken.new.leaf) read.map in
+    let number = g.met.S.Stage.from_three c.build_point.new.stage tree.last _ told1 there in
+    let put = c.in_ok-put_page.ensures.ok (read.tells ∙ told1) ∙ ap (λ (m : PageMap). with_last m tree c.fill-taken.new.leaf) read.map in
     leaf_built m0 m1 (g.S.Pages.map c.put_page.new.stage) tree c.args.points.now c.fill-taken.result leaf c.fill-taken.new.leaf c.requires.some (c.in_ok-tree.ensures.built tells) number there spells.typed spells.rules c.if-leaf-eq1-2.true c.fill-taken.ensures.takes put)
 
 pub returns-in_ok-put_page-clause-grows : goal.returns-in_ok-put_page-clause-grows
 returns-in_ok-put_page-clause-grows g c =
-    let first = c.add_first.ensures.grows in
+    let first = c.build_point.ensures.grows in
     let read = c.view_page.ensures.reads.read in
     let put = c.in_ok-put_page.ensures.grows in
     let both = grown_further g.S.Pages 34 0 34 c.args.stage.now c.view_page.new.pages c.put_page.new.stage c.put_page.result c.put_page.result
-    (went_reading g.S.Pages 34 1 c.args.stage.now c.add_first.new.stage c.view_page.new.pages first.went_on read)
+    (went_reading g.S.Pages 34 1 c.args.stage.now c.build_point.new.stage c.view_page.new.pages first.went_on read)
     (λ t page there. subst (λ (m : PageMap). IsSome (m page)) (sym read.map) (first.keeps t page there)) c.put_page.ensures.grows
     (omega (arith, first.went_on.at_most, read.allotted)) (λ f e. e) in
     grown_so_far g.S.Pages 34 _ c.args.stage.now c.put_page.new.stage _ both.went_on both.keeps (omega arith)
 
 pub returns-in_ok-put_page-clause-few : goal.returns-in_ok-put_page-clause-few
 returns-in_ok-put_page-clause-few g c = λ tells. (
-    let grows = c.add_first.ensures.few tells in
+    let grows = c.build_point.ensures.few tells in
     let read = c.view_page.ensures.reads.read in
     let put = c.in_ok-put_page.ensures.grows in
     search rules)
@@ -96,6 +96,6 @@ returns-else-leaf-eq1-clause-built g c = λ tells. (
 
 pub returns-else-leaf-eq1-clause-few : goal.returns-else-leaf-eq1-clause-few
 returns-else-leaf-eq1-clause-few g c = λ tells. (
-    let grows = c.add_first.ensures.few tells in
+    let grows = c.build_point.ensures.few tells in
     let read = c.view_page.ensures.reads.read in
     search rules)

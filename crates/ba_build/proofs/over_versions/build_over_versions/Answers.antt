@@ -13,7 +13,7 @@ use Rattle.ba_build.specs.Runs.{run_point}
 use Rattle.ba_build.specs.declared.over_versions.Run.{Run}
 use Rattle.ba_build.proofs.InOrder.{all_built, none_built}
 use Rattle.ba_build.proofs.Runs.{run_built}
-use Rattle.ba_build.proofs.over_versions.add_over_versions.Goals as goal
+use Rattle.ba_build.proofs.over_versions.build_over_versions.Goals as goal
 
 pub loop-taken-init : goal.loop-taken-init
 loop-taken-init g c =

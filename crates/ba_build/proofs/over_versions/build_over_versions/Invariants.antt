@@ -3,7 +3,7 @@ use Rattle.page_ports.specs.Calls.{WentOn}
 use Rattle.page_ports.specs.Frame.{KeepsPages}
 use Rattle.page_layout.specs.TreeValue.{IsTreeTyped, plain_tree_fits}
 use Rattle.ba_build.specs.Built.{IsBuilt}
-use Rattle.ba_build.proofs.over_versions.add_over_versions.Given as goal
+use Rattle.ba_build.proofs.over_versions.build_over_versions.Given as goal
 
 abbrev pub invariant-loop-taken : goal.invariant-loop-taken
 invariant-loop-taken g l = record {
