@@ -1,6 +1,19 @@
 -- A list of pages as a map.
-use Rattle.std.specs.Prelude.{ℕ, ◌-◌, nat_le, if◌then◌else◌, List, Option, None, slice_index_or}
+use Rattle.std.specs.Prelude.{ℕ, ◌-◌, ◌==◌, nat_le, if◌then◌else◌, List, map, replicate, Option, Some, None, slice_index, slice_index_or}
 use Rattle.page_ports.specs.Pages.{PageMap}
+use Rattle.page_ports.specs.declared.page.TheConstants.{FREE_PAGE}
+
+-- a page of a free one's kind
+unfoldable pub free_bytes : List ℕ
+free_bytes = replicate 4096 FREE_PAGE
+
+-- a page, where its kind is not that of a free one
+abbrev pub in_use : List ℕ → Option (List ℕ)
+in_use bytes = if slice_index bytes 0 == FREE_PAGE then None else Some bytes
+
+-- the pages that are in use, each at its place
+abbrev pub kept_of : List (List ℕ) → List (Option (List ℕ))
+kept_of pages = map in_use pages
 
 -- The first of the list is page 3.
 abbrev pub map_of : List (Option (List ℕ)) → PageMap

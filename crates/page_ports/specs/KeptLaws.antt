@@ -1,11 +1,35 @@
 -- What a change of the list does to its map.
-use Rattle.std.specs.Prelude.{◌≡◌, ℕ, ◌+◌, ◌-◌, ◌<◌, ◌≤◌, ◌==◌, nat_le, true, false, List, [], ◌∷◌, ◌++◌, length, Option, Some, None, IsSome, refl}
-use Rattle.std.proofs.Common.{sym, ◌∙◌, subst, inl, inr, arith}
+use Rattle.std.specs.Prelude.{◌≡◌, ◌≢◌, ℕ, ◌+◌, ◌-◌, ◌<◌, ◌≤◌, ◌==◌, nat_le, true, false, List, [], ◌∷◌, ◌++◌, length, slice_index, slice_set, Option, Some, None, IsSome, refl}
+use Rattle.std.proofs.Common.{sym, ◌∙◌, subst, ap, inl, inr, arith}
 use Rattle.std.proofs.Math.Path.{fun_ext}
 use Rattle.std.proofs.lemmas.Bool.{cases_lt, cases_eq, eq-eqb, ne_eqb, le-leb, lt-leb}
-use Rattle.std.proofs.lemmas.List.{get_or_past, get_or_append_left, get_or_push, length_push}
-use Rattle.page_ports.specs.Pages.{put_page}
-use Rattle.page_ports.specs.Kept.{map_of}
+use Rattle.std.proofs.lemmas.List.{get_or_past, get_or_append_left, get_or_push, length_push, length-map, map-set, map_push}
+use Rattle.page_ports.specs.Pages.{put_page, blank_bytes}
+use Rattle.page_ports.specs.Kept.{free_bytes, in_use, kept_of, map_of}
+use Rattle.page_ports.specs.declared.page.TheConstants.{FREE_PAGE}
+
+pub in_use-other : (bytes : List ℕ) → slice_index bytes 0 ≢ FREE_PAGE → in_use bytes ≡ Some bytes
+in_use-other bytes kind = rw (ne_eqb _ _ kind) refl
+
+pub in_use-blank : in_use blank_bytes ≡ Some blank_bytes
+unfolding blank_bytes
+in_use-blank = refl
+
+pub in_use-free : in_use free_bytes ≡ None
+unfolding free_bytes
+in_use-free = refl
+
+pub kept_of-length : (pages : List (List ℕ)) → length (kept_of pages) ≡ length pages
+kept_of-length pages = length-map pages in_use
+
+pub kept_of-set : (pages filled : List (List ℕ)) (place : ℕ) (bytes : List ℕ) (o : Option (List ℕ)) → filled ≡ slice_set pages place bytes
+    → in_use bytes ≡ o → kept_of filled ≡ slice_set (kept_of pages) place o
+kept_of-set pages filled place bytes o set kind =
+    ap kept_of set ∙ map-set in_use pages place bytes ∙ ap (λ (x : Option (List ℕ)). slice_set (kept_of pages) place x) kind
+
+pub kept_of-push : (pages : List (List ℕ)) (bytes : List ℕ) → in_use bytes ≡ Some bytes
+    → kept_of (pages ++ bytes ∷ []) ≡ kept_of pages ++ Some bytes ∷ []
+kept_of-push pages bytes kind = map_push in_use pages bytes ∙ ap (λ (x : Option (List ℕ)). kept_of pages ++ x ∷ []) kind
 
 -- A page that is in the map has a place in the list.
 pub map_of-place : (kept : List (Option (List ℕ))) (page : ℕ) → IsSome (map_of kept page) → (3 ≤ page) × (page - 3 < length kept)
@@ -54,3 +78,10 @@ map_of-push kept bytes = fun_ext (λ page. elim (cases_lt page 3) [
         ]
       ]
 ])
+
+-- The pages that are in use are those of the list's places.
+pub kept_of-below : (pages : List (List ℕ)) (page : ℕ) (bytes : List ℕ) → map_of (kept_of pages) page ≡ Some bytes → page < 3 + length pages
+kept_of-below pages page bytes there =
+    let below : page < 3 + length (kept_of pages) = map_of-below (kept_of pages) page bytes there in
+    let len : length (kept_of pages) ≡ length pages = kept_of-length pages in
+    omega arith

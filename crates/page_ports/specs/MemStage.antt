@@ -1,11 +1,11 @@
 -- What a `MemStage` shows.
 use Rattle.std.specs.Prelude.{ℕ, ◌+◌, List, length, reverse}
 use Rattle.page_ports.specs.Pages.{PageMap}
-use Rattle.page_ports.specs.Kept.{map_of}
+use Rattle.page_ports.specs.Kept.{kept_of, map_of}
 use Rattle.page_ports.specs.declared.mem_stage.MemStage.{MemStage}
 
 abbrev pub page_map : MemStage → PageMap
-page_map stage = map_of stage.pages.items
+page_map stage = map_of (kept_of stage.pages.items)
 
 abbrev pub page_limit : MemStage → ℕ
 page_limit stage = stage.limit

@@ -1,6 +1,6 @@
 //! A stage in memory.
-ghost use Rattle.std.specs.Prelude.{◌≡◌, ◌+◌, ◌-◌, ◌≤◌, ◌<◌, ◌⊎◌, ◌++◌, ◌∷◌, [], true, length, reverse, IsTrue, IfOk, OnOk, OnErr, IsSome, Some, None, Err, slice_set, option_copied, refl};
-ghost use Rattle.page_ports.specs.Kept.{map_of};
+ghost use Rattle.std.specs.Prelude.{◌≡◌, ◌+◌, ◌-◌, ◌≤◌, ◌<◌, ◌⊎◌, ◌++◌, ◌∷◌, [], true, length, reverse, IsTrue, IfOk, OnOk, OnErr, IsSome, None, Err, slice_set, option_copied, refl};
+ghost use Rattle.page_ports.specs.Kept.{free_bytes, kept_of, map_of};
 ghost use Rattle.page_ports.specs.Pages.{blank_bytes, put_page, remove_page};
 ghost use Rattle.page_ports.specs.Spare.{are_spare};
 
@@ -11,15 +11,16 @@ use std::alloc::Global;
 /// A stage that keeps its pages in memory. The page that was freed last is given out again first.
 #[derive(Drop)]
 pub struct MemStage {
-    // The page 3, the one after it, and so on. `None` was freed.
-    pages: Vec<Option<Page>>,
+    // The page 3, the one after it, and so on. One that was freed begins with the kind of a free page:
+    // so each takes 4096 bytes and not one more, and a copy of it stays aligned.
+    pages: Vec<Page>,
     // The pages that were freed and not given out again, in that order.
     freed: Vec<u64>,
     gets: u64,
     limit: u64,
     ghost within: { 3 + length pages.items ≤ limit },
     ghost limit_fits: { limit ≤ 4294967295 },
-    ghost spare: { IsTrue (are_spare pages.items (reverse freed.items)) },
+    ghost spare: { IsTrue (are_spare (kept_of pages.items) (reverse freed.items)) },
 }
 
 impl MemStage {
@@ -54,7 +55,7 @@ impl MemStage {
     // Gives out the first number that was never given out.
     fn allot_new(&mut self) -> Result<u64, StageFault>
         ensures number { IfOk result (λ page. page ≡ allotted_pages self.old) }
-        ensures pages { OnOk result (self.new.pages.items ≡ self.old.pages.items ++ Some blank_bytes ∷ []) }
+        ensures pages { OnOk result (self.new.pages.items ≡ self.old.pages.items ++ blank_bytes ∷ []) }
         ensures unchanged { OnErr result (self.new.pages.items ≡ self.old.pages.items) }
         ensures freed { self.new.freed ≡ self.old.freed }
         ensures gets { self.new.gets ≡ self.old.gets }
@@ -66,7 +67,7 @@ impl MemStage {
         if allotted >= self.limit {
             return Err(StageFault::PageLimit(allotted));
         }
-        match self.pages.push(Some(blank_page())) {
+        match self.pages.push(blank_page()) {
             Ok(()) => Ok(allotted),
             Err(_) => Err(StageFault::NoMemory),
         }
@@ -80,27 +81,40 @@ impl MemStage {
     }
 }
 
-fn page_in(pages: &[Option<Page>], page: u64) -> Option<&Page>
-    ensures { option_copied result ≡ map_of pages.now page }
+fn page_in(pages: &[Page], page: u64) -> Option<&Page>
+    ensures { option_copied result ≡ map_of (kept_of pages.now) page }
 {
     if page < 3 {
         return None;
     }
-    pages.get((page - 3) as usize)?.as_ref()
+    let kept = pages.get((page - 3) as usize)?;
+    if kept[0] == FREE_PAGE {
+        None
+    } else {
+        Some(kept)
+    }
 }
 
-// Fills or empties the place of a page.
-fn set_page(pages: &mut Vec<Option<Page>>, page: u64, bytes: Option<Page>)
+// Fills the place of a page.
+fn set_page(pages: &mut Vec<Page>, page: u64, bytes: &Page)
     requires { (3 ≤ page) × (page < 3 + length pages.old.items) }
-    ensures { pages.new.items ≡ slice_set pages.old.items (page - 3) bytes }
+    ensures { pages.new.items ≡ slice_set pages.old.items (page - 3) bytes.now }
 {
-    pages[(page - 3) as usize] = bytes;
+    pages[(page - 3) as usize] = *bytes;
+}
+
+// A page that is not in the map.
+#[tactic(auto, unfolding(crate::specs::Kept::free_bytes))]
+fn free_page() -> Page
+    ensures { result ≡ free_bytes }
+{
+    [FREE_PAGE; 4096]
 }
 
 impl Pages for MemStage {
     ghost tells = { λ _. true };
 
-    ghost map = { λ stage. map_of stage.pages.items };
+    ghost map = { λ stage. map_of (kept_of stage.pages.items) };
 
     ghost gets = { λ stage. stage.gets };
 
@@ -132,11 +146,11 @@ impl Pages for MemStage {
 }
 
 impl Stage for MemStage {
-    ghost use Rattle.page_ports.specs.KeptLaws.{map_of-below, map_of-from};
+    ghost use Rattle.page_ports.specs.KeptLaws.{kept_of-below, map_of-from};
 
-    ghost below_allotted = { λ stage page bytes told there. map_of-below stage.pages.items page bytes there };
+    ghost below_allotted = { λ stage page bytes told there. kept_of-below stage.pages.items page bytes there };
 
-    ghost from_three = { λ stage page bytes told there. map_of-from stage.pages.items page bytes there };
+    ghost from_three = { λ stage page bytes told there. map_of-from (kept_of stage.pages.items) page bytes there };
 
     ghost within_limit = { λ stage. stage.within };
 
@@ -145,7 +159,7 @@ impl Stage for MemStage {
     fn allot(&mut self) -> Result<u64, StageFault> {
         match self.freed.pop() {
             Some(page) => {
-                set_page(&mut self.pages, page, Some(blank_page()));
+                set_page(&mut self.pages, page, &blank_page());
                 Ok(page)
             }
             None => self.allot_new(),
@@ -153,14 +167,14 @@ impl Stage for MemStage {
     }
 
     fn put(&mut self, page: u64, buf: &Page) -> Result<(), StageFault> {
-        set_page(&mut self.pages, page, Some(*buf));
+        set_page(&mut self.pages, page, buf);
         Ok(())
     }
 
     fn free(&mut self, page: u64) -> Result<(), StageFault> {
         match self.freed.push(page) {
             Ok(()) => {
-                set_page(&mut self.pages, page, None);
+                set_page(&mut self.pages, page, &free_page());
                 Ok(())
             }
             Err(_) => Err(StageFault::NoMemory),
