@@ -20,67 +20,64 @@ use crate::store::store;
 use mv_pages::is_changeable;
 use page_access::view_in_place;
 use page_layout::{MvNode, View};
-use page_ports::{Stage, StageFault, blank_page};
+use page_ports::{Page, Stage, StageFault};
 
 /// Adds a value from a key and a version on to the node of the page and below it. Where the node is
-/// closed, the result is what takes its part.
+/// closed, the result is what takes its part. The node is changed where it stands, and pages are read
+/// into `bytes`, so that nothing as large as a page is handed down the levels.
 pub fn add_on<S: Stage>(
     stage: &mut S,
     page: u64,
-    mut node: MvNode,
+    node: &mut MvNode,
     place: Place,
     value: u128,
     last: &mut u64,
+    bytes: &mut Page,
 ) -> Result<Option<Replaced>, StageFault>
     requires number { 3 ≤ page }
-    requires rules { IsMvNode node }
-    requires typed { IsTyped node }
-    requires changeable { IsChangeable place.version node.entries.items }
-    requires placed { IsInPlace node.level place node }
+    requires rules { IsMvNode node.old }
+    requires typed { IsTyped node.old }
+    requires changeable { IsChangeable place.version node.old.entries.items }
+    requires placed { IsInPlace node.old.level place node.old }
     requires key { (place.low ≤ place.key) × IsTrue (ends_after place.high place.key) }
     requires key_fits { place.key < 2 ^ 64 }
-    requires there { IsTrue (S.tells stage.old) → S.map stage.old page ≡ Some (mv_node_page node) }
+    requires there { IsTrue (S.tells stage.old) → S.map stage.old page ≡ Some (mv_node_page node.old) }
     ensures fits { IfOk result (λ replaced. ReplacedFits (Some place.low) place.high replaced) }
     ensures added { IfOk result (λ replaced. IsTrue (S.tells stage.old) → (test : ℕ → Bool) (places least : ℕ) → IsTrue (test place.key)
         → ChainStands places (S.map stage.old) last.old → NodesHold place.version test (S.map stage.old) (chain_from places (S.map stage.old) last.old)
-        → WaysStand node.level (S.map stage.old) (chain_from places (S.map stage.old) last.old) page place.version place.low place.high least
-        → IsAdded node.level test (S.map stage.old) (S.map stage.new) page place.version place.key value place.low place.high least places last.old last.new replaced) }
+        → WaysStand node.old.level (S.map stage.old) (chain_from places (S.map stage.old) last.old) page place.version place.low place.high least
+        → IsAdded node.old.level test (S.map stage.old) (S.map stage.new) page place.version place.key value place.low place.high least places last.old last.new replaced) }
     ensures apart { IfOk result (λ replaced. IsTrue (S.tells stage.old)
-        → OthersStay (way_pages node.level (S.map stage.old) page place.key place.version) (S.map stage.old) (S.map stage.new)) }
+        → OthersStay (way_pages node.old.level (S.map stage.old) page place.key place.version) (S.map stage.old) (S.map stage.new)) }
     // What the node becomes, the pages that take its part, and how many new ones that takes.
     ensures made { IfOk result (λ replaced. IsTrue (S.tells stage.old)
-        → IsMade node.level (S.map stage.old) (S.map stage.new) node place.key place.version value last.old last.new replaced) }
+        → IsMade node.old.level (S.map stage.old) (S.map stage.new) node.old place.key place.version value last.old last.new replaced) }
     // Pages that hold nodes of a directory stay, whatever leads to them.
     ensures directories { IfOk result (λ replaced. IsTrue (S.tells stage.old) → KeepsDirectories (S.map stage.old) (S.map stage.new)) }
     ensures damaged { (p : ℕ) → result ≡ Err (StageFault.Damaged p) → IsTrue (S.tells stage.old)
-        → IsDamagedPastForAdd (S.map stage.old) place node p
-        ⊎ (IsWholePast (S.map stage.old) place node × EndsOnWay node.level (S.map stage.old) node place.key place.version value last.old p)
+        → IsDamagedPastForAdd (S.map stage.old) place node.old p
+        ⊎ (IsWholePast (S.map stage.old) place node.old × EndsOnWay node.old.level (S.map stage.old) node.old place.key place.version value last.old p)
         ⊎ (¬ S.free_in_order stage.old) }
-    ensures whole { IfOk result (λ replaced. IsTrue (S.tells stage.old) → IsWholePast (S.map stage.old) place node) }
+    ensures whole { IfOk result (λ replaced. IsTrue (S.tells stage.old) → IsWholePast (S.map stage.old) place node.old) }
     // On ways that stand no page is found damaged.
     ensures sound { (test : ℕ → Bool) (places least p : ℕ) → IsTrue (S.tells stage.old) → IsTrue (test place.key)
         → ChainStands places (S.map stage.old) last.old → NodesHold place.version test (S.map stage.old) (chain_from places (S.map stage.old) last.old)
-        → WaysStand node.level (S.map stage.old) (chain_from places (S.map stage.old) last.old) page place.version place.low place.high least
+        → WaysStand node.old.level (S.map stage.old) (chain_from places (S.map stage.old) last.old) page place.version place.low place.high least
         → S.free_in_order stage.old → result ≢ Err (StageFault.Damaged p) }
-    ensures grows { Grows S.Pages (node.level + node.level) stage.old stage.new result }
+    ensures grows { Grows S.Pages (node.old.level + node.old.level) stage.old stage.new result }
 {
-    let Some(step) = step_from(&node, place) else {
-        add_to_leaf(&mut node, place.key, place.version, value);
-        return store(stage, page, &node, place.version, last);
+    let Some(step) = step_from(node, place) else {
+        add_to_leaf(node, place.key, place.version, value);
+        return store(stage, page, node, place.version, last);
     };
-    let mut bytes = blank_page();
-    let view: View<MvNode> = view_in_place(
-        stage,
-        step.child,
-        node.level - 1,
-        step.place,
-        &mut bytes,
-    )?;
-    let child = view.to_value();
+    let view: View<MvNode> = view_in_place(stage, step.child, node.level - 1, step.place, bytes)?;
+    let mut child = view.to_value();
     if !is_changeable(&child, place.version) {
         return Err(StageFault::Damaged(step.child));
     }
-    let replaced = add_on(stage, step.child, child, step.place, value, last)?;
-    change(&mut node, place.key, place.version, value, replaced);
-    store(stage, page, &node, place.version, last)
+    let replaced = add_on(
+        stage, step.child, &mut child, step.place, value, last, bytes,
+    )?;
+    change(node, place.key, place.version, value, replaced);
+    store(stage, page, node, place.version, last)
 }

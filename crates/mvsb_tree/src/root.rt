@@ -59,12 +59,12 @@ pub fn add_at_root<S: Stage>(
     }
     let mut bytes = blank_page();
     let view: View<MvNode> = view_page(stage, root, &mut bytes)?;
-    let node = view.to_value();
+    let mut node = view.to_value();
     let level = node.level;
     let place = root_place(key, version);
     if !place.admits(level, &node) || !is_changeable(&node, version) {
         return Err(StageFault::Damaged(root));
     }
-    let replaced = add_on(stage, root, node, place, value, last)?;
+    let replaced = add_on(stage, root, &mut node, place, value, last, &mut bytes)?;
     top_of(stage, root, level, version, replaced, last, directory)
 }

@@ -36,13 +36,13 @@ returns-in_default-clause-fits g t c = IfOk-weaker c.store.result _ _ (λ r spli
     split_fits c.add_to_leaf.new.node c.args.place.version c.args.place.low c.args.place.high r
     (c.add_to_leaf.ensures.each (lies_in c.args.place.low c.args.place.high)
     (and_from (nat_le c.args.place.low c.args.place.key) (ends_after c.args.place.high c.args.place.key) (le-leb c.args.place.low c.args.place.key c.requires.key.0) c.requires.key.1)
-    (lows_within c.args.place c.args.node.entries.items c.requires.placed.within)) split) c.store.ensures.split
+    (lows_within c.args.place c.args.node.now.entries.items c.requires.placed.within)) split) c.store.ensures.split
 
 pub returns-in_default-clause-made : goal.returns-in_default-clause-made
 returns-in_default-clause-made g t c = IfOk-weaker c.store.result _ _ (λ r stored tells.
     let m0 : PageMap = g.S.Pages.map c.args.stage.now in
     let place = c.args.place in
-    let node = c.args.node in
+    let node = c.args.node.now in
     let new = c.add_to_leaf.new.node in
     let is : node_on m0 c.args.page ≡ node = node_on-spelled m0 c.args.page node c.requires.typed c.requires.rules (c.requires.there tells) in
     made_leaf node.level m0 (g.S.Pages.map c.store.new.stage) c.args.page node new place.key place.version c.args.value c.args.last.now c.store.new.last r
@@ -53,7 +53,7 @@ pub returns-in_default-clause-directories : goal.returns-in_default-clause-direc
 returns-in_default-clause-directories g t c = IfOk-weaker c.store.result _ _ (λ r stored tells.
     let m0 : PageMap = g.S.Pages.map c.args.stage.now in
     directories.stored_keeps m0 (g.S.Pages.map c.store.new.stage) c.args.page c.add_to_leaf.new.node c.args.place.version c.args.last.now c.store.new.last r
-    (directories.no_directory m0 c.args.page c.args.node (c.requires.there tells)) (stored tells)) c.store.ensures.stored
+    (directories.no_directory m0 c.args.page c.args.node.now (c.requires.there tells)) (stored tells)) c.store.ensures.stored
 
 -- What was made of the child, of the map before it was read.
 child_made : (m mr m1 : PageMap) (l : ℕ) (below : MvNode) (step : Place) (key v value last last1 : ℕ) (r : Option Replaced) → mr ≡ m → below.level ≡ l → step.key ≡ key → step.version ≡ v
@@ -68,7 +68,7 @@ returns-clause-made g t c = IfOk-weaker c.store-2.result _ _ (λ r stored tells.
     let m1 : PageMap = g.S.Pages.map c.add_on.new.stage in
     let m2 : PageMap = g.S.Pages.map c.store-2.new.stage in
     let place = c.args.place in
-    let node = c.args.node in
+    let node = c.args.node.now in
     let step = c.in-Some.step in
     let child = c.to_value-child.result in
     let new = c.change.new.node in
@@ -79,9 +79,9 @@ returns-clause-made g t c = IfOk-weaker c.store-2.result _ _ (λ r stored tells.
     let grows = c.add_on.ensures.grows.went_on in
     let level : ℕ = node.level - 2 in
     let at_level : node.level ≡ suc (suc level) = omega (arith, c.in-Some.ensures.level) in
-    let child_level : child.level ≡ suc level = (fits_as (c.args.node.level - 1) c.in-Some.step.place _ _ c.to_value-child.ensures c.in_ok-view.ensures.node).fits.at_level ∙ (let e : node.level - 1 ≡ suc level = omega (arith, c.in-Some.ensures.level) in e) in
+    let child_level : child.level ≡ suc level = (fits_as (c.args.node.now.level - 1) c.in-Some.step.place _ _ c.to_value-child.ensures c.in_ok-view.ensures.node).fits.at_level ∙ (let e : node.level - 1 ≡ suc level = omega (arith, c.in-Some.ensures.level) in e) in
     let is : node_on m0 c.args.page ≡ node = node_on-spelled m0 c.args.page node c.requires.typed c.requires.rules (c.requires.there tells) in
-    let spelled = (fits_as (c.args.node.level - 1) c.in-Some.step.place _ _ c.to_value-child.ensures c.in_ok-view.ensures.node).fits in
+    let spelled = (fits_as (c.args.node.now.level - 1) c.in-Some.step.place _ _ c.to_value-child.ensures c.in_ok-view.ensures.node).fits in
     let child_is : node_on m0 step.child ≡ child = node_on-spelled m0 step.child child spelled.typed spelled.rules (found_as (g.S.Pages.map c.args.stage.now) c.in-Some.step.child _ _ c.to_value-child.ensures (c.in_ok-view.ensures.found tells)) in
     let made = child_made m0 (g.S.Pages.map c.view_in_place.new.pages) m1 (suc level) child step.place place.key place.version c.args.value last last1 replaced read.map child_level
     c.in-Some.ensures.leads.key c.in-Some.ensures.leads.version (c.in_ok-replaced.ensures.made (read.tells ∙ tells)) in
@@ -97,38 +97,38 @@ returns-clause-directories g t c = IfOk-weaker c.store-2.result _ _ (λ r stored
     let read = c.view_in_place.ensures.reads.read in
     let grows = c.add_on.ensures.grows.went_on in
     let first : KeepsDirectories m0 m1 = subst (λ (m : PageMap). KeepsDirectories m m1) read.map (c.in_ok-replaced.ensures.directories (read.tells ∙ tells)) in
-    let none = directories.still_none m0 m1 c.args.page first (directories.no_directory m0 c.args.page c.args.node (c.requires.there tells)) in
+    let none = directories.still_none m0 m1 c.args.page first (directories.no_directory m0 c.args.page c.args.node.now (c.requires.there tells)) in
     directories.keeps_both m0 m1 (g.S.Pages.map c.store-2.new.stage) first
     (directories.stored_keeps m1 (g.S.Pages.map c.store-2.new.stage) c.args.page c.change.new.node c.args.place.version c.add_on.new.last c.store-2.new.last r none
     (stored (grows.tells ∙ read.tells ∙ tells)))) c.store-2.ensures.stored
 
 pub change-requires-clause-replaced : goal.change-requires-clause-replaced
 change-requires-clause-replaced g t c =
-    outer_fits (alive_lows c.args.node.entries.items c.args.place.version) c.args.place.key c.in-Some.step.place.low c.args.place.high c.in-Some.step.place.high c.in_ok-replaced.replaced
+    outer_fits (alive_lows c.args.node.now.entries.items c.args.place.version) c.args.place.key c.in-Some.step.place.low c.args.place.high c.in-Some.step.place.high c.in_ok-replaced.replaced
     c.in-Some.ensures.low c.in-Some.ensures.leads.high c.in_ok-replaced.ensures.fits
 
 pub returns-clause-fits : goal.returns-clause-fits
 returns-clause-fits g t c = IfOk-weaker c.store-2.result _ _ (λ r split.
-    let within = lows_within c.args.place c.args.node.entries.items c.requires.placed.within in
+    let within = lows_within c.args.place c.args.node.now.entries.items c.requires.placed.within in
     split_fits c.change.new.node c.args.place.version c.args.place.low c.args.place.high r
     (c.change.ensures.each (lies_in c.args.place.low c.args.place.high)
     (of_cut _ (λ x. IsTrue (lies_in c.args.place.low c.args.place.high x)) (cut_of c.in_ok-replaced.replaced)
     (λ x h. and_from (nat_le c.args.place.low x) (ends_after c.args.place.high x) (le-leb c.args.place.low x h.0) h.1)
-    (cut_inside_too (alive_lows c.args.node.entries.items c.args.place.version) c.args.place.key c.in-Some.step.place.low c.args.place.high c.in-Some.step.place.high c.args.place.low c.in_ok-replaced.replaced
+    (cut_inside_too (alive_lows c.args.node.now.entries.items c.args.place.version) c.args.place.key c.in-Some.step.place.low c.args.place.high c.in-Some.step.place.high c.args.place.low c.in_ok-replaced.replaced
     within c.in-Some.ensures.low c.in-Some.ensures.leads.high c.in_ok-replaced.ensures.fits)) within) split) c.store-2.ensures.split
 
 pub returns-in_default-clause-added : goal.returns-in_default-clause-added
 returns-in_default-clause-added g t c = IfOk-weaker c.store.result _ _ (λ r stored tells test places least key_test s h ways.
     let place = c.args.place in
-    leaf_added (g.S.Pages.map c.args.stage.now) (g.S.Pages.map c.store.new.stage) c.args.page c.args.node c.add_to_leaf.new.node place.version place.key c.args.value place.low place.high c.args.last.now c.store.new.last r
-    (leaf_here c.args.node place.key place.version c.requires.placed.leads (c.in_default.ensures.none refl)) c.requires.rules c.requires.typed (c.requires.there tells)
+    leaf_added (g.S.Pages.map c.args.stage.now) (g.S.Pages.map c.store.new.stage) c.args.page c.args.node.now c.add_to_leaf.new.node place.version place.key c.args.value place.low place.high c.args.last.now c.store.new.last r
+    (leaf_here c.args.node.now place.key place.version c.requires.placed.leads (c.in_default.ensures.none refl)) c.requires.rules c.requires.typed (c.requires.there tells)
     c.add_to_leaf.ensures.storable c.add_to_leaf.ensures.past c.add_to_leaf.ensures.value c.add_to_leaf.ensures.tests c.add_to_leaf.ensures.cut
     (record { from = c.requires.key.0; before = c.requires.key.1; fits = c.requires.key_fits }) (stored tells) test places least key_test s h ways) c.store.ensures.stored
 
 pub returns-in_default-clause-apart : goal.returns-in_default-clause-apart
 returns-in_default-clause-apart g t c = IfOk-weaker c.store.result _ _ (λ r stored tells p off some.
     stored_apart (g.S.Pages.map c.args.stage.now) (g.S.Pages.map c.store.new.stage) c.args.page c.add_to_leaf.new.node c.args.place.version c.args.last.now c.store.new.last r (stored tells) p
-    (first_apart c.args.node.level (g.S.Pages.map c.args.stage.now) c.args.page c.args.place.key c.args.place.version p c.requires.rules.low_level off) some) c.store.ensures.stored
+    (first_apart c.args.node.now.level (g.S.Pages.map c.args.stage.now) c.args.page c.args.place.key c.args.place.version p c.requires.rules.low_level off) some) c.store.ensures.stored
 
 pub returns-clause-apart : goal.returns-clause-apart
 returns-clause-apart g t c = IfOk-weaker c.store-2.result _ _ (λ r stored tells p off some.
@@ -142,8 +142,8 @@ returns-clause-apart g t c = IfOk-weaker c.store-2.result _ _ (λ r stored tells
     let a1 = subst (λ (m : PageMap). OthersStay (way_pages child.level m step.child step.place.key step.place.version) m m1) map_is a0 in
     let a2 = subst (λ (k : ℕ). OthersStay (way_pages child.level m0 step.child k step.place.version) m0 m1) c.in-Some.ensures.leads.key a1 in
     let a3 = subst (λ (w : ℕ). OthersStay (way_pages child.level m0 step.child place.key w) m0 m1) c.in-Some.ensures.leads.version a2 in
-    let a4 = subst (λ (l : ℕ). OthersStay (way_pages l m0 step.child place.key place.version) m0 m1) (fits_as (c.args.node.level - 1) c.in-Some.step.place _ _ c.to_value-child.ensures c.in_ok-view.ensures.node).fits.at_level a3 in
-    both_apart m0 m1 (g.S.Pages.map c.store-2.new.stage) c.args.node.level c.args.page step.child c.args.node c.change.new.node place.version place.key c.add_on.new.last c.store-2.new.last r
+    let a4 = subst (λ (l : ℕ). OthersStay (way_pages l m0 step.child place.key place.version) m0 m1) (fits_as (c.args.node.now.level - 1) c.in-Some.step.place _ _ c.to_value-child.ensures c.in_ok-view.ensures.node).fits.at_level a3 in
+    both_apart m0 m1 (g.S.Pages.map c.store-2.new.stage) c.args.node.now.level c.args.page step.child c.args.node.now c.change.new.node place.version place.key c.add_on.new.last c.store-2.new.last r
     c.in-Some.ensures.level c.requires.rules c.requires.typed (c.requires.there tells) c.in-Some.ensures.leads.child_is a4 (stored (search rules)) p off some) c.store-2.ensures.stored
 
 pub returns-clause-added : goal.returns-clause-added
@@ -153,7 +153,7 @@ returns-clause-added g t c = IfOk-weaker c.store-2.result _ _ (λ r stored tells
     let place = c.args.place in
     let step = c.in-Some.step in
     let child = c.to_value-child.result in
-    let node = c.args.node in
+    let node = c.args.node.now in
     let value = c.args.value in
     let last = c.args.last.now in
     let last1 = c.add_on.new.last in
@@ -163,7 +163,7 @@ returns-clause-added g t c = IfOk-weaker c.store-2.result _ _ (λ r stored tells
     let lows = alive_lows node.entries.items v in
     let level : ℕ = node.level - 2 in
     let at_level : node.level ≡ suc (suc level) = omega (arith, c.in-Some.ensures.level) in
-    let child_level : child.level ≡ suc level = (fits_as (c.args.node.level - 1) c.in-Some.step.place _ _ c.to_value-child.ensures c.in_ok-view.ensures.node).fits.at_level ∙ (let e : node.level - 1 ≡ suc level = omega (arith, c.in-Some.ensures.level) in e) in
+    let child_level : child.level ≡ suc level = (fits_as (c.args.node.now.level - 1) c.in-Some.step.place _ _ c.to_value-child.ensures c.in_ok-view.ensures.node).fits.at_level ∙ (let e : node.level - 1 ≡ suc level = omega (arith, c.in-Some.ensures.level) in e) in
     let map_is = c.view_in_place.ensures.reads.read.map in
     let r0 : AddsBelow child.level (g.S.Pages.map c.view_in_place.new.pages) m1 step.child step.place.version step.place.key value step.place.low step.place.high last last1 replaced = c.in_ok-replaced.ensures.added (search rules) in
     let r1 = subst (λ (m : PageMap). AddsBelow child.level m m1 step.child step.place.version step.place.key value step.place.low step.place.high last last1 replaced) map_is r0 in
@@ -189,7 +189,7 @@ returns-clause-grows g t c =
     let read = c.view_in_place.ensures.reads.read in
     let rec = c.add_on.ensures.grows in
     let put = c.store-2.ensures.grows in
-    let level = (fits_as (c.args.node.level - 1) c.in-Some.step.place _ _ c.to_value-child.ensures c.in_ok-view.ensures.node).fits.at_level in
+    let level = (fits_as (c.args.node.now.level - 1) c.in-Some.step.place _ _ c.to_value-child.ensures c.in_ok-view.ensures.node).fits.at_level in
     let two = c.in-Some.ensures.level in
     record {
       went_on = record {
@@ -232,7 +232,7 @@ pub returns-in_err-replaced-clause-grows : goal.returns-in_err-replaced-clause-g
 returns-in_err-replaced-clause-grows g t c =
     let read = c.view_in_place.ensures.reads.read in
     let rec = c.in_err-replaced.ensures.grows in
-    let level = (fits_as (c.args.node.level - 1) c.in-Some.step.place _ _ c.to_value-child.ensures c.in_ok-view.ensures.node).fits.at_level in
+    let level = (fits_as (c.args.node.now.level - 1) c.in-Some.step.place _ _ c.to_value-child.ensures c.in_ok-view.ensures.node).fits.at_level in
     let two = c.in-Some.ensures.level in
     let told = err_from_is_err_and c.from_residual-in_err-replaced.result c.from_residual-in_err-replaced.ensures.1 in
     record {
@@ -258,7 +258,7 @@ pub returns-in_default-clause-sound : goal.returns-in_default-clause-sound
 returns-in_default-clause-sound g t c = λ test places least p tells key_test s h ways ordered. (
     let m0 : PageMap = g.S.Pages.map c.args.stage.now in
     let place = c.args.place in
-    let node = c.args.node in
+    let node = c.args.node.now in
     let nodes : List ℕ = chain_from places m0 c.args.last.now in
     let key_in : IsKeyIn place.low place.high place.key = record { from = c.requires.key.0; before = c.requires.key.1; fits = c.requires.key_fits } in
     let top = root_spelled node.level m0 nodes c.args.page place.version place.key place.low place.high least (ways place.key key_in) in
@@ -270,7 +270,7 @@ returns-in_err-view-clause-sound g t c = λ test places least p tells key_test s
     let m0 : PageMap = g.S.Pages.map c.args.stage.now in
     let place = c.args.place in
     let step = c.in-Some.step in
-    let node = c.args.node in
+    let node = c.args.node.now in
     let v = place.version in
     let key = place.key in
     let nodes : List ℕ = chain_from places m0 c.args.last.now in
@@ -290,7 +290,7 @@ returns-then-not-is_changeable-clause-sound g t c = λ test places least p tells
     let m0 : PageMap = g.S.Pages.map c.args.stage.now in
     let place = c.args.place in
     let step = c.in-Some.step in
-    let node = c.args.node in
+    let node = c.args.node.now in
     let v = place.version in
     let key = place.key in
     let nodes : List ℕ = chain_from places m0 c.args.last.now in
@@ -300,7 +300,7 @@ returns-then-not-is_changeable-clause-sound g t c = λ test places least p tells
     let key_in : IsKeyIn place.low place.high key = record { from = c.requires.key.0; before = c.requires.key.1; fits = c.requires.key_fits } in
     let way = child_fits level m0 nodes c.args.page step.child place step.place node least at_level there c.requires.typed c.requires.rules c.in-Some.ensures.leads (ways key key_in) in
     let child = c.to_value-child.result in
-    let spelled = (fits_as (c.args.node.level - 1) c.in-Some.step.place _ _ c.to_value-child.ensures c.in_ok-view.ensures.node).fits in
+    let spelled = (fits_as (c.args.node.now.level - 1) c.in-Some.step.place _ _ c.to_value-child.ensures c.in_ok-view.ensures.node).fits in
     let ns = root_spelled (suc level) m0 nodes step.child step.place.version step.place.key step.place.low step.place.high 24 way in
     let at_version = subst (λ (w : ℕ). NodeStands m0 nodes (suc level) step.child w step.place.low step.place.high 24) c.in-Some.ensures.leads.version ns in
     let can = changeable_where_stands m0 nodes (suc level) step.child v step.place.low step.place.high 24 child c.requires.changeable.last (h step.child ns.listed).past at_version (found_as (g.S.Pages.map c.args.stage.now) c.in-Some.step.child _ _ c.to_value-child.ensures (c.in_ok-view.ensures.found tells)) spelled.typed spelled.rules in
@@ -311,7 +311,7 @@ returns-in_err-replaced-clause-sound g t c = λ test places least p tells key_te
     let m0 : PageMap = g.S.Pages.map c.args.stage.now in
     let place = c.args.place in
     let step = c.in-Some.step in
-    let node = c.args.node in
+    let node = c.args.node.now in
     let v = place.version in
     let key = place.key in
     let nodes : List ℕ = chain_from places m0 c.args.last.now in
@@ -324,7 +324,7 @@ returns-in_err-replaced-clause-sound g t c = λ test places least p tells key_te
     let lows = alive_lows node.entries.items v in
     let told = err_from_is_err_and c.from_residual-in_err-replaced.result c.from_residual-in_err-replaced.ensures.1 in
     let same = exit_error c.from_residual-in_err-replaced.result c.in_err-replaced.field-0.0 (Damaged p) told e in
-    let child_level : child.level ≡ suc level = (fits_as (c.args.node.level - 1) c.in-Some.step.place _ _ c.to_value-child.ensures c.in_ok-view.ensures.node).fits.at_level ∙ (let e : node.level - 1 ≡ suc level = omega (arith, c.in-Some.ensures.level) in e) in
+    let child_level : child.level ≡ suc level = (fits_as (c.args.node.now.level - 1) c.in-Some.step.place _ _ c.to_value-child.ensures c.in_ok-view.ensures.node).fits.at_level ∙ (let e : node.level - 1 ≡ suc level = omega (arith, c.in-Some.ensures.level) in e) in
     let read = c.view_in_place.ensures.reads.read in
     let r0 : Fails child.level (g.S.Pages.map c.view_in_place.new.pages) step.child step.place.version step.place.key step.place.low step.place.high last =
     λ test1 places1 least1 kt s1 h1 w1. c.in_err-replaced.ensures.sound test1 places1 least1 p (read.tells ∙ tells) kt s1 h1 w1 (read.free_in_order ordered) (ap Err same) in
@@ -341,7 +341,7 @@ returns-clause-sound g t c = λ test places least p tells key_test s h ways orde
     let m0 : PageMap = g.S.Pages.map c.args.stage.now in
     let place = c.args.place in
     let step = c.in-Some.step in
-    let node = c.args.node in
+    let node = c.args.node.now in
     let v = place.version in
     let key = place.key in
     let nodes : List ℕ = chain_from places m0 c.args.last.now in
@@ -356,7 +356,7 @@ returns-clause-sound g t c = λ test places least p tells key_test s h ways orde
     let last1 = c.add_on.new.last in
     let replaced = c.in_ok-replaced.replaced in
     let lows = alive_lows node.entries.items v in
-    let child_level : child.level ≡ suc level = (fits_as (c.args.node.level - 1) c.in-Some.step.place _ _ c.to_value-child.ensures c.in_ok-view.ensures.node).fits.at_level ∙ (let e : node.level - 1 ≡ suc level = omega (arith, c.in-Some.ensures.level) in e) in
+    let child_level : child.level ≡ suc level = (fits_as (c.args.node.now.level - 1) c.in-Some.step.place _ _ c.to_value-child.ensures c.in_ok-view.ensures.node).fits.at_level ∙ (let e : node.level - 1 ≡ suc level = omega (arith, c.in-Some.ensures.level) in e) in
     let read = c.view_in_place.ensures.reads.read in
     let r0 : AddsBelow child.level (g.S.Pages.map c.view_in_place.new.pages) m1 step.child step.place.version step.place.key value step.place.low step.place.high last last1 replaced = c.in_ok-replaced.ensures.added (search rules) in
     let r1 = subst (λ (m : PageMap). AddsBelow child.level m m1 step.child step.place.version step.place.key value step.place.low step.place.high last last1 replaced) read.map r0 in
@@ -383,7 +383,7 @@ pub returns-in_default-clause-damaged : goal.returns-in_default-clause-damaged
 returns-in_default-clause-damaged g t c = λ p e tells. (
     let m0 : PageMap = g.S.Pages.map c.args.stage.now in
     let place = c.args.place in
-    let node = c.args.node in
+    let node = c.args.node.now in
     let is : node_on m0 c.args.page ≡ node = node_on-spelled m0 c.args.page node c.requires.typed c.requires.rules (c.requires.there tells) in
     elim (c.store.ensures.damaged p e tells (placed_as m0 c.args.page node c.add_to_leaf.new.node is c.requires.typed c.add_to_leaf.ensures.past)) [
       | inl end ↦ inr (inl (
@@ -398,7 +398,7 @@ pub returns-in_err-view-clause-damaged : goal.returns-in_err-view-clause-damaged
 returns-in_err-view-clause-damaged g t c = λ p e tells. (
     let m0 : PageMap = g.S.Pages.map c.args.stage.now in
     let step = c.in-Some.step in
-    let node = c.args.node in
+    let node = c.args.node.now in
     let told = err_from_is_err_and c.from_residual.result c.from_residual.ensures.1 in
     let same = read_damaged c.from_residual.result c.in_err-view.field-0.0 p told e in
     let why = c.in_err-view.ensures.damaged p (ap Err same) in
@@ -409,9 +409,9 @@ pub returns-then-not-is_changeable-clause-damaged : goal.returns-then-not-is_cha
 returns-then-not-is_changeable-clause-damaged g t c = λ p e tells. (
     let m0 : PageMap = g.S.Pages.map c.args.stage.now in
     let step = c.in-Some.step in
-    let node = c.args.node in
+    let node = c.args.node.now in
     let child = c.to_value-child.result in
-    let spelled = (fits_as (c.args.node.level - 1) c.in-Some.step.place _ _ c.to_value-child.ensures c.in_ok-view.ensures.node).fits in
+    let spelled = (fits_as (c.args.node.now.level - 1) c.in-Some.step.place _ _ c.to_value-child.ensures c.in_ok-view.ensures.node).fits in
     let some : 1 ≤ node.level - 1 = omega (arith, c.in-Some.ensures.level) in
     let never = iff_false c.is_changeable.ensures c.if-not-is_changeable.true in
     inl (add_past_here m0 c.args.place step.place node step.child p some c.in-Some.ensures.leads (sym (err_same_staged step.child p e)) (λ other bytes here fits.
@@ -430,26 +430,26 @@ pub returns-in_err-replaced-clause-damaged : goal.returns-in_err-replaced-clause
 returns-in_err-replaced-clause-damaged g t c = λ p e tells. (
     let m0 : PageMap = g.S.Pages.map c.args.stage.now in
     let step = c.in-Some.step in
-    let node = c.args.node in
+    let node = c.args.node.now in
     let child = c.to_value-child.result in
     let read = c.view_in_place.ensures.reads.read in
     let told = err_from_is_err_and c.from_residual-in_err-replaced.result c.from_residual-in_err-replaced.ensures.1 in
     let same = exit_error c.from_residual-in_err-replaced.result c.in_err-replaced.field-0.0 (Damaged p) told e in
-    let child_level : child.level ≡ node.level - 1 = (fits_as (c.args.node.level - 1) c.in-Some.step.place _ _ c.to_value-child.ensures c.in_ok-view.ensures.node).fits.at_level in
+    let child_level : child.level ≡ node.level - 1 = (fits_as (c.args.node.now.level - 1) c.in-Some.step.place _ _ c.to_value-child.ensures c.in_ok-view.ensures.node).fits.at_level in
     let some : 1 ≤ node.level - 1 = omega (arith, c.in-Some.ensures.level) in
     let can : IsChangeable step.place.version child.entries.items = subst (λ (w : ℕ). IsChangeable w child.entries.items) (sym c.in-Some.ensures.leads.version) (c.is_changeable.ensures.0 c.if-not-is_changeable.false) in
     elim (c.in_err-replaced.ensures.damaged p (ap Err same) (read.tells ∙ tells)) [
-      | inl past ↦ inl (add_past_further m0 c.args.place step.place node child step.child p (mv_node_page child) some c.in-Some.ensures.leads (found_as (g.S.Pages.map c.args.stage.now) c.in-Some.step.child _ _ c.to_value-child.ensures (c.in_ok-view.ensures.found tells)) ((fits_as (c.args.node.level - 1) c.in-Some.step.place _ _ c.to_value-child.ensures c.in_ok-view.ensures.node), can)
+      | inl past ↦ inl (add_past_further m0 c.args.place step.place node child step.child p (mv_node_page child) some c.in-Some.ensures.leads (found_as (g.S.Pages.map c.args.stage.now) c.in-Some.step.child _ _ c.to_value-child.ensures (c.in_ok-view.ensures.found tells)) ((fits_as (c.args.node.now.level - 1) c.in-Some.step.place _ _ c.to_value-child.ensures c.in_ok-view.ensures.node), can)
           (subst (λ (m : PageMap). IsDamagedPastForAdd m step.place child p) read.map past))
       | inr (inl found) ↦
           let ends = found.1 in
           let below : IsWholePast m0 step.place child = subst (λ (m : PageMap). IsWholePast m step.place child) read.map found.0 in
-          let whole = whole_index m0 c.args.place step.place node child step.child c.in-Some.ensures.leads (found_as (g.S.Pages.map c.args.stage.now) c.in-Some.step.child _ _ c.to_value-child.ensures (c.in_ok-view.ensures.found tells)) ((fits_as (c.args.node.level - 1) c.in-Some.step.place _ _ c.to_value-child.ensures c.in_ok-view.ensures.node), can) below in
+          let whole = whole_index m0 c.args.place step.place node child step.child c.in-Some.ensures.leads (found_as (g.S.Pages.map c.args.stage.now) c.in-Some.step.child _ _ c.to_value-child.ensures (c.in_ok-view.ensures.found tells)) ((fits_as (c.args.node.now.level - 1) c.in-Some.step.place _ _ c.to_value-child.ensures c.in_ok-view.ensures.node), can) below in
           let place = c.args.place in
           let last = c.args.last.now in
           let level : ℕ = node.level - 1 in
           let at_level : node.level ≡ suc level = omega (arith, c.in-Some.ensures.level) in
-          let spelled = (fits_as (c.args.node.level - 1) c.in-Some.step.place _ _ c.to_value-child.ensures c.in_ok-view.ensures.node).fits in
+          let spelled = (fits_as (c.args.node.now.level - 1) c.in-Some.step.place _ _ c.to_value-child.ensures c.in_ok-view.ensures.node).fits in
           let child_is : node_on m0 step.child ≡ child = node_on-spelled m0 step.child child spelled.typed spelled.rules (found_as (g.S.Pages.map c.args.stage.now) c.in-Some.step.child _ _ c.to_value-child.ensures (c.in_ok-view.ensures.found tells)) in
           let here = child_ends m0 (g.S.Pages.map c.view_in_place.new.pages) level child step.place place.key place.version c.args.value last p read.map child_level
           c.in-Some.ensures.leads.key c.in-Some.ensures.leads.version ends in
@@ -466,7 +466,7 @@ returns-clause-damaged g t c = λ p e tells. (
     let m0 : PageMap = g.S.Pages.map c.args.stage.now in
     let m1 : PageMap = g.S.Pages.map c.add_on.new.stage in
     let place = c.args.place in
-    let node = c.args.node in
+    let node = c.args.node.now in
     let step = c.in-Some.step in
     let child = c.to_value-child.result in
     let new = c.change.new.node in
@@ -477,16 +477,16 @@ returns-clause-damaged g t c = λ p e tells. (
     let grows = c.add_on.ensures.grows.went_on in
     let level : ℕ = node.level - 2 in
     let at_level : node.level ≡ suc (suc level) = omega (arith, c.in-Some.ensures.level) in
-    let child_level : child.level ≡ suc level = (fits_as (c.args.node.level - 1) c.in-Some.step.place _ _ c.to_value-child.ensures c.in_ok-view.ensures.node).fits.at_level ∙ (let e : node.level - 1 ≡ suc level = omega (arith, c.in-Some.ensures.level) in e) in
+    let child_level : child.level ≡ suc level = (fits_as (c.args.node.now.level - 1) c.in-Some.step.place _ _ c.to_value-child.ensures c.in_ok-view.ensures.node).fits.at_level ∙ (let e : node.level - 1 ≡ suc level = omega (arith, c.in-Some.ensures.level) in e) in
     let is : node_on m0 c.args.page ≡ node = node_on-spelled m0 c.args.page node c.requires.typed c.requires.rules (c.requires.there tells) in
-    let spelled = (fits_as (c.args.node.level - 1) c.in-Some.step.place _ _ c.to_value-child.ensures c.in_ok-view.ensures.node).fits in
+    let spelled = (fits_as (c.args.node.now.level - 1) c.in-Some.step.place _ _ c.to_value-child.ensures c.in_ok-view.ensures.node).fits in
     let child_is : node_on m0 step.child ≡ child = node_on-spelled m0 step.child child spelled.typed spelled.rules (found_as (g.S.Pages.map c.args.stage.now) c.in-Some.step.child _ _ c.to_value-child.ensures (c.in_ok-view.ensures.found tells)) in
     let made = child_made m0 (g.S.Pages.map c.view_in_place.new.pages) m1 (suc level) child step.place place.key place.version c.args.value last last1 replaced read.map child_level
     c.in-Some.ensures.leads.key c.in-Some.ensures.leads.version (c.in_ok-replaced.ensures.made (read.tells ∙ tells)) in
     let placed = placed_later m0 m1 c.args.page node new (made.below + new_pages made.changed place.version) last last1 is c.requires.typed (subst IsSome (sym (c.requires.there tells)) refl) made.places c.change.ensures.past in
     let can : IsChangeable step.place.version child.entries.items = subst (λ (w : ℕ). IsChangeable w child.entries.items) (sym c.in-Some.ensures.leads.version) (c.is_changeable.ensures.0 c.if-not-is_changeable.false) in
     let below : IsWholePast m0 step.place child = subst (λ (m : PageMap). IsWholePast m step.place child) read.map (c.in_ok-replaced.ensures.whole (read.tells ∙ tells)) in
-    let whole = whole_index m0 place step.place node child step.child c.in-Some.ensures.leads (found_as (g.S.Pages.map c.args.stage.now) c.in-Some.step.child _ _ c.to_value-child.ensures (c.in_ok-view.ensures.found tells)) ((fits_as (c.args.node.level - 1) c.in-Some.step.place _ _ c.to_value-child.ensures c.in_ok-view.ensures.node), can) below in
+    let whole = whole_index m0 place step.place node child step.child c.in-Some.ensures.leads (found_as (g.S.Pages.map c.args.stage.now) c.in-Some.step.child _ _ c.to_value-child.ensures (c.in_ok-view.ensures.found tells)) ((fits_as (c.args.node.now.level - 1) c.in-Some.step.place _ _ c.to_value-child.ensures c.in_ok-view.ensures.node), can) below in
     elim (c.store-2.ensures.damaged p e (grows.tells ∙ read.tells ∙ tells) placed) [
       | inl end ↦ inr (inl (
         whole,
@@ -498,7 +498,7 @@ returns-clause-damaged g t c = λ p e tells. (
 
 pub returns-in_default-clause-whole : goal.returns-in_default-clause-whole
 returns-in_default-clause-whole g t c = IfOk-weaker c.store.result _ _ (λ r stored tells.
-    whole_leaf (g.S.Pages.map c.args.stage.now) c.args.place c.args.node (c.in_default.ensures.none refl)) c.store.ensures.stored
+    whole_leaf (g.S.Pages.map c.args.stage.now) c.args.place c.args.node.now (c.in_default.ensures.none refl)) c.store.ensures.stored
 
 pub returns-clause-whole : goal.returns-clause-whole
 returns-clause-whole g t c = IfOk-weaker c.store-2.result _ _ (λ r stored tells.
@@ -508,4 +508,4 @@ returns-clause-whole g t c = IfOk-weaker c.store-2.result _ _ (λ r stored tells
     let read = c.view_in_place.ensures.reads.read in
     let can : IsChangeable step.place.version child.entries.items = subst (λ (w : ℕ). IsChangeable w child.entries.items) (sym c.in-Some.ensures.leads.version) (c.is_changeable.ensures.0 c.if-not-is_changeable.false) in
     let below : IsWholePast m0 step.place child = subst (λ (m : PageMap). IsWholePast m step.place child) read.map (c.in_ok-replaced.ensures.whole (read.tells ∙ tells)) in
-    whole_index m0 c.args.place step.place c.args.node child step.child c.in-Some.ensures.leads (found_as (g.S.Pages.map c.args.stage.now) c.in-Some.step.child _ _ c.to_value-child.ensures (c.in_ok-view.ensures.found tells)) ((fits_as (c.args.node.level - 1) c.in-Some.step.place _ _ c.to_value-child.ensures c.in_ok-view.ensures.node), can) below) c.store-2.ensures.stored
+    whole_index m0 c.args.place step.place c.args.node.now child step.child c.in-Some.ensures.leads (found_as (g.S.Pages.map c.args.stage.now) c.in-Some.step.child _ _ c.to_value-child.ensures (c.in_ok-view.ensures.found tells)) ((fits_as (c.args.node.now.level - 1) c.in-Some.step.place _ _ c.to_value-child.ensures c.in_ok-view.ensures.node), can) below) c.store-2.ensures.stored
