@@ -13,6 +13,7 @@ ghost use Rattle.mvsb_tree.specs.Steps.{chain_from};
 ghost use Rattle.mvsb_tree.specs.Ways.{IsAdded, WaysStand, way_pages};
 
 use crate::change::{add_to_leaf, change};
+use crate::node::node_of;
 use crate::place::Place;
 use crate::replaced::Replaced;
 use crate::step::step_from;
@@ -68,10 +69,10 @@ pub fn add_on<S: Stage>(
 {
     let Some(step) = step_from(node, place) else {
         add_to_leaf(node, place.key, place.version, value);
-        return store(stage, page, node, place.version, last);
+        return store(stage, page, node, place.version, last, bytes);
     };
     let view: View<MvNode> = view_in_place(stage, step.child, node.level - 1, step.place, bytes)?;
-    let mut child = view.to_value();
+    let mut child = node_of(&view);
     if !is_changeable(&child, place.version) {
         return Err(StageFault::Damaged(step.child));
     }
@@ -79,5 +80,5 @@ pub fn add_on<S: Stage>(
         stage, step.child, &mut child, step.place, value, last, bytes,
     )?;
     change(node, place.key, place.version, value, replaced);
-    store(stage, page, node, place.version, last)
+    store(stage, page, node, place.version, last, bytes)
 }

@@ -11,9 +11,10 @@ ghost use Rattle.mvsb_tree.specs.Built.{IsBuilt, TakesPoints};
 use crate::add::mv_add;
 use crate::change::add_to_leaf;
 use crate::laws::mv_laws;
+use crate::node::{node_of, put_node};
 use bw_types::{Point, Tree};
 use mv_pages::{is_changeable, later_laws, path_laws};
-use page_access::{put_page, view_page};
+use page_access::view_page;
 use page_layout::{MvNode, View};
 use page_ports::{Stage, StageFault, blank_page};
 use sb_tree::tree_laws;
@@ -72,11 +73,11 @@ fn build_leaf<S: Stage>(stage: &mut S, points: &[Point]) -> Result<Tree, StageFa
     let mut tree = build_point(stage, points)?;
     let mut bytes = blank_page();
     let view: View<MvNode> = view_page(stage, tree.last, &mut bytes)?;
-    let mut leaf = view.to_value();
+    let mut leaf = node_of(&view);
     // This is so where the stage tells its map; one that does not may have given any node.
     if leaf.level == 1 && leaf.place == 1 && is_changeable(&leaf, first.version) {
         let taken = fill(&mut leaf, points);
-        put_page(stage, tree.last, &leaf)?;
+        put_node(stage, tree.last, &leaf, &mut bytes)?;
         tree.count = taken as u32;
     }
     Ok(tree)

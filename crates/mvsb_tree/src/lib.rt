@@ -22,6 +22,7 @@ mod free;
 mod laws;
 mod lead;
 mod mv_index;
+mod node;
 mod place;
 mod replaced;
 mod root;

@@ -11,21 +11,24 @@ ghost use Rattle.mvsb_tree.specs.Steps.{chain_from, node_on};
 ghost use Rattle.mvsb_tree.specs.Stored.{IsClosed, IsFirstStored, IsLastDamaged, IsSplitOf, IsStorable, IsStored, SplitCut, all_start_at as spec_all_start_at};
 
 use crate::chain::make_next;
+use crate::node::put_node;
 use crate::replaced::Replaced;
 use mv_pages::{Copied, close_and_copy};
 use page_access::put_page;
 use page_layout::{MvEntry, MvNode};
-use page_ports::{Stage, StageFault};
+use page_ports::{Page, Stage, StageFault};
 
 /// Stores a node that was changed at the version in its page. Where it has more than 96 entries, one
 /// new page takes its part from the version on, or two do, and the page stays as it was for the past;
-/// only where all its entries start at the version it has no past, and is the first of the two.
+/// only where all its entries start at the version it has no past, and is the first of the two. A node
+/// that stays is spelled in `bytes`.
 pub fn store<S: Stage>(
     stage: &mut S,
     page: u64,
     node: &MvNode,
     version: u32,
     last: &mut u64,
+    bytes: &mut Page,
 ) -> Result<Option<Replaced>, StageFault>
     requires rules { IsStorable version node.now }
     requires number { 3 ≤ page }
@@ -40,7 +43,7 @@ pub fn store<S: Stage>(
     ensures grows { Grows S.Pages 2 stage.old stage.new result }
 {
     if node.entries.len() <= 96 {
-        put_page(stage, page, node)?;
+        put_node(stage, page, node, bytes)?;
         return Ok(None);
     }
     let replaced = close(stage, page, node, version, last)?;

@@ -29,62 +29,62 @@ pub fill-taken-requires-clause-changeable : goal.fill-taken-requires-clause-chan
 fill-taken-requires-clause-changeable g c = λ k d below. (
     let points : List Point = c.args.points.now in
     let p : Point = get_or points 0 no_point in
-    c.later_laws.ensures.changeable p.version (get_or points k d).version c.to_value-leaf.result.entries.items
+    c.later_laws.ensures.changeable p.version (get_or points k d).version c.node_of-leaf.result.entries.items
     (subst (λ (q : Point). q.version ≤ (get_or points k d).version) (get_or_default points 0 d no_point c.requires.some) (c.requires.in_order 0 k d (omega arith) below))
     (c.requires.versions k d below) (c.is_changeable.ensures.0 c.if-is_changeable.true))
 
-pub returns-in_err-put_page-clause-damaged : goal.returns-in_err-put_page-clause-damaged
-returns-in_err-put_page-clause-damaged g c = λ page e tells ordered. (
-    let same = exit_error c.from_residual-in_err-put_page.result c.in_err-put_page.field-0.0 (Damaged page) (err_from_is_err_and c.from_residual-in_err-put_page.result c.from_residual-in_err-put_page.ensures.1) e in
-    c.in_err-put_page.ensures.damaged page (c.view_page.ensures.reads.read.tells ∙ c.build_point.ensures.grows.went_on.tells ∙ tells) (ap Err same))
+pub returns-in_err-put_node-clause-damaged : goal.returns-in_err-put_node-clause-damaged
+returns-in_err-put_node-clause-damaged g c = λ page e tells ordered. (
+    let same = exit_error c.from_residual-in_err-put_node.result c.in_err-put_node.field-0.0 (Damaged page) (err_from_is_err_and c.from_residual-in_err-put_node.result c.from_residual-in_err-put_node.ensures.1) e in
+    c.in_err-put_node.ensures.damaged page (c.view_page.ensures.reads.read.tells ∙ c.build_point.ensures.grows.went_on.tells ∙ tells) (ap Err same))
 
-pub returns-in_err-put_page-clause-grows : goal.returns-in_err-put_page-clause-grows
-returns-in_err-put_page-clause-grows g c =
+pub returns-in_err-put_node-clause-grows : goal.returns-in_err-put_node-clause-grows
+returns-in_err-put_node-clause-grows g c =
     let first = c.build_point.ensures.grows in
     let read = c.view_page.ensures.reads.read in
-    let told = err_from_is_err_and c.from_residual-in_err-put_page.result c.from_residual-in_err-put_page.ensures.1 in
-    grown_further g.S.Pages 34 0 _ c.args.stage.now c.view_page.new.pages c.put_page.new.stage (Err c.in_err-put_page.field-0.0) c.from_residual-in_err-put_page.result
+    let told = err_from_is_err_and c.from_residual-in_err-put_node.result c.from_residual-in_err-put_node.ensures.1 in
+    grown_further g.S.Pages 34 0 _ c.args.stage.now c.view_page.new.pages c.put_node.new.stage (Err c.in_err-put_node.field-0.0) c.from_residual-in_err-put_node.result
     (went_reading g.S.Pages 34 1 c.args.stage.now c.build_point.new.stage c.view_page.new.pages first.went_on read)
-    (λ t page there. subst (λ (m : PageMap). IsSome (m page)) (sym read.map) (first.keeps t page there)) c.in_err-put_page.ensures.grows
-    (omega (arith, c.in_err-put_page.ensures.grows.went_on.allotted)) (λ f e. ap Err (exit_error c.from_residual-in_err-put_page.result c.in_err-put_page.field-0.0 f told e))
+    (λ t page there. subst (λ (m : PageMap). IsSome (m page)) (sym read.map) (first.keeps t page there)) c.in_err-put_node.ensures.grows
+    (omega (arith, c.in_err-put_node.ensures.grows.went_on.allotted)) (λ f e. ap Err (exit_error c.from_residual-in_err-put_node.result c.in_err-put_node.field-0.0 f told e))
 
-pub returns-in_err-put_page-clause-few : goal.returns-in_err-put_page-clause-few
-returns-in_err-put_page-clause-few g c = λ tells. (
+pub returns-in_err-put_node-clause-few : goal.returns-in_err-put_node-clause-few
+returns-in_err-put_node-clause-few g c = λ tells. (
     let grows = c.build_point.ensures.few tells in
     let read = c.view_page.ensures.reads.read in
-    let put = c.in_err-put_page.ensures.grows in
+    let put = c.in_err-put_node.ensures.grows in
     search rules)
 
-pub returns-in_ok-put_page-clause-built : goal.returns-in_ok-put_page-clause-built
-returns-in_ok-put_page-clause-built g c = λ tells. (
+pub returns-in_ok-put_node-clause-built : goal.returns-in_ok-put_node-clause-built
+returns-in_ok-put_node-clause-built g c = λ tells. (
     let m0 : PageMap = g.S.Pages.map c.args.stage.now in
     let m1 : PageMap = g.S.Pages.map c.build_point.new.stage in
     let tree : Tree = c.in_ok-tree.tree in
-    let leaf = c.to_value-leaf.result in
+    let leaf = c.node_of-leaf.result in
     let told1 = c.build_point.ensures.grows.went_on.tells ∙ tells in
     let read = c.view_page.ensures.reads.read in
-    let spells = spells_as _ _ c.to_value-leaf.ensures c.in_ok-view.ensures.spells in
-    let there = found_as m1 tree.last _ _ c.to_value-leaf.ensures (c.in_ok-view.ensures.found told1) in
+    let spells = spells_as _ _ c.node_of-leaf.ensures c.in_ok-view.ensures.spells in
+    let there = found_as m1 tree.last _ _ c.node_of-leaf.ensures (c.in_ok-view.ensures.found told1) in
     let number = g.met.S.Stage.from_three c.build_point.new.stage tree.last _ told1 there in
-    let put = c.in_ok-put_page.ensures.ok (read.tells ∙ told1) ∙ ap (λ (m : PageMap). with_last m tree c.fill-taken.new.leaf) read.map in
-    leaf_built m0 m1 (g.S.Pages.map c.put_page.new.stage) tree c.args.points.now c.fill-taken.result leaf c.fill-taken.new.leaf c.requires.some (c.in_ok-tree.ensures.built tells) number there spells.typed spells.rules c.if-leaf-eq1-2.true c.fill-taken.ensures.takes put)
+    let put = c.in_ok-put_node.ensures.ok (read.tells ∙ told1) ∙ ap (λ (m : PageMap). with_last m tree c.fill-taken.new.leaf) read.map in
+    leaf_built m0 m1 (g.S.Pages.map c.put_node.new.stage) tree c.args.points.now c.fill-taken.result leaf c.fill-taken.new.leaf c.requires.some (c.in_ok-tree.ensures.built tells) number there spells.typed spells.rules c.if-leaf-eq1-2.true c.fill-taken.ensures.takes put)
 
-pub returns-in_ok-put_page-clause-grows : goal.returns-in_ok-put_page-clause-grows
-returns-in_ok-put_page-clause-grows g c =
+pub returns-in_ok-put_node-clause-grows : goal.returns-in_ok-put_node-clause-grows
+returns-in_ok-put_node-clause-grows g c =
     let first = c.build_point.ensures.grows in
     let read = c.view_page.ensures.reads.read in
-    let put = c.in_ok-put_page.ensures.grows in
-    let both = grown_further g.S.Pages 34 0 34 c.args.stage.now c.view_page.new.pages c.put_page.new.stage c.put_page.result c.put_page.result
+    let put = c.in_ok-put_node.ensures.grows in
+    let both = grown_further g.S.Pages 34 0 34 c.args.stage.now c.view_page.new.pages c.put_node.new.stage c.put_node.result c.put_node.result
     (went_reading g.S.Pages 34 1 c.args.stage.now c.build_point.new.stage c.view_page.new.pages first.went_on read)
-    (λ t page there. subst (λ (m : PageMap). IsSome (m page)) (sym read.map) (first.keeps t page there)) c.put_page.ensures.grows
+    (λ t page there. subst (λ (m : PageMap). IsSome (m page)) (sym read.map) (first.keeps t page there)) c.put_node.ensures.grows
     (omega (arith, first.went_on.at_most, read.allotted)) (λ f e. e) in
-    grown_so_far g.S.Pages 34 _ c.args.stage.now c.put_page.new.stage _ both.went_on both.keeps (omega arith)
+    grown_so_far g.S.Pages 34 _ c.args.stage.now c.put_node.new.stage _ both.went_on both.keeps (omega arith)
 
-pub returns-in_ok-put_page-clause-few : goal.returns-in_ok-put_page-clause-few
-returns-in_ok-put_page-clause-few g c = λ tells. (
+pub returns-in_ok-put_node-clause-few : goal.returns-in_ok-put_node-clause-few
+returns-in_ok-put_node-clause-few g c = λ tells. (
     let grows = c.build_point.ensures.few tells in
     let read = c.view_page.ensures.reads.read in
-    let put = c.in_ok-put_page.ensures.grows in
+    let put = c.in_ok-put_node.ensures.grows in
     search rules)
 
 pub returns-else-leaf-eq1-clause-built : goal.returns-else-leaf-eq1-clause-built
