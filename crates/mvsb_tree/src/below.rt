@@ -24,8 +24,9 @@ use page_layout::{MvNode, View};
 use page_ports::{Page, Stage, StageFault};
 
 /// Adds a value from a key and a version on to the node of the page and below it. Where the node is
-/// closed, the result is what takes its part. The node is changed where it stands, and pages are read
-/// into `bytes`, so that nothing as large as a page is handed down the levels.
+/// closed, the result is what takes its part. The node is changed in place, and `bytes` is the buffer
+/// for the pages on the way, so only references are handed down the levels. What the two hold afterwards
+/// is not said.
 pub fn add_on<S: Stage>(
     stage: &mut S,
     page: u64,

@@ -1,4 +1,4 @@
-//! Nodes made of the bytes of their page, and put back by way of the same bytes.
+//! Nodes read out of their pages, and put back through a buffer.
 ghost use Rattle.std.specs.Prelude.{◌≡◌, ◌≢◌, ℕ, Err, IsTrue, IsSome, OnOk};
 ghost use Rattle.page_layout.specs.MvNode.{IsMvNode, mv_node_page};
 ghost use Rattle.page_ports.specs.Calls.{Grows};
@@ -8,10 +8,10 @@ use arrayvec::ArrayVec;
 use page_layout::{MvNode, Spelled, View};
 use page_ports::{Page, Stage, StageFault};
 
-/// The node that is read in place.
+/// The node that the view shows.
 ///
-/// Always a part of its caller, so that the node, which is larger than a page, is made where it is to
-/// stand and not moved from one room to the next.
+/// Always inlined, so that the node, which is larger than a page, is built in its caller's variable and
+/// not copied.
 #[inline(always)]
 pub fn node_of(view: &View<MvNode>) -> MvNode
     ensures { result ≡ view.now }
@@ -29,7 +29,7 @@ pub fn node_of(view: &View<MvNode>) -> MvNode
     node
 }
 
-/// Overwrites the page with the node, which is spelled in these bytes, whatever they hold.
+/// Overwrites the page with the node, which is first written to `bytes`; what they held does not matter.
 ///
 /// `Damaged` and `PageLimit` never come where the map is told.
 pub fn put_node<S: Stage>(

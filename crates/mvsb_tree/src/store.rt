@@ -21,7 +21,7 @@ use page_ports::{Page, Stage, StageFault};
 /// Stores a node that was changed at the version in its page. Where it has more than 96 entries, one
 /// new page takes its part from the version on, or two do, and the page stays as it was for the past;
 /// only where all its entries start at the version it has no past, and is the first of the two. A node
-/// that stays is spelled in `bytes`.
+/// of at most 96 entries is put by way of `bytes`, whatever they hold.
 pub fn store<S: Stage>(
     stage: &mut S,
     page: u64,
