@@ -13,7 +13,7 @@ ghost use Rattle.mvsb_tree.specs.Steps.{chain_from};
 ghost use Rattle.mvsb_tree.specs.Ways.{IsAdded, WaysStand, way_pages};
 
 use crate::change::{add_to_leaf, change};
-use crate::node::node_of;
+use crate::node::{no_node, read_node};
 use crate::place::Place;
 use crate::replaced::Replaced;
 use crate::step::step_from;
@@ -73,7 +73,8 @@ pub fn add_on<S: Stage>(
         return store(stage, page, node, place.version, last, bytes);
     };
     let view: View<MvNode> = view_in_place(stage, step.child, node.level - 1, step.place, bytes)?;
-    let mut child = node_of(&view);
+    let mut child = no_node();
+    read_node(&view, &mut child);
     if !is_changeable(&child, place.version) {
         return Err(StageFault::Damaged(step.child));
     }

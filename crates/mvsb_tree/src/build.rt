@@ -11,7 +11,7 @@ ghost use Rattle.mvsb_tree.specs.Built.{IsBuilt, TakesPoints};
 use crate::add::mv_add;
 use crate::change::add_to_leaf;
 use crate::laws::mv_laws;
-use crate::node::{node_of, put_node};
+use crate::node::{no_node, put_node, read_node};
 use bw_types::{Point, Tree};
 use mv_pages::{is_changeable, later_laws, path_laws};
 use page_access::view_page;
@@ -73,7 +73,8 @@ fn build_leaf<S: Stage>(stage: &mut S, points: &[Point]) -> Result<Tree, StageFa
     let mut tree = build_point(stage, points)?;
     let mut bytes = blank_page();
     let view: View<MvNode> = view_page(stage, tree.last, &mut bytes)?;
-    let mut leaf = node_of(&view);
+    let mut leaf = no_node();
+    read_node(&view, &mut leaf);
     // This is so where the stage tells its map; one that does not may have given any node.
     if leaf.level == 1 && leaf.place == 1 && is_changeable(&leaf, first.version) {
         let taken = fill(&mut leaf, points);

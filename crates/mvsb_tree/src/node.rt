@@ -1,5 +1,5 @@
 //! Nodes read out of their pages, and put back through a buffer.
-ghost use Rattle.std.specs.Prelude.{◌≡◌, ◌≢◌, ℕ, Err, IsTrue, IsSome, OnOk};
+ghost use Rattle.std.specs.Prelude.{◌≡◌, ◌≢◌, ℕ, [], Err, IsTrue, IsSome, OnOk};
 ghost use Rattle.page_layout.specs.MvNode.{IsMvNode, mv_node_page};
 ghost use Rattle.page_ports.specs.Calls.{Grows};
 ghost use Rattle.page_ports.specs.Pages.{put_page};
@@ -8,25 +8,33 @@ use arrayvec::ArrayVec;
 use page_layout::{MvNode, Spelled, View};
 use page_ports::{Page, Stage, StageFault};
 
-/// The node that the view shows.
-///
-/// Always inlined, so that the node, which is larger than a page, is built in its caller's variable and
-/// not copied.
+/// A node without entries, which spells no page: room for one that is read.
 #[inline(always)]
-pub fn node_of(view: &View<MvNode>) -> MvNode
-    ensures { result ≡ view.now }
+pub fn no_node() -> MvNode
+    ensures { result.entries.items ≡ [] }
+{
+    MvNode {
+        level: 0,
+        place: 0,
+        before: 0,
+        entries: ArrayVec::new(),
+    }
+}
+
+/// Makes `node` the one that the view shows, whatever it was.
+///
+/// A node is larger than a page. So it is filled where it stands, and not handed back.
+pub fn read_node(view: &View<MvNode>, node: &mut MvNode)
+    ensures { node.new ≡ view.now }
 {
     view.keeps_rules();
-    let mut node = MvNode {
-        level: view.level(),
-        place: view.place(),
-        before: view.before(),
-        entries: ArrayVec::new(),
-    };
+    node.level = view.level();
+    node.place = view.place();
+    node.before = view.before();
+    node.entries.clear();
     for index in 0..view.len() {
         node.entries.push(view.entry(index));
     }
-    node
 }
 
 /// Overwrites the page with the node, which is first written to `bytes`; what they held does not matter.

@@ -10,7 +10,7 @@ ghost use Rattle.mvsb_tree.specs.Tops.{RootAdded};
 ghost use Rattle.mvsb_tree.specs.Ways.{way_pages};
 
 use crate::below::add_on;
-use crate::node::node_of;
+use crate::node::{no_node, read_node};
 use crate::place::root_place;
 use crate::top::top_of;
 use mv_pages::is_changeable;
@@ -60,7 +60,8 @@ pub fn add_at_root<S: Stage>(
     }
     let mut bytes = blank_page();
     let view: View<MvNode> = view_page(stage, root, &mut bytes)?;
-    let mut node = node_of(&view);
+    let mut node = no_node();
+    read_node(&view, &mut node);
     let level = node.level;
     let place = root_place(key, version);
     if !place.admits(level, &node) || !is_changeable(&node, version) {

@@ -70,7 +70,7 @@ returns-clause-made g t c = IfOk-weaker c.store-2.result _ _ (λ r stored tells.
     let place = c.args.place in
     let node = c.args.node.now in
     let step = c.in-Some.step in
-    let child = c.node_of-child.result in
+    let child = c.read_node.new.node in
     let new = c.change.new.node in
     let last = c.args.last.now in
     let last1 = c.add_on.new.last in
@@ -79,10 +79,10 @@ returns-clause-made g t c = IfOk-weaker c.store-2.result _ _ (λ r stored tells.
     let grows = c.add_on.ensures.grows.went_on in
     let level : ℕ = node.level - 2 in
     let at_level : node.level ≡ suc (suc level) = omega (arith, c.in-Some.ensures.level) in
-    let child_level : child.level ≡ suc level = (fits_as (c.args.node.now.level - 1) c.in-Some.step.place _ _ c.node_of-child.ensures c.in_ok-view.ensures.node).fits.at_level ∙ (let e : node.level - 1 ≡ suc level = omega (arith, c.in-Some.ensures.level) in e) in
+    let child_level : child.level ≡ suc level = (fits_as (c.args.node.now.level - 1) c.in-Some.step.place _ _ c.read_node.ensures c.in_ok-view.ensures.node).fits.at_level ∙ (let e : node.level - 1 ≡ suc level = omega (arith, c.in-Some.ensures.level) in e) in
     let is : node_on m0 c.args.page ≡ node = node_on-spelled m0 c.args.page node c.requires.typed c.requires.rules (c.requires.there tells) in
-    let spelled = (fits_as (c.args.node.now.level - 1) c.in-Some.step.place _ _ c.node_of-child.ensures c.in_ok-view.ensures.node).fits in
-    let child_is : node_on m0 step.child ≡ child = node_on-spelled m0 step.child child spelled.typed spelled.rules (found_as (g.S.Pages.map c.args.stage.now) c.in-Some.step.child _ _ c.node_of-child.ensures (c.in_ok-view.ensures.found tells)) in
+    let spelled = (fits_as (c.args.node.now.level - 1) c.in-Some.step.place _ _ c.read_node.ensures c.in_ok-view.ensures.node).fits in
+    let child_is : node_on m0 step.child ≡ child = node_on-spelled m0 step.child child spelled.typed spelled.rules (found_as (g.S.Pages.map c.args.stage.now) c.in-Some.step.child _ _ c.read_node.ensures (c.in_ok-view.ensures.found tells)) in
     let made = child_made m0 (g.S.Pages.map c.view_in_place.new.pages) m1 (suc level) child step.place place.key place.version c.args.value last last1 replaced read.map child_level
     c.in-Some.ensures.leads.key c.in-Some.ensures.leads.version (c.in_ok-replaced.ensures.made (read.tells ∙ tells)) in
     let placed = placed_later m0 m1 c.args.page node new (made.below + new_pages made.changed place.version) last last1 is c.requires.typed (subst IsSome (sym (c.requires.there tells)) refl) made.places c.change.ensures.past in
@@ -136,13 +136,13 @@ returns-clause-apart g t c = IfOk-weaker c.store-2.result _ _ (λ r stored tells
     let m1 : PageMap = g.S.Pages.map c.add_on.new.stage in
     let place = c.args.place in
     let step = c.in-Some.step in
-    let child = c.node_of-child.result in
+    let child = c.read_node.new.node in
     let map_is = c.view_in_place.ensures.reads.read.map in
     let a0 : OthersStay (way_pages child.level (g.S.Pages.map c.view_in_place.new.pages) step.child step.place.key step.place.version) (g.S.Pages.map c.view_in_place.new.pages) m1 = c.in_ok-replaced.ensures.apart (search rules) in
     let a1 = subst (λ (m : PageMap). OthersStay (way_pages child.level m step.child step.place.key step.place.version) m m1) map_is a0 in
     let a2 = subst (λ (k : ℕ). OthersStay (way_pages child.level m0 step.child k step.place.version) m0 m1) c.in-Some.ensures.leads.key a1 in
     let a3 = subst (λ (w : ℕ). OthersStay (way_pages child.level m0 step.child place.key w) m0 m1) c.in-Some.ensures.leads.version a2 in
-    let a4 = subst (λ (l : ℕ). OthersStay (way_pages l m0 step.child place.key place.version) m0 m1) (fits_as (c.args.node.now.level - 1) c.in-Some.step.place _ _ c.node_of-child.ensures c.in_ok-view.ensures.node).fits.at_level a3 in
+    let a4 = subst (λ (l : ℕ). OthersStay (way_pages l m0 step.child place.key place.version) m0 m1) (fits_as (c.args.node.now.level - 1) c.in-Some.step.place _ _ c.read_node.ensures c.in_ok-view.ensures.node).fits.at_level a3 in
     both_apart m0 m1 (g.S.Pages.map c.store-2.new.stage) c.args.node.now.level c.args.page step.child c.args.node.now c.change.new.node place.version place.key c.add_on.new.last c.store-2.new.last r
     c.in-Some.ensures.level c.requires.rules c.requires.typed (c.requires.there tells) c.in-Some.ensures.leads.child_is a4 (stored (search rules)) p off some) c.store-2.ensures.stored
 
@@ -152,7 +152,7 @@ returns-clause-added g t c = IfOk-weaker c.store-2.result _ _ (λ r stored tells
     let m1 : PageMap = g.S.Pages.map c.add_on.new.stage in
     let place = c.args.place in
     let step = c.in-Some.step in
-    let child = c.node_of-child.result in
+    let child = c.read_node.new.node in
     let node = c.args.node.now in
     let value = c.args.value in
     let last = c.args.last.now in
@@ -163,7 +163,7 @@ returns-clause-added g t c = IfOk-weaker c.store-2.result _ _ (λ r stored tells
     let lows = alive_lows node.entries.items v in
     let level : ℕ = node.level - 2 in
     let at_level : node.level ≡ suc (suc level) = omega (arith, c.in-Some.ensures.level) in
-    let child_level : child.level ≡ suc level = (fits_as (c.args.node.now.level - 1) c.in-Some.step.place _ _ c.node_of-child.ensures c.in_ok-view.ensures.node).fits.at_level ∙ (let e : node.level - 1 ≡ suc level = omega (arith, c.in-Some.ensures.level) in e) in
+    let child_level : child.level ≡ suc level = (fits_as (c.args.node.now.level - 1) c.in-Some.step.place _ _ c.read_node.ensures c.in_ok-view.ensures.node).fits.at_level ∙ (let e : node.level - 1 ≡ suc level = omega (arith, c.in-Some.ensures.level) in e) in
     let map_is = c.view_in_place.ensures.reads.read.map in
     let r0 : AddsBelow child.level (g.S.Pages.map c.view_in_place.new.pages) m1 step.child step.place.version step.place.key value step.place.low step.place.high last last1 replaced = c.in_ok-replaced.ensures.added (search rules) in
     let r1 = subst (λ (m : PageMap). AddsBelow child.level m m1 step.child step.place.version step.place.key value step.place.low step.place.high last last1 replaced) map_is r0 in
@@ -189,7 +189,7 @@ returns-clause-grows g t c =
     let read = c.view_in_place.ensures.reads.read in
     let rec = c.add_on.ensures.grows in
     let put = c.store-2.ensures.grows in
-    let level = (fits_as (c.args.node.now.level - 1) c.in-Some.step.place _ _ c.node_of-child.ensures c.in_ok-view.ensures.node).fits.at_level in
+    let level = (fits_as (c.args.node.now.level - 1) c.in-Some.step.place _ _ c.read_node.ensures c.in_ok-view.ensures.node).fits.at_level in
     let two = c.in-Some.ensures.level in
     record {
       went_on = record {
@@ -232,7 +232,7 @@ pub returns-in_err-replaced-clause-grows : goal.returns-in_err-replaced-clause-g
 returns-in_err-replaced-clause-grows g t c =
     let read = c.view_in_place.ensures.reads.read in
     let rec = c.in_err-replaced.ensures.grows in
-    let level = (fits_as (c.args.node.now.level - 1) c.in-Some.step.place _ _ c.node_of-child.ensures c.in_ok-view.ensures.node).fits.at_level in
+    let level = (fits_as (c.args.node.now.level - 1) c.in-Some.step.place _ _ c.read_node.ensures c.in_ok-view.ensures.node).fits.at_level in
     let two = c.in-Some.ensures.level in
     let told = err_from_is_err_and c.from_residual-in_err-replaced.result c.from_residual-in_err-replaced.ensures.1 in
     record {
@@ -299,11 +299,11 @@ returns-then-not-is_changeable-clause-sound g t c = λ test places least p tells
     let there = c.requires.there tells in
     let key_in : IsKeyIn place.low place.high key = record { from = c.requires.key.0; before = c.requires.key.1; fits = c.requires.key_fits } in
     let way = child_fits level m0 nodes c.args.page step.child place step.place node least at_level there c.requires.typed c.requires.rules c.in-Some.ensures.leads (ways key key_in) in
-    let child = c.node_of-child.result in
-    let spelled = (fits_as (c.args.node.now.level - 1) c.in-Some.step.place _ _ c.node_of-child.ensures c.in_ok-view.ensures.node).fits in
+    let child = c.read_node.new.node in
+    let spelled = (fits_as (c.args.node.now.level - 1) c.in-Some.step.place _ _ c.read_node.ensures c.in_ok-view.ensures.node).fits in
     let ns = root_spelled (suc level) m0 nodes step.child step.place.version step.place.key step.place.low step.place.high 24 way in
     let at_version = subst (λ (w : ℕ). NodeStands m0 nodes (suc level) step.child w step.place.low step.place.high 24) c.in-Some.ensures.leads.version ns in
-    let can = changeable_where_stands m0 nodes (suc level) step.child v step.place.low step.place.high 24 child c.requires.changeable.last (h step.child ns.listed).past at_version (found_as (g.S.Pages.map c.args.stage.now) c.in-Some.step.child _ _ c.node_of-child.ensures (c.in_ok-view.ensures.found tells)) spelled.typed spelled.rules in
+    let can = changeable_where_stands m0 nodes (suc level) step.child v step.place.low step.place.high 24 child c.requires.changeable.last (h step.child ns.listed).past at_version (found_as (g.S.Pages.map c.args.stage.now) c.in-Some.step.child _ _ c.read_node.ensures (c.in_ok-view.ensures.found tells)) spelled.typed spelled.rules in
     iff_false c.is_changeable.ensures c.if-not-is_changeable.true can)
 
 pub returns-in_err-replaced-clause-sound : goal.returns-in_err-replaced-clause-sound
@@ -319,12 +319,12 @@ returns-in_err-replaced-clause-sound g t c = λ test places least p tells key_te
     let at_level : node.level ≡ suc (suc level) = omega (arith, c.in-Some.ensures.level) in
     let there = c.requires.there tells in
     let key_in : IsKeyIn place.low place.high key = record { from = c.requires.key.0; before = c.requires.key.1; fits = c.requires.key_fits } in
-    let child = c.node_of-child.result in
+    let child = c.read_node.new.node in
     let last = c.args.last.now in
     let lows = alive_lows node.entries.items v in
     let told = err_from_is_err_and c.from_residual-in_err-replaced.result c.from_residual-in_err-replaced.ensures.1 in
     let same = exit_error c.from_residual-in_err-replaced.result c.in_err-replaced.field-0.0 (Damaged p) told e in
-    let child_level : child.level ≡ suc level = (fits_as (c.args.node.now.level - 1) c.in-Some.step.place _ _ c.node_of-child.ensures c.in_ok-view.ensures.node).fits.at_level ∙ (let e : node.level - 1 ≡ suc level = omega (arith, c.in-Some.ensures.level) in e) in
+    let child_level : child.level ≡ suc level = (fits_as (c.args.node.now.level - 1) c.in-Some.step.place _ _ c.read_node.ensures c.in_ok-view.ensures.node).fits.at_level ∙ (let e : node.level - 1 ≡ suc level = omega (arith, c.in-Some.ensures.level) in e) in
     let read = c.view_in_place.ensures.reads.read in
     let r0 : Fails child.level (g.S.Pages.map c.view_in_place.new.pages) step.child step.place.version step.place.key step.place.low step.place.high last =
     λ test1 places1 least1 kt s1 h1 w1. c.in_err-replaced.ensures.sound test1 places1 least1 p (read.tells ∙ tells) kt s1 h1 w1 (read.free_in_order ordered) (ap Err same) in
@@ -350,13 +350,13 @@ returns-clause-sound g t c = λ test places least p tells key_test s h ways orde
     let there = c.requires.there tells in
     let key_in : IsKeyIn place.low place.high key = record { from = c.requires.key.0; before = c.requires.key.1; fits = c.requires.key_fits } in
     let m1 : PageMap = g.S.Pages.map c.add_on.new.stage in
-    let child = c.node_of-child.result in
+    let child = c.read_node.new.node in
     let value = c.args.value in
     let last = c.args.last.now in
     let last1 = c.add_on.new.last in
     let replaced = c.in_ok-replaced.replaced in
     let lows = alive_lows node.entries.items v in
-    let child_level : child.level ≡ suc level = (fits_as (c.args.node.now.level - 1) c.in-Some.step.place _ _ c.node_of-child.ensures c.in_ok-view.ensures.node).fits.at_level ∙ (let e : node.level - 1 ≡ suc level = omega (arith, c.in-Some.ensures.level) in e) in
+    let child_level : child.level ≡ suc level = (fits_as (c.args.node.now.level - 1) c.in-Some.step.place _ _ c.read_node.ensures c.in_ok-view.ensures.node).fits.at_level ∙ (let e : node.level - 1 ≡ suc level = omega (arith, c.in-Some.ensures.level) in e) in
     let read = c.view_in_place.ensures.reads.read in
     let r0 : AddsBelow child.level (g.S.Pages.map c.view_in_place.new.pages) m1 step.child step.place.version step.place.key value step.place.low step.place.high last last1 replaced = c.in_ok-replaced.ensures.added (search rules) in
     let r1 = subst (λ (m : PageMap). AddsBelow child.level m m1 step.child step.place.version step.place.key value step.place.low step.place.high last last1 replaced) read.map r0 in
@@ -410,12 +410,12 @@ returns-then-not-is_changeable-clause-damaged g t c = λ p e tells. (
     let m0 : PageMap = g.S.Pages.map c.args.stage.now in
     let step = c.in-Some.step in
     let node = c.args.node.now in
-    let child = c.node_of-child.result in
-    let spelled = (fits_as (c.args.node.now.level - 1) c.in-Some.step.place _ _ c.node_of-child.ensures c.in_ok-view.ensures.node).fits in
+    let child = c.read_node.new.node in
+    let spelled = (fits_as (c.args.node.now.level - 1) c.in-Some.step.place _ _ c.read_node.ensures c.in_ok-view.ensures.node).fits in
     let some : 1 ≤ node.level - 1 = omega (arith, c.in-Some.ensures.level) in
     let never = iff_false c.is_changeable.ensures c.if-not-is_changeable.true in
     inl (add_past_here m0 c.args.place step.place node step.child p some c.in-Some.ensures.leads (sym (err_same_staged step.child p e)) (λ other bytes here fits.
-    let is : child ≡ other = same_spelled m0 step.child child other bytes spelled.typed spelled.rules (found_as (g.S.Pages.map c.args.stage.now) c.in-Some.step.child _ _ c.node_of-child.ensures (c.in_ok-view.ensures.found tells)) fits.0.fits.typed fits.0.fits.rules fits.0.fits.spelled here in
+    let is : child ≡ other = same_spelled m0 step.child child other bytes spelled.typed spelled.rules (found_as (g.S.Pages.map c.args.stage.now) c.in-Some.step.child _ _ c.read_node.ensures (c.in_ok-view.ensures.found tells)) fits.0.fits.typed fits.0.fits.rules fits.0.fits.spelled here in
     let can = subst (λ (w : ℕ). IsChangeable w other.entries.items) c.in-Some.ensures.leads.version fits.1 in
     never (subst (λ (n : MvNode). IsChangeable c.args.place.version n.entries.items) (sym is) can))))
 
@@ -431,26 +431,26 @@ returns-in_err-replaced-clause-damaged g t c = λ p e tells. (
     let m0 : PageMap = g.S.Pages.map c.args.stage.now in
     let step = c.in-Some.step in
     let node = c.args.node.now in
-    let child = c.node_of-child.result in
+    let child = c.read_node.new.node in
     let read = c.view_in_place.ensures.reads.read in
     let told = err_from_is_err_and c.from_residual-in_err-replaced.result c.from_residual-in_err-replaced.ensures.1 in
     let same = exit_error c.from_residual-in_err-replaced.result c.in_err-replaced.field-0.0 (Damaged p) told e in
-    let child_level : child.level ≡ node.level - 1 = (fits_as (c.args.node.now.level - 1) c.in-Some.step.place _ _ c.node_of-child.ensures c.in_ok-view.ensures.node).fits.at_level in
+    let child_level : child.level ≡ node.level - 1 = (fits_as (c.args.node.now.level - 1) c.in-Some.step.place _ _ c.read_node.ensures c.in_ok-view.ensures.node).fits.at_level in
     let some : 1 ≤ node.level - 1 = omega (arith, c.in-Some.ensures.level) in
     let can : IsChangeable step.place.version child.entries.items = subst (λ (w : ℕ). IsChangeable w child.entries.items) (sym c.in-Some.ensures.leads.version) (c.is_changeable.ensures.0 c.if-not-is_changeable.false) in
     elim (c.in_err-replaced.ensures.damaged p (ap Err same) (read.tells ∙ tells)) [
-      | inl past ↦ inl (add_past_further m0 c.args.place step.place node child step.child p (mv_node_page child) some c.in-Some.ensures.leads (found_as (g.S.Pages.map c.args.stage.now) c.in-Some.step.child _ _ c.node_of-child.ensures (c.in_ok-view.ensures.found tells)) ((fits_as (c.args.node.now.level - 1) c.in-Some.step.place _ _ c.node_of-child.ensures c.in_ok-view.ensures.node), can)
+      | inl past ↦ inl (add_past_further m0 c.args.place step.place node child step.child p (mv_node_page child) some c.in-Some.ensures.leads (found_as (g.S.Pages.map c.args.stage.now) c.in-Some.step.child _ _ c.read_node.ensures (c.in_ok-view.ensures.found tells)) ((fits_as (c.args.node.now.level - 1) c.in-Some.step.place _ _ c.read_node.ensures c.in_ok-view.ensures.node), can)
           (subst (λ (m : PageMap). IsDamagedPastForAdd m step.place child p) read.map past))
       | inr (inl found) ↦
           let ends = found.1 in
           let below : IsWholePast m0 step.place child = subst (λ (m : PageMap). IsWholePast m step.place child) read.map found.0 in
-          let whole = whole_index m0 c.args.place step.place node child step.child c.in-Some.ensures.leads (found_as (g.S.Pages.map c.args.stage.now) c.in-Some.step.child _ _ c.node_of-child.ensures (c.in_ok-view.ensures.found tells)) ((fits_as (c.args.node.now.level - 1) c.in-Some.step.place _ _ c.node_of-child.ensures c.in_ok-view.ensures.node), can) below in
+          let whole = whole_index m0 c.args.place step.place node child step.child c.in-Some.ensures.leads (found_as (g.S.Pages.map c.args.stage.now) c.in-Some.step.child _ _ c.read_node.ensures (c.in_ok-view.ensures.found tells)) ((fits_as (c.args.node.now.level - 1) c.in-Some.step.place _ _ c.read_node.ensures c.in_ok-view.ensures.node), can) below in
           let place = c.args.place in
           let last = c.args.last.now in
           let level : ℕ = node.level - 1 in
           let at_level : node.level ≡ suc level = omega (arith, c.in-Some.ensures.level) in
-          let spelled = (fits_as (c.args.node.now.level - 1) c.in-Some.step.place _ _ c.node_of-child.ensures c.in_ok-view.ensures.node).fits in
-          let child_is : node_on m0 step.child ≡ child = node_on-spelled m0 step.child child spelled.typed spelled.rules (found_as (g.S.Pages.map c.args.stage.now) c.in-Some.step.child _ _ c.node_of-child.ensures (c.in_ok-view.ensures.found tells)) in
+          let spelled = (fits_as (c.args.node.now.level - 1) c.in-Some.step.place _ _ c.read_node.ensures c.in_ok-view.ensures.node).fits in
+          let child_is : node_on m0 step.child ≡ child = node_on-spelled m0 step.child child spelled.typed spelled.rules (found_as (g.S.Pages.map c.args.stage.now) c.in-Some.step.child _ _ c.read_node.ensures (c.in_ok-view.ensures.found tells)) in
           let here = child_ends m0 (g.S.Pages.map c.view_in_place.new.pages) level child step.place place.key place.version c.args.value last p read.map child_level
           c.in-Some.ensures.leads.key c.in-Some.ensures.leads.version ends in
           inr (inl (
@@ -468,7 +468,7 @@ returns-clause-damaged g t c = λ p e tells. (
     let place = c.args.place in
     let node = c.args.node.now in
     let step = c.in-Some.step in
-    let child = c.node_of-child.result in
+    let child = c.read_node.new.node in
     let new = c.change.new.node in
     let last = c.args.last.now in
     let last1 = c.add_on.new.last in
@@ -477,16 +477,16 @@ returns-clause-damaged g t c = λ p e tells. (
     let grows = c.add_on.ensures.grows.went_on in
     let level : ℕ = node.level - 2 in
     let at_level : node.level ≡ suc (suc level) = omega (arith, c.in-Some.ensures.level) in
-    let child_level : child.level ≡ suc level = (fits_as (c.args.node.now.level - 1) c.in-Some.step.place _ _ c.node_of-child.ensures c.in_ok-view.ensures.node).fits.at_level ∙ (let e : node.level - 1 ≡ suc level = omega (arith, c.in-Some.ensures.level) in e) in
+    let child_level : child.level ≡ suc level = (fits_as (c.args.node.now.level - 1) c.in-Some.step.place _ _ c.read_node.ensures c.in_ok-view.ensures.node).fits.at_level ∙ (let e : node.level - 1 ≡ suc level = omega (arith, c.in-Some.ensures.level) in e) in
     let is : node_on m0 c.args.page ≡ node = node_on-spelled m0 c.args.page node c.requires.typed c.requires.rules (c.requires.there tells) in
-    let spelled = (fits_as (c.args.node.now.level - 1) c.in-Some.step.place _ _ c.node_of-child.ensures c.in_ok-view.ensures.node).fits in
-    let child_is : node_on m0 step.child ≡ child = node_on-spelled m0 step.child child spelled.typed spelled.rules (found_as (g.S.Pages.map c.args.stage.now) c.in-Some.step.child _ _ c.node_of-child.ensures (c.in_ok-view.ensures.found tells)) in
+    let spelled = (fits_as (c.args.node.now.level - 1) c.in-Some.step.place _ _ c.read_node.ensures c.in_ok-view.ensures.node).fits in
+    let child_is : node_on m0 step.child ≡ child = node_on-spelled m0 step.child child spelled.typed spelled.rules (found_as (g.S.Pages.map c.args.stage.now) c.in-Some.step.child _ _ c.read_node.ensures (c.in_ok-view.ensures.found tells)) in
     let made = child_made m0 (g.S.Pages.map c.view_in_place.new.pages) m1 (suc level) child step.place place.key place.version c.args.value last last1 replaced read.map child_level
     c.in-Some.ensures.leads.key c.in-Some.ensures.leads.version (c.in_ok-replaced.ensures.made (read.tells ∙ tells)) in
     let placed = placed_later m0 m1 c.args.page node new (made.below + new_pages made.changed place.version) last last1 is c.requires.typed (subst IsSome (sym (c.requires.there tells)) refl) made.places c.change.ensures.past in
     let can : IsChangeable step.place.version child.entries.items = subst (λ (w : ℕ). IsChangeable w child.entries.items) (sym c.in-Some.ensures.leads.version) (c.is_changeable.ensures.0 c.if-not-is_changeable.false) in
     let below : IsWholePast m0 step.place child = subst (λ (m : PageMap). IsWholePast m step.place child) read.map (c.in_ok-replaced.ensures.whole (read.tells ∙ tells)) in
-    let whole = whole_index m0 place step.place node child step.child c.in-Some.ensures.leads (found_as (g.S.Pages.map c.args.stage.now) c.in-Some.step.child _ _ c.node_of-child.ensures (c.in_ok-view.ensures.found tells)) ((fits_as (c.args.node.now.level - 1) c.in-Some.step.place _ _ c.node_of-child.ensures c.in_ok-view.ensures.node), can) below in
+    let whole = whole_index m0 place step.place node child step.child c.in-Some.ensures.leads (found_as (g.S.Pages.map c.args.stage.now) c.in-Some.step.child _ _ c.read_node.ensures (c.in_ok-view.ensures.found tells)) ((fits_as (c.args.node.now.level - 1) c.in-Some.step.place _ _ c.read_node.ensures c.in_ok-view.ensures.node), can) below in
     elim (c.store-2.ensures.damaged p e (grows.tells ∙ read.tells ∙ tells) placed) [
       | inl end ↦ inr (inl (
         whole,
@@ -504,8 +504,8 @@ pub returns-clause-whole : goal.returns-clause-whole
 returns-clause-whole g t c = IfOk-weaker c.store-2.result _ _ (λ r stored tells.
     let m0 : PageMap = g.S.Pages.map c.args.stage.now in
     let step = c.in-Some.step in
-    let child = c.node_of-child.result in
+    let child = c.read_node.new.node in
     let read = c.view_in_place.ensures.reads.read in
     let can : IsChangeable step.place.version child.entries.items = subst (λ (w : ℕ). IsChangeable w child.entries.items) (sym c.in-Some.ensures.leads.version) (c.is_changeable.ensures.0 c.if-not-is_changeable.false) in
     let below : IsWholePast m0 step.place child = subst (λ (m : PageMap). IsWholePast m step.place child) read.map (c.in_ok-replaced.ensures.whole (read.tells ∙ tells)) in
-    whole_index m0 c.args.place step.place c.args.node.now child step.child c.in-Some.ensures.leads (found_as (g.S.Pages.map c.args.stage.now) c.in-Some.step.child _ _ c.node_of-child.ensures (c.in_ok-view.ensures.found tells)) ((fits_as (c.args.node.now.level - 1) c.in-Some.step.place _ _ c.node_of-child.ensures c.in_ok-view.ensures.node), can) below) c.store-2.ensures.stored
+    whole_index m0 c.args.place step.place c.args.node.now child step.child c.in-Some.ensures.leads (found_as (g.S.Pages.map c.args.stage.now) c.in-Some.step.child _ _ c.read_node.ensures (c.in_ok-view.ensures.found tells)) ((fits_as (c.args.node.now.level - 1) c.in-Some.step.place _ _ c.read_node.ensures c.in_ok-view.ensures.node), can) below) c.store-2.ensures.stored

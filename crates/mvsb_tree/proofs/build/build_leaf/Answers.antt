@@ -29,7 +29,7 @@ pub fill-taken-requires-clause-changeable : goal.fill-taken-requires-clause-chan
 fill-taken-requires-clause-changeable g c = λ k d below. (
     let points : List Point = c.args.points.now in
     let p : Point = get_or points 0 no_point in
-    c.later_laws.ensures.changeable p.version (get_or points k d).version c.node_of-leaf.result.entries.items
+    c.later_laws.ensures.changeable p.version (get_or points k d).version c.read_node.new.node.entries.items
     (subst (λ (q : Point). q.version ≤ (get_or points k d).version) (get_or_default points 0 d no_point c.requires.some) (c.requires.in_order 0 k d (omega arith) below))
     (c.requires.versions k d below) (c.is_changeable.ensures.0 c.if-is_changeable.true))
 
@@ -60,11 +60,11 @@ returns-in_ok-put_node-clause-built g c = λ tells. (
     let m0 : PageMap = g.S.Pages.map c.args.stage.now in
     let m1 : PageMap = g.S.Pages.map c.build_point.new.stage in
     let tree : Tree = c.in_ok-tree.tree in
-    let leaf = c.node_of-leaf.result in
+    let leaf = c.read_node.new.node in
     let told1 = c.build_point.ensures.grows.went_on.tells ∙ tells in
     let read = c.view_page.ensures.reads.read in
-    let spells = spells_as _ _ c.node_of-leaf.ensures c.in_ok-view.ensures.spells in
-    let there = found_as m1 tree.last _ _ c.node_of-leaf.ensures (c.in_ok-view.ensures.found told1) in
+    let spells = spells_as _ _ c.read_node.ensures c.in_ok-view.ensures.spells in
+    let there = found_as m1 tree.last _ _ c.read_node.ensures (c.in_ok-view.ensures.found told1) in
     let number = g.met.S.Stage.from_three c.build_point.new.stage tree.last _ told1 there in
     let put = c.in_ok-put_node.ensures.ok (read.tells ∙ told1) ∙ ap (λ (m : PageMap). with_last m tree c.fill-taken.new.leaf) read.map in
     leaf_built m0 m1 (g.S.Pages.map c.put_node.new.stage) tree c.args.points.now c.fill-taken.result leaf c.fill-taken.new.leaf c.requires.some (c.in_ok-tree.ensures.built tells) number there spells.typed spells.rules c.if-leaf-eq1-2.true c.fill-taken.ensures.takes put)

@@ -2,7 +2,7 @@ use Rattle.std.proofs.Common.{◌≡◌, ◌+◌, ◌<◌, ◌≤◌, ◌∷◌,
 use Rattle.std.proofs.Math.Seq.{take-suc}
 use Rattle.std.proofs.lemmas.List.{length-take-le}
 use Rattle.page_layout.specs.declared.mv_node.MvEntry.{MvEntry}
-use Rattle.mvsb_tree.proofs.node.node_of.Goals as goal
+use Rattle.mvsb_tree.proofs.node.read_node.Goals as goal
 
 pub push-requires : goal.push-requires
 push-requires c =

@@ -1,5 +1,5 @@
 use Rattle.std.proofs.Common.{◌≡◌, take}
-use Rattle.mvsb_tree.proofs.node.node_of.Given as goal
+use Rattle.mvsb_tree.proofs.node.read_node.Given as goal
 
 abbrev pub invariant-loop-index : goal.invariant-loop-index
 invariant-loop-index l = record {
