@@ -4,16 +4,16 @@ use Rattle.page_ports.specs.Pages.{PageMap}
 use Rattle.page_ports.specs.declared.page.TheConstants.{FREE_PAGE}
 
 -- a page of a free one's kind
-unfoldable pub free_bytes : List ℕ
-free_bytes = replicate 4096 FREE_PAGE
+unfoldable pub freed_bytes : List ℕ
+freed_bytes = replicate 4096 FREE_PAGE
 
 -- a page, where its kind is not that of a free one
-abbrev pub in_use : List ℕ → Option (List ℕ)
-in_use bytes = if slice_index bytes 0 == FREE_PAGE then None else Some bytes
+abbrev pub used_bytes : List ℕ → Option (List ℕ)
+used_bytes bytes = if slice_index bytes 0 == FREE_PAGE then None else Some bytes
 
--- the pages that are in use, each at its place
+-- the pages that are in use, each at its place, and nothing at the place of a freed one
 abbrev pub kept_of : List (List ℕ) → List (Option (List ℕ))
-kept_of pages = map in_use pages
+kept_of pages = map used_bytes pages
 
 -- The first of the list is page 3.
 abbrev pub map_of : List (Option (List ℕ)) → PageMap

@@ -5,31 +5,31 @@ use Rattle.std.proofs.Math.Path.{fun_ext}
 use Rattle.std.proofs.lemmas.Bool.{cases_lt, cases_eq, eq-eqb, ne_eqb, le-leb, lt-leb}
 use Rattle.std.proofs.lemmas.List.{get_or_past, get_or_append_left, get_or_push, length_push, length-map, map-set, map_push}
 use Rattle.page_ports.specs.Pages.{put_page, blank_bytes}
-use Rattle.page_ports.specs.Kept.{free_bytes, in_use, kept_of, map_of}
+use Rattle.page_ports.specs.Kept.{freed_bytes, used_bytes, kept_of, map_of}
 use Rattle.page_ports.specs.declared.page.TheConstants.{FREE_PAGE}
 
-pub in_use-other : (bytes : List ℕ) → slice_index bytes 0 ≢ FREE_PAGE → in_use bytes ≡ Some bytes
-in_use-other bytes kind = rw (ne_eqb _ _ kind) refl
+pub used_bytes-other : (bytes : List ℕ) → slice_index bytes 0 ≢ FREE_PAGE → used_bytes bytes ≡ Some bytes
+used_bytes-other bytes kind = rw (ne_eqb _ _ kind) refl
 
-pub in_use-blank : in_use blank_bytes ≡ Some blank_bytes
+pub used_bytes-blank : used_bytes blank_bytes ≡ Some blank_bytes
 unfolding blank_bytes
-in_use-blank = refl
+used_bytes-blank = refl
 
-pub in_use-free : in_use free_bytes ≡ None
-unfolding free_bytes
-in_use-free = refl
+pub used_bytes-free : used_bytes freed_bytes ≡ None
+unfolding freed_bytes
+used_bytes-free = refl
 
 pub kept_of-length : (pages : List (List ℕ)) → length (kept_of pages) ≡ length pages
-kept_of-length pages = length-map pages in_use
+kept_of-length pages = length-map pages used_bytes
 
 pub kept_of-set : (pages filled : List (List ℕ)) (place : ℕ) (bytes : List ℕ) (o : Option (List ℕ)) → filled ≡ slice_set pages place bytes
-    → in_use bytes ≡ o → kept_of filled ≡ slice_set (kept_of pages) place o
+    → used_bytes bytes ≡ o → kept_of filled ≡ slice_set (kept_of pages) place o
 kept_of-set pages filled place bytes o set kind =
-    ap kept_of set ∙ map-set in_use pages place bytes ∙ ap (λ (x : Option (List ℕ)). slice_set (kept_of pages) place x) kind
+    ap kept_of set ∙ map-set used_bytes pages place bytes ∙ ap (λ (x : Option (List ℕ)). slice_set (kept_of pages) place x) kind
 
-pub kept_of-push : (pages : List (List ℕ)) (bytes : List ℕ) → in_use bytes ≡ Some bytes
+pub kept_of-push : (pages : List (List ℕ)) (bytes : List ℕ) → used_bytes bytes ≡ Some bytes
     → kept_of (pages ++ bytes ∷ []) ≡ kept_of pages ++ Some bytes ∷ []
-kept_of-push pages bytes kind = map_push in_use pages bytes ∙ ap (λ (x : Option (List ℕ)). kept_of pages ++ x ∷ []) kind
+kept_of-push pages bytes kind = map_push used_bytes pages bytes ∙ ap (λ (x : Option (List ℕ)). kept_of pages ++ x ∷ []) kind
 
 -- A page that is in the map has a place in the list.
 pub map_of-place : (kept : List (Option (List ℕ))) (page : ℕ) → IsSome (map_of kept page) → (3 ≤ page) × (page - 3 < length kept)
@@ -79,7 +79,7 @@ map_of-push kept bytes = fun_ext (λ page. elim (cases_lt page 3) [
       ]
 ])
 
--- The pages that are in use are those of the list's places.
+-- A page of the map has a place in the list, which may have places of freed pages too.
 pub kept_of-below : (pages : List (List ℕ)) (page : ℕ) (bytes : List ℕ) → map_of (kept_of pages) page ≡ Some bytes → page < 3 + length pages
 kept_of-below pages page bytes there =
     let below : page < 3 + length (kept_of pages) = map_of-below (kept_of pages) page bytes there in

@@ -141,15 +141,14 @@ map_of-filled kept page bytes low within = fun_ext (map_of-set kept page (Some b
 pub record IsTaken (kept filled : List (Option (List ℕ))) (page : ℕ) (bytes : List ℕ) (rest : List ℕ) : Type 0 where
   pub low : 3 ≤ page
   pub high : page < 3 + length filled
-  pub len : length filled ≡ length kept
   pub absent : map_of kept page ≡ None
   pub map : map_of filled ≡ put_page (map_of kept) page bytes
   pub spare : are_spare filled rest ≡ true
 
-pub taken_first : (kept filled : List (Option (List ℕ))) (chain freed rest : List ℕ) (page : ℕ) (bytes : List ℕ)
-    → are_spare kept (reverse chain) ≡ true → chain ≡ freed ++ page ∷ [] → rest ≡ reverse freed
-    → filled ≡ slice_set kept (page - 3) (Some bytes) → IsTaken kept filled page bytes rest
-taken_first kept filled chain freed rest page bytes spare last same set =
+pub taken_first : (kept filled : List (Option (List ℕ))) (chain freed : List ℕ) (page : ℕ) (bytes : List ℕ)
+    → are_spare kept (reverse chain) ≡ true → chain ≡ freed ++ page ∷ [] → filled ≡ slice_set kept (page - 3) (Some bytes)
+    → IsTaken kept filled page bytes (reverse freed)
+taken_first kept filled chain freed page bytes spare last set =
     let turned : reverse chain ≡ page ∷ reverse freed = ap reverse last ∙ reverse_push freed page in
     let parts = are_spare-parts kept page (reverse freed) (subst (λ (c : List ℕ). are_spare kept c ≡ true) turned spare) in
     let first = is_spare-parts kept page parts.0 in
@@ -158,8 +157,7 @@ taken_first kept filled chain freed rest page bytes spare last same set =
     record {
       low = first.0;
       high = omega arith;
-      len = len;
       absent = first.2;
       map = ap map_of set ∙ map_of-filled kept page bytes first.0 within;
-      spare = rw (set, same) (are_spare-set kept (reverse freed) page (Some bytes) parts.2 first.0 within parts.1);
+      spare = rw set (are_spare-set kept (reverse freed) page (Some bytes) parts.2 first.0 within parts.1);
     }

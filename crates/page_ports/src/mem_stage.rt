@@ -1,6 +1,6 @@
 //! A stage in memory.
 ghost use Rattle.std.specs.Prelude.{◌≡◌, ◌+◌, ◌-◌, ◌≤◌, ◌<◌, ◌⊎◌, ◌++◌, ◌∷◌, [], true, length, reverse, IsTrue, IfOk, OnOk, OnErr, IsSome, None, Err, slice_set, option_copied, refl};
-ghost use Rattle.page_ports.specs.Kept.{free_bytes, kept_of, map_of};
+ghost use Rattle.page_ports.specs.Kept.{freed_bytes, kept_of, map_of};
 ghost use Rattle.page_ports.specs.Pages.{blank_bytes, put_page, remove_page};
 ghost use Rattle.page_ports.specs.Spare.{are_spare};
 
@@ -104,9 +104,9 @@ fn set_page(pages: &mut Vec<Page>, page: u64, bytes: &Page)
 }
 
 // A page that is not in the map.
-#[tactic(auto, unfolding(crate::specs::Kept::free_bytes))]
+#[tactic(auto, unfolding(crate::specs::Kept::freed_bytes))]
 fn free_page() -> Page
-    ensures { result ≡ free_bytes }
+    ensures { result ≡ freed_bytes }
 {
     [FREE_PAGE; 4096]
 }
