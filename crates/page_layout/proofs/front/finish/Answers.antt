@@ -16,26 +16,12 @@ one_more from at le =
     replicate-append-replicate (at - from) 1 0 ∙ ap (λ (m : ℕ). replicate m 0) more
 
 pub loop-at-init : goal.loop-at-init
-loop-at-init c = record {
-  long = c.told-page;
-  from = omega arith;
-  to = c.requires;
-  filled = sym (append-nil (take c.args.place c.args.page.now)) ∙ ap (λ (rest : List ℕ). take c.args.place c.args.page.now ++ rest) (sym (no_zeros c.args.place));
-}
+loop-at-init c = let none = no_zeros c.args.place in grind (arith, append-nil)
 
 pub loop-at-preserved : goal.loop-at-preserved
 loop-at-preserved c =
-    let from : c.args.place ≤ c.loop-at.at = c.loop-at.invariant.from in
-    let below = c.loop-at-test.true in
-    record {
-      long = c.put_u8.array_long;
-      from = omega arith;
-      to = omega arith;
-      filled = c.put_u8.ensures
-          ∙ ap (λ (front : List ℕ). front ++ 0 ∷ []) c.loop-at.invariant.filled
-          ∙ append_assoc (take c.args.place c.args.page.now) (zeros (c.loop-at.at - c.args.place)) (0 ∷ [])
-          ∙ ap (λ (rest : List ℕ). take c.args.place c.args.page.now ++ rest) (one_more c.args.place c.loop-at.at from);
-    }
+    let more = one_more c.args.place c.loop-at.at c.loop-at.invariant.from in
+    grind (arith, append_assoc)
 
 whole : (page old : List ℕ) (at place : ℕ) → length page ≡ 4096 → length old ≡ 4096 → place ≤ 4096 → at ≡ 4096
     → take at page ≡ take place old ++ zeros (at - place) → page ≡ padded (take place old)
@@ -45,7 +31,4 @@ whole page old at place long was le end filled =
 
 pub returns : goal.returns
 returns c =
-    let most : c.loop-at.at ≤ 4096 = c.loop-at.invariant.to in
-    let least : 4096 ≤ c.loop-at.at = c.loop-at-test.false in
-    let end : c.loop-at.at ≡ 4096 = omega arith in
-    whole c.loop-at.page c.args.page.now c.loop-at.at c.args.place c.loop-at.invariant.long c.told-page c.requires end c.loop-at.invariant.filled
+    whole _ _ _ _ c.loop-at.invariant.long c.told-page c.requires (omega (arith, c.loop-at.invariant.to, c.loop-at-test.false)) c.loop-at.invariant.filled

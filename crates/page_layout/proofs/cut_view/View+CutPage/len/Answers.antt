@@ -1,7 +1,7 @@
-use Rattle.std.proofs.Common.{length, sym, ap, ◌∙◌}
+use Rattle.std.proofs.Common.{length, ap, arith}
 use Rattle.page_layout.specs.CutView.{length-cut_entries}
 use Rattle.page_layout.specs.declared.cut_page.CutPage.{CutPage}
 use Rattle.page_layout.proofs.cut_view.View+CutPage.len.Goals as goal
 
 pub returns : goal.returns
-returns c = c.count_in.ensures.value ∙ sym (length-cut_entries c.self.inside.page.now) ∙ ap (λ (p : CutPage). length p.entries.items) c.self.view_is
+returns c = omega (arith, c.count_in.ensures.value, length-cut_entries, ap (λ (p : CutPage). length p.entries.items) c.self.view_is)

@@ -1,7 +1,7 @@
-use Rattle.std.proofs.Common.{ℕ, List, ap, ◌∙◌}
+use Rattle.std.proofs.Common.{ap, ◌∙◌}
 use Rattle.page_layout.specs.Numbers.{number_in}
 use Rattle.page_layout.specs.TableView.{id_on}
 use Rattle.page_layout.proofs.table_view.View+TableNode.object_id.Goals as goal
 
 pub returns : goal.returns
-returns c = id_on c.self.inside.page.now c.args.self.now c.self.view_is c.args.place c.requires c.number_u64.result (c.number_u64.ensures ∙ ap (λ (b : List ℕ). number_in 8 b) c.after.ensures.value)
+returns c = id_on _ _ c.self.view_is c.args.place c.requires _ (c.number_u64.ensures ∙ ap (number_in 8) c.after.ensures.value)
