@@ -1,2 +1,1 @@
 pub mod CrashLemmas
-pub mod HistoryLemmas
