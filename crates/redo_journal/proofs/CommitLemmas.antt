@@ -1,173 +1,112 @@
 -- The phases of a commit, one after another.
-use Rattle.std.proofs.Common.{◌≡◌, ℕ, ◌≤◌, ◌∙◌, ap, sym, subst, inl, inr, ◌-◌, ◌<◌, true, false, List, length, refl, arith}
-use Rattle.std.specs.Prelude.{unwrap_or, IsSome}
-use Rattle.page_disk.specs.Image.{PageList, Image, page_at}
-use Rattle.page_disk.specs.Moment.{Moment}
-use Rattle.page_disk.specs.Since.{LeavesOnly}
-use Rattle.page_disk.specs.SinceLaws.{LeavesOnly-then, LeavesOnly-weaken}
-use Rattle.redo_journal.specs.Gates.{is_open, is_blank, gate_of}
-use Rattle.redo_journal.specs.declared.gate.Gate.TheVariants.{Idle, Armed}
-use Rattle.redo_journal.specs.Pending.{KeepsGate, DiffersInGate, IsInPlacing}
-use Rattle.redo_journal.specs.Placing.{ImageList, homes_of, map_of, with_images, ArePlaced, AreWritable, Ascend}
-use Rattle.page_ports.specs.Pages.{PageMap}
-use Rattle.redo_journal.specs.declared.images.Images.{Images}
-use Rattle.redo_journal.specs.Images.{image_map, image_list}
+use Rattle.redo_journal.proofs.Common.{common_steps, ◌≡◌, ℕ, ◌∙◌, ap, sym, subst, inl, inr, ◌-◌, ◌<◌, true, false, List, length, refl, arith, IsSome, PageList, Image, Moment, LeavesOnly, LeavesOnly-then, LeavesOnly-weaken, is_open, is_blank, gate_of, Idle, Armed, KeepsGate, DiffersInGate, IsInPlacing, ImageList, homes_of, map_of, with_images, ArePlaced, AreWritable, Ascend, Images, image_map, image_list, HoldsGroups, HoldsImages, HasGate, IsHeld, IsArmed, IsDone, BeforeOrAfter, SettlesTo}
 use Rattle.redo_journal.proofs.ImageLemmas.{image_map-is, images_reach}
-use Rattle.redo_journal.specs.Groups.{HoldsGroups, HoldsImages}
-use Rattle.redo_journal.specs.Committing.{HasGate, IsHeld, IsArmed, IsDone, BeforeOrAfter}
-use Rattle.redo_journal.specs.Settled.{SettlesTo, HoldsPages, IsReplayed}
-use Rattle.redo_journal.proofs.PlacingLemmas.{placed-one, with_images-placed, placed-still}
+use Rattle.redo_journal.proofs.PlacingLemmas.{placed-one, with_images-placed, placed-still, reach_writable}
 use Rattle.redo_journal.proofs.GroupLemmas.{holds_same, holds_reach, same_still}
 use Rattle.redo_journal.proofs.SettledLemmas.{idle_has, armed_has, has_idle, made_pages, body_settles, gate_settles, homes_settle, closing_settles}
-use Rattle.redo_journal.proofs.HomeLemmas.{reach_writable}
 
-pub held_after_body : (images : ImageList) (start x : Image) → HasGate start false → KeepsGate start x
+pub held_after_body : {images : ImageList} {start x : Image} → HasGate start false → KeepsGate start x
     → HoldsGroups (length start.pages) x.journal 1 0 images → IsHeld images x
-held_after_body images start x idle kept held = record {
+held_after_body {images} {x = x} idle kept held = record {
   made = ap is_blank kept.pages ∙ idle.made;
   has_gate = kept.has_gate;
-  held = subst (λ (p : PageList). HoldsGroups (length p) x.journal 1 0 images) (sym kept.pages) held;
+  held = subst (λ p. HoldsGroups (length p) x.journal 1 0 images) (sym kept.pages) held;
 }
 
-pub armed_after_gate : (images : ImageList) (between x : Image) → IsHeld images between → DiffersInGate between x → is_open x.journal ≡ true → IsArmed images x
-armed_after_gate images between x h only opened =
-    let len : length x.journal ≡ length between.journal = only.body.len in
-    let some : 1 ≤ length between.journal = h.has_gate in
-    let size : length x.pages ≡ length between.pages = ap length only.pages in
+pub armed_after_gate : {images : ImageList} {between x : Image} → IsHeld images between → DiffersInGate between x → is_open x.journal ≡ true → IsArmed images x
+armed_after_gate held only opened =
+    let size = ap length only.pages in
     record {
-      gate = record { made = ap is_blank only.pages ∙ h.made; has_gate = omega arith; gate = opened };
-      held = holds_same h.held (length x.pages) x.journal only.body (omega arith) (omega arith);
+      gate = record { made = ap is_blank only.pages ∙ held.made; has_gate = omega arith; gate = opened };
+      held = holds_same held.held only.body (omega arith) (omega arith);
     }
 
-pub armed_writable : (images : ImageList) (x : Image) → IsArmed images x → AreWritable (length x.pages) (homes_of images)
-armed_writable images x h =
+pub armed_writable : {images : ImageList} {x : Image} → IsArmed images x → AreWritable (length x.pages) (homes_of images)
+armed_writable {images} {x} h =
     let made = made_pages x.pages h.gate.made in
     reach_writable (length x.pages) 0 (length x.pages) (homes_of images) (holds_reach h.held) (omega arith) (omega arith)
 
-pub armed_placed : (images : ImageList) (x : Image) → IsArmed images x → ArePlaced (map_of images) x.pages (with_images x.pages images)
-armed_placed images x h =
+pub armed_placed : {images : ImageList} {x : Image} → IsArmed images x → ArePlaced (map_of images) x.pages (with_images x.pages images)
+armed_placed {images} {x} h =
     let made = made_pages x.pages h.gate.made in
     with_images-placed (length x.pages) 0 images x.pages (holds_reach h.held) (omega arith) (omega arith)
 
-pub done_after_homes : (images : ImageList) (between x : Image) → IsArmed images between → x.pages ≡ with_images between.pages images → x.journal ≡ between.journal
-    → IsDone images x × ArePlaced (map_of images) between.pages x.pages
-done_after_homes images between x h pages journal =
-    let placed : ArePlaced (map_of images) between.pages x.pages = subst (λ (p : PageList). ArePlaced (map_of images) between.pages p) (sym pages) (armed_placed images between h) in
-    let longer : length between.pages ≤ length x.pages = placed.no_shorter in
-    let settled : SettlesTo x x.pages = homes_settle between x images x.pages h.gate h.held placed (record {
-      journal = journal;
-      no_shorter = longer;
-      no_longer = placed.no_longer;
-      others = λ page within none. placed.pages page (omega arith) ∙ ap (λ o. unwrap_or o (page_at between.pages page)) none;
-    }) in (
+-- The images are home, and the gate stands open still.
+module _ {images : ImageList} {start : Image} (between : Image) (armed : IsArmed images start) (pages : between.pages ≡ with_images start.pages images) where
+  placed_home : ArePlaced (map_of images) start.pages between.pages
+  placed_home = subst (ArePlaced (map_of images) start.pages) (sym pages) (armed_placed armed)
+
+  pub done_after_homes : between.journal ≡ start.journal → IsDone images between
+  done_after_homes journal =
+      let settled : SettlesTo between between.pages = homes_settle armed placed_home (record {
+        journal = journal;
+        no_shorter = placed_home.no_shorter;
+        no_longer = placed_home.no_longer;
+        others = λ page within none. grind (arith, common_steps, placed_home.pages page, placed_home.no_shorter);
+      }) in
       record {
         made = settled.made;
         has_gate = settled.has_gate;
-        held = subst (λ (p : PageList). HoldsImages (record { pages = x.pages; journal = p }) images) (sym journal)
-            (holds_same h.held (length x.pages) between.journal (same_still between.journal) longer (omega arith));
-        placed = placed-still (map_of images) between.pages x.pages placed;
-      },
-      placed,
-    )
+        held = holds_same armed.held (same_still journal) placed_home.no_shorter (omega arith);
+        placed = placed-still placed_home;
+      }
 
-pub idle_after_done : (images : ImageList) (between x : Image) → IsDone images between → DiffersInGate between x → is_open x.journal ≡ false → HasGate x false
-idle_after_done images between x h only closed =
-    let len : length x.journal ≡ length between.journal = only.body.len in
-    let some : 1 ≤ length between.journal = h.has_gate in
-    record { made = ap is_blank only.pages ∙ h.made; has_gate = omega arith; gate = closed }
+  -- The gate was written after that.
+  pub brought_home : {x : Image} → DiffersInGate between x → ArePlaced (map_of images) start.pages x.pages
+  brought_home only = subst (ArePlaced (map_of images) start.pages) (sym only.pages) placed_home
 
--- The images are home, and the gate was written.
-pub brought_home : (images : ImageList) (start between x : Image) → IsArmed images start → between.pages ≡ with_images start.pages images
-    → DiffersInGate between x → ArePlaced (map_of images) start.pages x.pages
-brought_home images start between x h pages only =
-    subst (λ (p : PageList). ArePlaced (map_of images) start.pages p) (sym (only.pages ∙ pages)) (armed_placed images start h)
+  pub idle_again : {x : Image} → between.journal ≡ start.journal → DiffersInGate between x → is_open x.journal ≡ false → gate_of x ≡ Idle
+  idle_again {x} journal only closed =
+      let done = done_after_homes journal in
+      has_idle x (record { made = ap is_blank only.pages ∙ done.made; has_gate = omega arith; gate = closed })
 
-pub idle_again : (images : ImageList) (start between x : Image) → IsArmed images start → between.pages ≡ with_images start.pages images
-    → between.journal ≡ start.journal → DiffersInGate between x → is_open x.journal ≡ false → gate_of x ≡ Idle
-idle_again images start between x h pages journal only closed =
-    has_idle x (idle_after_done images between x (done_after_homes images start between h pages journal).0 only closed)
+  -- The homes, and then the gate.
+  pub home_stretch : {after : PageList} {first second third : List Moment} → between.journal ≡ start.journal → ArePlaced (map_of images) start.pages after
+      → LeavesOnly (IsInPlacing (map_of images) start) first second → LeavesOnly (DiffersInGate between) second third
+      → LeavesOnly (λ x. SettlesTo x after) first third
+  home_stretch journal placed f h =
+      LeavesOnly-then _ _ _ _ (LeavesOnly-weaken _ _ _ _ (λ x home. homes_settle armed placed home) f)
+      (LeavesOnly-weaken _ _ _ _ (λ x only. subst (SettlesTo x) (placed-one placed_home placed) (closing_settles (done_after_homes journal) only)) h)
 
--- What a crash in each phase leaves.
-module _ (images : ImageList) (before after : PageList) where
-  pub body_stretch : (start : Image) (old new : List Moment) → start.pages ≡ before → HasGate start false → LeavesOnly (KeepsGate start) old new → LeavesOnly (BeforeOrAfter before after) old new
-  body_stretch start old new is idle h =
-      LeavesOnly-weaken (KeepsGate start) (BeforeOrAfter before after) old new
-      (λ x kept. inl (subst (λ (p : PageList). SettlesTo x p) is (body_settles start x idle kept))) h
-
-  pub gate_stretch : (start : Image) (old new : List Moment) → start.pages ≡ before → IsHeld images start → ArePlaced (map_of images) start.pages after
-      → LeavesOnly (DiffersInGate start) old new → LeavesOnly (BeforeOrAfter before after) old new
-  gate_stretch start old new is held placed h =
-      LeavesOnly-weaken (DiffersInGate start) (BeforeOrAfter before after) old new
-      (λ x only. elim (gate_settles start x images after held.made held.has_gate held.held placed only) [
-        | inl a ↦ inl (subst (λ (p : PageList). SettlesTo x p) is a)
-        | inr b ↦ inr b
-      ]) h
-
-pub homes_stretch : (images : ImageList) (after : PageList) (start : Image) (old new : List Moment) → IsArmed images start → ArePlaced (map_of images) start.pages after
-    → LeavesOnly (IsInPlacing (map_of images) start) old new → LeavesOnly (λ x. SettlesTo x after) old new
-homes_stretch images after start old new armed placed h =
-    let P : Image → Type 0 = λ x. SettlesTo x after in
-    LeavesOnly-weaken (IsInPlacing (map_of images) start) P old new
-    (λ x in_placing. homes_settle start x images after armed.gate armed.held placed in_placing) h
-
-pub close_stretch : (images : ImageList) (after : PageList) (start : Image) (old new : List Moment) → IsDone images start → start.pages ≡ after
-    → LeavesOnly (DiffersInGate start) old new → LeavesOnly (λ x. SettlesTo x after) old new
-close_stretch images after start old new done is h =
-    let P : Image → Type 0 = λ x. SettlesTo x after in
-    LeavesOnly-weaken (DiffersInGate start) P old new
-    (λ x only. subst (λ (p : PageList). SettlesTo x p) is (closing_settles start x images done.made done.has_gate done.held done.placed only)) h
+-- What a crash leaves while the body is written.
+pub body_stretch : {start : Image} {after : PageList} {old new : List Moment} → HasGate start false
+    → LeavesOnly (KeepsGate start) old new → LeavesOnly (BeforeOrAfter start.pages after) old new
+body_stretch idle h = LeavesOnly-weaken _ _ _ _ (λ x kept. inl (body_settles idle kept)) h
 
 -- The body, and then the gate.
-pub arm_stretch : (images : ImageList) (after : PageList) (start between : Image) (first second third : List Moment)
+pub arm_stretch : {images : ImageList} {after : PageList} {start between : Image} {first second third : List Moment}
     → HasGate start false → KeepsGate start between → IsHeld images between → ArePlaced (map_of images) start.pages after
     → LeavesOnly (KeepsGate start) first second → LeavesOnly (DiffersInGate between) second third
     → LeavesOnly (BeforeOrAfter start.pages after) first third
-arm_stretch images after start between first second third idle kept held placed f h =
-    LeavesOnly-then (BeforeOrAfter start.pages after) first second third
-    (body_stretch images start.pages after start first second (λ i. start.pages) idle f)
-    (gate_stretch images start.pages after between second third kept.pages held
-    (subst (λ (p : PageList). ArePlaced (map_of images) p after) (sym kept.pages) placed) h)
+arm_stretch {images} {after} idle kept held placed f h =
+    LeavesOnly-then _ _ _ _ (body_stretch idle f) (LeavesOnly-weaken _ _ _ _
+    (λ x only. subst (λ p. BeforeOrAfter p after x) kept.pages
+    (gate_settles held (subst (λ p. ArePlaced (map_of images) p after) (sym kept.pages) placed) only)) h)
 
--- The homes, and then the gate.
-pub home_stretch : (images : ImageList) (after : PageList) (start between : Image) (first second third : List Moment)
-    → IsArmed images start → IsDone images between × ArePlaced (map_of images) start.pages between.pages → ArePlaced (map_of images) start.pages after
-    → LeavesOnly (IsInPlacing (map_of images) start) first second → LeavesOnly (DiffersInGate between) second third
-    → LeavesOnly (λ x. SettlesTo x after) first third
-home_stretch images after start between first second third armed done placed f h =
-    let P : Image → Type 0 = λ x. SettlesTo x after in
-    LeavesOnly-then P first second third (homes_stretch images after start first second armed placed f)
-    (close_stretch images after between second third done.0 (placed-one (map_of images) start.pages between.pages after done.1 placed) h)
+-- The images are written home.
+pub homes_stretch : {images : ImageList} {after : PageList} {start : Image} {old new : List Moment} → IsArmed images start
+    → ArePlaced (map_of images) start.pages after → LeavesOnly (IsInPlacing (map_of images) start) old new → LeavesOnly (λ x. SettlesTo x after) old new
+homes_stretch armed placed h = LeavesOnly-weaken _ _ _ _ (λ x home. homes_settle armed placed home) h
 
 -- The two halves of a commit.
-pub commit_stretch : (images : ImageList) (after before : PageList) (first second third : List Moment)
-    → LeavesOnly (BeforeOrAfter before after) first second → LeavesOnly (λ x. SettlesTo x after) second third
-    → LeavesOnly (BeforeOrAfter before after) first third
-commit_stretch images after before first second third f h =
-    let P : Image → Type 0 = λ x. SettlesTo x after in
-    LeavesOnly-then (BeforeOrAfter before after) first second third f
-    (LeavesOnly-weaken P (BeforeOrAfter before after) second third (λ x s. inr s) h)
+pub commit_stretch : {after before : PageList} {first second third : List Moment} → LeavesOnly (BeforeOrAfter before after) first second
+    → LeavesOnly (λ x. SettlesTo x after) second third → LeavesOnly (BeforeOrAfter before after) first third
+commit_stretch f h = LeavesOnly-then _ _ _ _ f (LeavesOnly-weaken _ _ _ _ (λ x s. inr s) h)
 
--- What an open journal holds.
-pub open_pages : (x : Image) (pages : PageList) → HasGate x true → SettlesTo x pages → HoldsPages x pages
-open_pages x pages gate h = elim h.settled [
-  | inl closed ↦ let e : true ≡ false = sym gate.gate ∙ closed.0 in absurd cc
-  | inr opened ↦ opened.1
+-- What an open journal holds, also by the length that was asked for.
+pub armed_with : {len : ℕ} {x : Image} {images : ImageList} → HasGate x true → len ≡ length x.pages → HoldsImages x images
+    → IsArmed images x × HoldsGroups len x.journal 1 0 images
+armed_with gate same held = (record { gate = gate; held = held }, rw same held)
+
+pub open_with : {len : ℕ} {x : Image} {pages : PageList} → HasGate x true → len ≡ length x.pages → SettlesTo x pages
+    → (images : ImageList) × IsArmed images x × HoldsGroups len x.journal 1 0 images × ArePlaced (map_of images) x.pages pages
+open_with gate same h = elim h.settled [
+  | inl closed ↦ absurd cc
+  | inr opened ↦ let armed = armed_with gate same opened.1.held in (opened.1.images, armed.0, armed.1, opened.1.placed)
 ]
 
-pub replayed : (start between x : Image) (images : ImageList) (count : ℕ) → IsArmed images start → count ≡ length images
-    → IsDone images between × ArePlaced (map_of images) start.pages between.pages → DiffersInGate between x → is_open x.journal ≡ false → IsReplayed start count x
-replayed start between x images count armed all homes only closed = record {
-  images = images;
-  held = armed.held;
-  all = all;
-  placed = subst (λ (p : PageList). ArePlaced (map_of images) start.pages p) (sym only.pages) homes.1;
-  idle = has_idle x (idle_after_done images between x homes.0 only closed);
-}
-
 pub idle_settles : (x : Image) → gate_of x ≡ Idle → SettlesTo x x.pages
-idle_settles x idle =
-    let gate = idle_has x idle in
-    record { made = gate.made; has_gate = gate.has_gate; settled = inl (gate.gate, refl) }
+idle_settles x idle = let gate = idle_has x idle in record { made = gate.made; has_gate = gate.has_gate; settled = inl (gate.gate, refl) }
 
 pub armed_settles : (x : Image) (images : ImageList) → gate_of x ≡ Armed → HoldsImages x images → (pages : PageList) × SettlesTo x pages
 armed_settles x images is held =
@@ -177,7 +116,7 @@ armed_settles x images is held =
       record {
         made = gate.made;
         has_gate = gate.has_gate;
-        settled = inr (gate.gate, record { images = images; held = held; placed = armed_placed images x armed });
+        settled = inr (gate.gate, record { images = images; held = held; placed = armed_placed armed });
       },
     )
 
@@ -186,10 +125,8 @@ pub images_placed : (images : Images) (x : Image) → gate_of x ≡ Idle → Asc
     → ((page : ℕ) → IsSome (image_map images page) → length x.pages < page → IsSome (image_map images (page - 1)))
     → (pages : PageList) × ArePlaced (image_map images) x.pages pages
 images_placed images x idle ascend near =
-    let list : ImageList = image_list images in
-    let long = made_pages x.pages (idle_has x idle).made in
-    let after : PageList = with_images x.pages list in (
-      after,
-      subst (λ (m : PageMap). ArePlaced m x.pages after) (sym (image_map-is images))
-          (with_images-placed (length x.pages) 0 list x.pages (images_reach images (length x.pages) ascend near) (omega arith) (omega arith)),
+    let long = made_pages x.pages (idle_has x idle).made in (
+      with_images x.pages (image_list images),
+      subst (λ m. ArePlaced m x.pages (with_images x.pages (image_list images))) (sym (image_map-is images))
+          (with_images-placed (length x.pages) 0 _ x.pages (images_reach images (length x.pages) ascend near) (omega arith) (omega arith)),
     )

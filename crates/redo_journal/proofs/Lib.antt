@@ -1,12 +1,10 @@
 pub mod BodyLemmas
-pub mod BoxLemmas
 pub mod CallLemmas
 pub mod CommitLemmas
+pub mod Common
 pub mod GateLemmas
 pub mod GroupLemmas
-pub mod HomeLemmas
 pub mod ImageLemmas
-pub mod PhaseLemmas
 pub mod PlacingLemmas
 pub mod ReplayLemmas
 pub mod RestLemmas

@@ -1,8 +1,5 @@
-use Rattle.std.proofs.Common.{List, ℕ, subst}
-use Rattle.std.specs.Ordering.{nat_cmp}
-use Rattle.std.specs.List.Sorted.{IsStrictlySortedBy}
-use Rattle.redo_journal.proofs.BoxLemmas.{keys_in_boxes}
-use Rattle.redo_journal.proofs.ImageLemmas.{images_ascend}
+use Rattle.redo_journal.proofs.Common.{List, ℕ, subst, nat_cmp, IsStrictlySortedBy}
+use Rattle.redo_journal.proofs.ImageLemmas.{keys_in_boxes, images_ascend}
 use Rattle.redo_journal.proofs.committing.are_ordered.Goals as goal
 
 pub returns : goal.returns

@@ -1,9 +1,4 @@
-use Rattle.std.proofs.Common.{◌≡◌, ℕ, ◌+◌, ◌∷◌, [], ◌++◌, ◌∙◌, List, Option, ap, add-one, append_assoc, arith, drop, length, rules, subst, sym}
-use Rattle.std.specs.Prelude.{IfSome}
-use Rattle.std.proofs.lemmas.Grind.{common_steps}
-use Rattle.redo_journal.specs.Images.{coming}
-use Rattle.redo_journal.specs.Placing.{ImageList, homes_of}
-use Rattle.redo_journal.proofs.BodyLemmas.{next_drop}
+use Rattle.redo_journal.proofs.Common.{◌≡◌, ℕ, ◌+◌, ◌∷◌, [], ◌++◌, ◌∙◌, List, Option, ap, append_assoc, arith, drop, length, rules, subst, sym, IfSome, common_steps, drop-drop, coming, homes_of}
 use Rattle.redo_journal.proofs.committing.next_head.Goals as goal
 
 pub loop-preserved : goal.loop-preserved
@@ -17,11 +12,9 @@ loop-preserved c =
     let pushed : c.push.new.self.items ≡ c.loop.named.items ++ image.0 ∷ [] = search rules in
     record {
       left = omega arith;
-      rest = subst (λ (n : ℕ). drop n (coming c.args.homes.now) ≡ rest) (sym (add-one c.loop.counter))
-          (next_drop c.loop.counter image (coming c.args.homes.now) rest (inv.rest ∙ is));
-      all = ap (λ (s : List ℕ). s ++ homes_of rest) pushed
-          ∙ (append_assoc c.loop.named.items (image.0 ∷ []) (homes_of rest)
-          ∙ (ap (λ (s : ImageList). c.loop.named.items ++ homes_of s) (sym is) ∙ inv.all));
+      rest = sym (drop-drop 1 c.loop.counter (coming c.args.homes.now)) ∙ ap (drop 1) (inv.rest ∙ is);
+      all = ap (λ s. s ++ homes_of rest) pushed
+          ∙ (append_assoc c.loop.named.items (image.0 ∷ []) (homes_of rest) ∙ (ap (λ s. c.loop.named.items ++ homes_of s) (sym is) ∙ inv.all));
       len = grind (arith, common_steps);
       typed = grind (arith, common_steps);
     }

@@ -1,7 +1,4 @@
-use Rattle.std.proofs.Common.{◌≡◌, ◌+◌, ◌<◌, ◌≤◌, ◌++◌, ◌^◌, drop, length}
-use Rattle.std.specs.List.{All}
-use Rattle.redo_journal.specs.Images.{coming}
-use Rattle.redo_journal.specs.Placing.{homes_of}
+use Rattle.redo_journal.proofs.Common.{◌≡◌, ◌+◌, ◌<◌, ◌≤◌, ◌++◌, ◌^◌, drop, length, All, coming, homes_of}
 use Rattle.redo_journal.proofs.committing.next_head.Given as goal
 
 abbrev pub invariant-loop : goal.invariant-loop

@@ -1,10 +1,6 @@
-use Rattle.std.proofs.Common.{◌≡◌, ◌≤◌, ◌+◌, ◌*◌, IsTrue, length}
-use Rattle.page_disk.specs.Image.{Image}
-use Rattle.page_disk.specs.Calls.{WentOn}
-use Rattle.page_disk.specs.Since.{LeavesOnly}
-use Rattle.redo_journal.specs.Images.{coming, image_list}
-use Rattle.redo_journal.specs.Pending.{AtNewest, BodyPends, KeepsGate}
+use Rattle.redo_journal.proofs.Common.{◌≡◌, ◌≤◌, ◌+◌, ◌*◌, IsTrue, length, Image, WentOn, coming, image_list, AtNewest, BodyPends, KeepsGate}
 use Rattle.redo_journal.proofs.BodyLemmas.{WritesGroups}
+use Rattle.redo_journal.proofs.RestLemmas.{BodyGoes}
 use Rattle.redo_journal.proofs.committing.write_groups.Given as goal
 
 abbrev pub invariant-loop-left : goal.invariant-loop-left
@@ -18,8 +14,7 @@ invariant-loop-left g l =
       groups : WritesGroups (disk.tells l.fn.disk) (image_list l.fn.images) (disk.image l.disk).journal l.at (coming l.rest);
       room : IsTrue (disk.tells l.fn.disk) → l.at ≤ length (disk.image l.disk).journal;
       kept : IsTrue (disk.tells l.fn.disk) → KeepsGate (disk.image l.fn.disk) (disk.image l.disk);
-      pends : (start : Image) → AtNewest (BodyPends start) (disk.moments l.fn.disk)
-          → LeavesOnly (KeepsGate start) (disk.moments l.fn.disk) (disk.moments l.disk) × AtNewest (BodyPends start) (disk.moments l.disk);
+      pends : (start : Image) → AtNewest (BodyPends start) (disk.moments l.fn.disk) → BodyGoes start (disk.moments l.fn.disk) (disk.moments l.disk);
       went : WentOn disk 0 l.fn.disk l.disk;
     }
 

@@ -1,10 +1,5 @@
-use Rattle.std.proofs.Common.{◌≡◌, ◌≤◌, ◌+◌, ◌-◌, IsTrue, length, take, drop}
-use Rattle.page_disk.specs.Image.{Image}
-use Rattle.page_disk.specs.Calls.{WentOn}
-use Rattle.page_disk.specs.Since.{LeavesOnly}
-use Rattle.redo_journal.specs.Images.{coming}
-use Rattle.redo_journal.specs.Pending.{AtNewest, BodyPends, KeepsGate}
-use Rattle.redo_journal.specs.Placing.{bytes_of, with_row}
+use Rattle.redo_journal.proofs.Common.{◌≡◌, ◌≤◌, ◌+◌, ◌-◌, IsTrue, length, take, drop, Image, WentOn, coming, AtNewest, BodyPends, bytes_of, with_row}
+use Rattle.redo_journal.proofs.RestLemmas.{BodyGoes}
 use Rattle.redo_journal.proofs.committing.write_images.Given as goal
 
 abbrev pub invariant-loop-i : goal.invariant-loop-i
@@ -17,7 +12,6 @@ invariant-loop-i g l =
       pages : IsTrue (disk.tells l.disk) → (disk.image l.disk).pages ≡ (disk.image l.fn.disk).pages;
       journal : IsTrue (disk.tells l.disk) → with_row (disk.image l.disk).journal (l.at + l.i) (bytes_of (take (l.count - l.i) (coming l.images)))
           ≡ with_row (disk.image l.fn.disk).journal l.at (bytes_of (take l.count (coming l.fn.images)));
-      pends : (start : Image) → AtNewest (BodyPends start) (disk.moments l.fn.disk)
-          → LeavesOnly (KeepsGate start) (disk.moments l.fn.disk) (disk.moments l.disk) × AtNewest (BodyPends start) (disk.moments l.disk);
+      pends : (start : Image) → AtNewest (BodyPends start) (disk.moments l.fn.disk) → BodyGoes start (disk.moments l.fn.disk) (disk.moments l.disk);
       went : WentOn disk 0 l.fn.disk l.disk;
     }

@@ -1,5 +1,4 @@
-use Rattle.std.proofs.Common.{drop, ◌↔◌}
-use Rattle.redo_journal.specs.Placing.{AreInReach}
+use Rattle.redo_journal.proofs.Common.{drop, ◌↔◌, AreInReach}
 use Rattle.redo_journal.proofs.replaying.are_in_reach.Given as goal
 
 abbrev pub invariant-loop-home : goal.invariant-loop-home

@@ -1,6 +1,4 @@
-use Rattle.std.proofs.Common.{◌≡◌, ℕ, ◌+◌, ◌-◌, ◌<◌, ◌≤◌, IsTrue, length}
-use Rattle.redo_journal.specs.Placing.{ImageList}
-use Rattle.redo_journal.specs.Groups.{HoldsGroups, BreaksAt}
+use Rattle.redo_journal.proofs.Common.{◌≡◌, ℕ, ◌+◌, ◌-◌, ◌<◌, ◌≤◌, IsTrue, length, ImageList, HoldsGroups, BreaksAt}
 use Rattle.redo_journal.proofs.replaying.count_images.Given as goal
 
 abbrev pub invariant-groups : goal.invariant-groups

@@ -1,4 +1,4 @@
-use Rattle.std.proofs.Common.{arith}
+use Rattle.redo_journal.proofs.Common.{arith}
 use Rattle.redo_journal.proofs.tests.commit_row.Goals as goal
 
 pub commit-requires-clause-some : goal.commit-requires-clause-some

@@ -1,5 +1,4 @@
-use Rattle.std.proofs.Common.{ℕ, ◌<◌, ◌≤◌, ◌↔◌, IsSome}
-use Rattle.redo_journal.specs.Images.{image_map}
+use Rattle.redo_journal.proofs.Common.{ℕ, ◌<◌, ◌≤◌, ◌↔◌, IsSome, image_map}
 use Rattle.redo_journal.proofs.tests.images_from.Given as goal
 
 abbrev pub invariant-loop-page : goal.invariant-loop-page

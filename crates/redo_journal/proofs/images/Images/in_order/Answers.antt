@@ -1,9 +1,5 @@
-use Rattle.std.proofs.Common.{sym, subst}
-use Rattle.std.specs.Prelude.{IsTrue}
-use Rattle.redo_journal.specs.Boxed.{ascends, unboxed}
-use Rattle.redo_journal.specs.Placing.{homes_of}
-use Rattle.redo_journal.proofs.BoxLemmas.{BoxList, boxes_ascend}
-use Rattle.redo_journal.proofs.ImageLemmas.{image_map-is}
+use Rattle.redo_journal.proofs.Common.{sym, subst, IsTrue, ascends, unboxed, homes_of}
+use Rattle.redo_journal.proofs.ImageLemmas.{BoxList, boxes_ascend, image_map-is}
 use Rattle.redo_journal.proofs.images.Images.in_order.Goals as goal
 
 pub invariant_of-result : goal.invariant_of-result

@@ -1,5 +1,5 @@
-use Rattle.std.proofs.Common.{◌∙◌, sym}
-use Rattle.redo_journal.proofs.BoxLemmas.{length-unboxed}
+use Rattle.redo_journal.proofs.Common.{◌∙◌, sym}
+use Rattle.redo_journal.proofs.ImageLemmas.{length-unboxed}
 use Rattle.redo_journal.proofs.images.Images.len.Goals as goal
 
 pub returns-clause-all : goal.returns-clause-all
