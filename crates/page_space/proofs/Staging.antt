@@ -1,97 +1,88 @@
--- What an image more makes of a stage.
-use Rattle.std.proofs.Common.{◌≡◌, ◌⊎◌, ℕ, ◌≤◌, ◌==◌, List, Some, None, IsSome, refl, sym, ◌∙◌, ap, subst, inl, inr, arith}
-use Rattle.std.specs.Prelude.{Result, Ok, Err, OnOk, OnErr, unwrap_or, slice_index}
+-- What an image more makes of a stage: of its bytes, its map and its chain.
+use Rattle.std.proofs.Common.{◌≡◌, ◌≢◌, ℕ, ◌<◌, ◌≤◌, ◌∷◌, List, Some, IsSome, IsTrue, refl, ap, arith}
+use Rattle.std.specs.Prelude.{slice_index}
 use Rattle.std.proofs.Math.Path.{fun_ext}
-use Rattle.std.proofs.lemmas.Bool.{cases_eq, cond-true, cond-false, eq-eqb, ne_eqb}
-use Rattle.page_ports.specs.Pages.{PageMap, empty_map, put_page}
-use Rattle.page_ports.specs.FrameLaws.{KeepsPages-put}
+use Rattle.std.proofs.lemmas.Bool.Decides.{nat_tests}
+use Rattle.page_ports.specs.Chain.{TakesFirst}
+use Rattle.page_ports.specs.Pages.{PageMap, empty_map, put_page, remove_page, blank_bytes}
 use Rattle.page_disk.specs.Image.{PageList, page_at}
+use Rattle.page_layout.specs.FreePage.{IsTyped, free_page_page, next_fits}
+use Rattle.page_layout.specs.declared.free_page.FreePage.{FreePage}
+use Rattle.page_layout.specs.declared.meta.Meta.{Meta}
 use Rattle.redo_journal.specs.Placing.{placed_at}
 use Rattle.page_space.specs.Bytes.{PageBytes, bytes_with}
 use Rattle.page_space.specs.InUse.{pages_in_use}
-use Rattle.page_space.specs.InUseLaws.{in_use-agree, bytes_beside}
-use Rattle.page_space.specs.Chain.{FreeInOrder}
-use Rattle.page_space.specs.ChainLaws.{order_kept}
-
--- The image was put, or there was no memory and all is as before.
-abbrev pub IsPut : PageMap → PageMap → ℕ → List ℕ → Type 0
-IsPut old new page bytes = (new ≡ put_page old page bytes) ⊎ (new ≡ old)
-
-pub put_outcome : {T E : Type 0} (r : Result T E) (old new : PageMap) (page : ℕ) (bytes : List ℕ)
-    → OnOk r (new ≡ put_page old page bytes) → OnErr r (new ≡ old) → IsPut old new page bytes
-put_outcome (Ok x) old new page bytes ok err = inl ok
-put_outcome (Err x) old new page bytes ok err = inr err
-
--- Each image stays, perhaps with other bytes.
-pub put_keeps : (old new : PageMap) (page : ℕ) (bytes : List ℕ) → IsPut old new page bytes → (p : ℕ) → IsSome (old p) → IsSome (new p)
-put_keeps old new page bytes (inl e) p h = subst (λ (m : PageMap). IsSome (m p)) (sym e) (KeepsPages-put old page bytes p h)
-put_keeps old new page bytes (inr e) p h = subst (λ (m : PageMap). IsSome (m p)) (sym e) h
-
-put_adds : (old : PageMap) (page : ℕ) (bytes : List ℕ) (p : ℕ) → IsSome (put_page old page bytes p) → (p ≡ page) ⊎ IsSome (old p)
-put_adds old page bytes p h = elim (cases_eq page p) [
-  | inl same ↦ inl (sym same)
-  | inr differs ↦ inr (subst (λ o. IsSome o) (cond-false (page == p) (Some bytes) (old p) (ne_eqb page p differs)) h)
-]
-
--- No page has an image but those of before and this one.
-pub put_only : (old new : PageMap) (page : ℕ) (bytes : List ℕ) → IsPut old new page bytes → (p : ℕ) → IsSome (new p) → (p ≡ page) ⊎ IsSome (old p)
-put_only old new page bytes (inl e) p h = put_adds old page bytes p (subst (λ (m : PageMap). IsSome (m p)) e h)
-put_only old new page bytes (inr e) p h = inr (subst (λ (m : PageMap). IsSome (m p)) e h)
-
--- Images lie from the meta page on, up to this number.
-abbrev pub LieWithin : PageMap → ℕ → Type 0
-LieWithin images most = (p : ℕ) → IsSome (images p) → (2 ≤ p) × (p ≤ most)
-
-pub put_within : (old new : PageMap) (page : ℕ) (bytes : List ℕ) (most : ℕ) → IsPut old new page bytes → 2 ≤ page → page ≤ most
-    → LieWithin old most → LieWithin new most
-put_within old new page bytes most put low high within p h = elim (put_only old new page bytes put p h) [
-  | inl same ↦ (let e : p ≡ page = same in omega arith, let e : p ≡ page = same in omega arith)
-  | inr before ↦ within p before
-]
-
-pub put_here : (old : PageMap) (page : ℕ) (bytes : List ℕ) → put_page old page bytes page ≡ Some bytes
-put_here old page bytes = cond-true (page == page) (Some bytes) (old page) (eq-eqb page page refl)
+use Rattle.page_space.specs.InUseLaws.{in_use-put, in_use-remove, there_in_use}
+use Rattle.page_space.specs.Chain.{FreeInOrder, chain_from}
+use Rattle.page_space.specs.ChainLaws.{free_kind, order_beside}
+use Rattle.page_space.proofs.Walking.{beside_walk, chain_given}
 
 -- The bytes are as before but for this page.
 pub placed_with : (old : PageMap) (pages : PageList) (page : ℕ) (bytes : List ℕ)
     → placed_at (put_page old page bytes) pages ≡ bytes_with (placed_at old pages) page bytes
-placed_with old pages page bytes = fun_ext (λ p. elim (cases_eq page p) [
-  | inl same ↦ subst (λ q. placed_at (put_page old page bytes) pages q ≡ bytes_with (placed_at old pages) page bytes q) same
-      (ap (λ o. unwrap_or o (page_at pages page)) (put_here old page bytes)
-      ∙ sym (cond-true (page == page) bytes (placed_at old pages page) (eq-eqb page page refl)))
-  | inr differs ↦ ap (λ o. unwrap_or o (page_at pages p)) (cond-false (page == p) (Some bytes) (old p) (ne_eqb page p differs))
-      ∙ sym (cond-false (page == p) bytes (placed_at old pages p) (ne_eqb page p differs))
-])
-
-pub none_within : (images : PageMap) (most : ℕ) → images ≡ empty_map → LieWithin images most
-none_within images most e p h = let none : IsSome {T = List ℕ} None = subst (λ (m : PageMap). IsSome (m p)) e h in cc
+placed_with old pages page bytes = fun_ext (λ p. grind (arith, nat_tests))
 
 -- Without images all is as the disk has it.
-pub none_map : (images : PageMap) (pages : PageList) (m n : ℕ) → images ≡ empty_map → n ≡ m
-    → pages_in_use (placed_at images pages) n ≡ pages_in_use (page_at pages) m
-none_map images pages m n e same =
-    ap (λ (i : PageMap). pages_in_use (placed_at i pages) n) e ∙ ap (λ (k : ℕ). pages_in_use (page_at pages) k) same
+pub none_put : (images : PageMap) (pages : PageList) (old new : Meta) → images ≡ empty_map → new ≡ old
+    → (pages_in_use (placed_at images pages) new.allotted ≡ pages_in_use (page_at pages) old.allotted)
+    × (chain_from (placed_at images pages) new.allotted new.free ≡ chain_from (page_at pages) old.allotted old.free)
+    × (FreeInOrder (page_at pages) old.allotted old.free → FreeInOrder (placed_at images pages) new.allotted new.free)
+none_put images pages old new none same = rw (none, same) (refl, refl, λ h. h)
 
-pub none_order : (images : PageMap) (pages : PageList) (m n first start : ℕ) → images ≡ empty_map → n ≡ m → start ≡ first
-    → FreeInOrder (page_at pages) m first → FreeInOrder (placed_at images pages) n start
-none_order images pages m n first start e same begin h =
-    subst (λ (i : PageMap). FreeInOrder (placed_at i pages) n start) (sym e)
-    (subst (λ k. FreeInOrder (page_at pages) k start) (sym same)
-    (subst (λ k. FreeInOrder (page_at pages) m k) (sym begin) h))
+pub put_there : (old new : PageMap) (page : ℕ) (bytes : List ℕ) → new ≡ put_page old page bytes → new page ≡ Some bytes
+put_there old new page bytes put = rw put (grind (arith, nat_tests))
 
 -- The meta page is neither in use nor free.
-module _ (old new : PageMap) (pages : PageList) (bytes : List ℕ) (put : new ≡ put_page old 2 bytes) where
-  bytes_are : placed_at new pages ≡ bytes_with (placed_at old pages) 2 bytes
-  bytes_are = ap (λ (i : PageMap). placed_at i pages) put ∙ placed_with old pages 2 bytes
+pub meta_put : (b c : PageBytes) (bytes : List ℕ) (m first : ℕ) → c ≡ bytes_with b 2 bytes
+    → (pages_in_use c m ≡ pages_in_use b m) × (chain_from c m first ≡ chain_from b m first) × (FreeInOrder b m first → FreeInOrder c m first)
+meta_put b c bytes m first changed = rw changed (
+  fun_ext (λ p. grind (arith, nat_tests)),
+  beside_walk b 2 bytes m m first refl refl,
+  order_beside b 2 bytes m m first (omega arith) (λ free leads. omega (arith, leads.low)),
+)
 
-  same_above : (p : ℕ) → 3 ≤ p → placed_at new pages p ≡ placed_at old pages p
-  same_above p low = ap (λ (b : PageBytes). b p) bytes_are ∙ bytes_beside (placed_at old pages) 2 bytes p (λ e. omega arith)
+-- A page in use gets other bytes.
+abbrev pub UsedPut : PageBytes → PageBytes → ℕ → List ℕ → Meta → Meta → Type 0
+UsedPut b c page image old new =
+    (pages_in_use c new.allotted ≡ put_page (pages_in_use b old.allotted) page image)
+    × (chain_from c new.allotted new.free ≡ chain_from b old.allotted old.free)
+    × (FreeInOrder b old.allotted old.free → FreeInOrder c new.allotted new.free)
 
-  pub meta_map : (allotted : ℕ) → pages_in_use (placed_at new pages) allotted ≡ pages_in_use (placed_at old pages) allotted
-  meta_map allotted = fun_ext (λ p. in_use-agree (placed_at new pages) (placed_at old pages) allotted allotted p
-      (λ h. (record { low = h.low; high = h.high; kind = λ e. h.kind (ap (λ (x : List ℕ). slice_index x 0) (same_above p h.low) ∙ e) }, sym (same_above p h.low)))
-      (λ h. record { low = h.low; high = h.high; kind = λ e. h.kind (ap (λ (x : List ℕ). slice_index x 0) (sym (same_above p h.low)) ∙ e) }))
+pub used_put : (b c : PageBytes) (page : ℕ) (image : List ℕ) (old new : Meta) → new ≡ old → c ≡ bytes_with b page image
+    → IsSome (pages_in_use b old.allotted page) → slice_index image 0 ≢ 9 → UsedPut b c page image old new
+used_put b c page image old new same changed there kind = let used = there_in_use b old.allotted page there in rw (same, changed) (
+  in_use-put b page image old.allotted old.allotted (omega arith) (λ p differs within. within) used.low used.high kind,
+  beside_walk b page image old.allotted old.allotted old.free (grind (arith, nat_tests)) (grind (arith, nat_tests)),
+  order_beside b page image old.allotted old.allotted old.free (omega arith) (λ free leads. used.kind (free_kind (b page) free leads.is_free)),
+)
 
-  pub meta_order : (allotted first : ℕ) → FreeInOrder (placed_at old pages) allotted first → FreeInOrder (placed_at new pages) allotted first
-  meta_order allotted first h = order_kept (placed_at old pages) (placed_at new pages) allotted allotted first (omega arith)
-      (λ p free leads. same_above p leads.low) h
+-- A page is given out, all zeros.
+abbrev pub BlankPut : PageBytes → PageBytes → ℕ → ℕ → ℕ → ℕ → List ℕ → Type 0 → Type 0
+BlankPut b c page m n first before ordered =
+    (pages_in_use c n ≡ put_page (pages_in_use b m) page blank_bytes)
+    × (ordered → TakesFirst before page (chain_from c n first) m n) × (ordered → FreeInOrder c n first)
+
+pub blank_put : (b c : PageBytes) (page m n first : ℕ) (before : List ℕ) (ordered : Type 0) → c ≡ bytes_with b page blank_bytes
+    → m ≤ n → ((p : ℕ) → page ≢ p → p < n → p < m) → 3 ≤ page → page < n
+    → (ordered → TakesFirst before page (chain_from (bytes_with b page blank_bytes) n first) m n)
+    → (ordered → FreeInOrder (bytes_with b page blank_bytes) n first) → BlankPut b c page m n first before ordered
+unfolding blank_bytes
+blank_put b c page m n first before ordered changed more only low high takes order =
+    rw changed (in_use-put b page blank_bytes m n more only low high (λ e. omega arith), takes, order)
+
+-- A page in use becomes the first of the free ones.
+abbrev pub FreePut : PageBytes → PageBytes → ℕ → Meta → Meta → Type 0
+FreePut b c page old new =
+    (pages_in_use c new.allotted ≡ remove_page (pages_in_use b old.allotted) page)
+    × (FreeInOrder b old.allotted old.free → (chain_from c new.allotted page ≡ page ∷ chain_from b old.allotted old.free) × FreeInOrder c new.allotted page)
+
+pub free_put : (b c : PageBytes) (page : ℕ) (image : List ℕ) (old new : Meta) (free : FreePage) → new ≡ old → c ≡ bytes_with b page image
+    → free ≡ record { next = old.free } → IsTrue (next_fits old.free) → IsTyped free → image ≡ free_page_page free → IsSome (pages_in_use b old.allotted page)
+    → FreePut b c page old new
+free_put b c page image old new free same changed is rules typed spelled there =
+    let used = there_in_use b old.allotted page there in
+    rw (same, changed) (
+      in_use-remove b page image old.allotted old.allotted (omega arith) (λ p differs within. within) (ap (λ (x : List ℕ). slice_index x 0) spelled),
+      chain_given b page image old.allotted (record { next = old.free }) used.low used.high (record { rules = rules; typed = rw is at typed; spelled = rw is at spelled })
+          (λ f leads. used.kind (free_kind (b page) f leads.is_free)),
+    )

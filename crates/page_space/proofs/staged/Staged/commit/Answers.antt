@@ -1,30 +1,16 @@
-use Rattle.std.proofs.Common.{◌≡◌, false, sym, ◌∙◌, refl, IsTrue}
-use Rattle.std.specs.Prelude.{is_err}
-use Rattle.redo_journal.specs.Images.{image_map}
-use Rattle.page_cache.specs.Cache.{kept_pages}
-use Rattle.page_space.specs.Space.{IsSpace}
-use Rattle.page_space.specs.Shown.{staged_map, IsStagedInOrder}
+use Rattle.std.proofs.Common.{refl, sym, IsTrue}
 use Rattle.page_space.proofs.Giving.{on_ok}
 use Rattle.page_space.proofs.Renewing.{renewed_agrees}
 use Rattle.page_space.proofs.Settled.{idle_settles}
 use Rattle.page_space.proofs.Walking.{next_chain}
-use Rattle.page_space.proofs.Standing.{next_of, holds_either}
+use Rattle.page_space.proofs.Standing.{IsNext, next_of, holds_either}
 use Rattle.page_space.proofs.staged.Staged.commit.Goals as goal
 
 pub returns-then-is_err-clause-any_moment : goal.returns-then-is_err-clause-any_moment
-returns-then-is_err-clause-any_moment g c = λ told.
-    holds_either c.args.self _ (g.D.Disk.moments c.commit.new.disk) told c.requires c.commit.ensures.any_moment
+returns-then-is_err-clause-any_moment g c = λ told. holds_either c.args.self _ _ told c.requires c.commit.ensures.any_moment
 
--- The commit was Ok.
-fine : (g : _) (c : goal.After-renew_all g) → is_err c.commit.result ≡ false
-fine g c = sym c.is_err.ensures.value ∙ c.if-is_err.false
-
-before : (g : _) (c : goal.After-renew_all g) → IsTrue (g.D.Disk.tells c.commit.new.disk) → IsTrue (g.D.Disk.tells c.args.self.space.disk)
-before g c told = sym c.commit.ensures.writes.tells ∙ told
-
-next : (g : _) (c : goal.After-renew_all g) → IsTrue (g.D.Disk.tells c.commit.new.disk)
-    → IsSpace (g.D.Disk.image c.commit.new.disk).pages c.args.self.space.params c.args.self.meta (staged_map c.args.self) (IsStagedInOrder c.args.self)
-next g c told = next_of c.args.self c.commit.result _ (fine g c) c.commit.ensures.placed c.requires (before g c told)
+next : (g : _) (c : goal.After-renew_all g) → IsTrue (g.D.Disk.tells c.commit.new.disk) → IsNext c.args.self (g.D.Disk.image c.commit.new.disk).pages
+next g c told = next_of c.args.self c.commit.result _ (cc) c.commit.ensures.placed c.requires (cc)
 
 pub invariant_of-result-clause-rules : goal.invariant_of-result-clause-rules
 invariant_of-result-clause-rules g c = c.requires.rules
@@ -39,42 +25,34 @@ pub invariant_of-result-clause-there : goal.invariant_of-result-clause-there
 invariant_of-result-clause-there g c = λ told. (next g c told).there
 
 pub invariant_of-result-clause-idle : goal.invariant_of-result-clause-idle
-invariant_of-result-clause-idle g c = λ told. on_ok c.commit.result _ (fine g c) c.commit.ensures.idle (before g c told)
+invariant_of-result-clause-idle g c = λ told. on_ok c.commit.result _ (cc) c.commit.ensures.idle (cc)
 
 pub invariant_of-result-clause-settled : goal.invariant_of-result-clause-settled
-invariant_of-result-clause-settled g c = on_ok c.commit.result _ (fine g c) c.commit.ensures.settled
+invariant_of-result-clause-settled g c = on_ok c.commit.result _ (cc) c.commit.ensures.settled
 
 pub invariant_of-result-clause-agrees : goal.invariant_of-result-clause-agrees
 invariant_of-result-clause-agrees g c = λ told.
-    renewed_agrees (image_map c.args.self.images) (kept_pages c.args.self.space.cache) (kept_pages c.renew_all.new.cache)
-    (g.D.Disk.image c.args.self.space.disk).pages (g.D.Disk.image c.commit.new.disk).pages
-    (on_ok c.commit.result _ (fine g c) c.commit.ensures.placed (before g c told))
-    c.renew_all.ensures.pages (c.args.self.space.agrees (before g c told))
+    renewed_agrees _ _ _ _ _ (on_ok c.commit.result _ (cc) c.commit.ensures.placed (cc)) c.renew_all.ensures.pages (c.args.self.space.agrees (cc))
 
 -- the space of the stage, at the return
-made : (g : _) (c : goal.After-drop-images-2 g) → IsTrue (g.D.Disk.tells c.args.self.space.disk)
-    → IsSpace (g.D.Disk.image c.commit.new.disk).pages c.args.self.space.params c.args.self.meta (staged_map c.args.self) (IsStagedInOrder c.args.self)
-made g c told = next_of c.args.self c.commit.result _ (sym c.is_err.ensures.value ∙ c.if-is_err.false) c.commit.ensures.placed c.requires told
+made : (g : _) (c : goal.After-drop-images-2 g) → IsTrue (g.D.Disk.tells c.args.self.space.disk) → IsNext c.args.self (g.D.Disk.image c.commit.new.disk).pages
+made g c told = next_of c.args.self c.commit.result _ (cc) c.commit.ensures.placed c.requires told
 
 pub returns-clause-map : goal.returns-clause-map
 returns-clause-map g c = λ told. sym (made g c told).in_use
 
 pub returns-clause-chain : goal.returns-clause-chain
-returns-clause-chain g c = λ told.
-    next_chain (image_map c.args.self.images) (g.D.Disk.image c.args.self.space.disk).pages (g.D.Disk.image c.commit.new.disk).pages
-    (on_ok c.commit.result _ (sym c.is_err.ensures.value ∙ c.if-is_err.false) c.commit.ensures.placed told)
-    c.args.self.meta.allotted c.args.self.meta.free (made g c told).there
+returns-clause-chain g c = λ told. next_chain _ _ _ (on_ok c.commit.result _ (cc) c.commit.ensures.placed told) c.args.self.meta.allotted c.args.self.meta.free (made g c told).there
 
 pub returns-clause-in_order : goal.returns-clause-in_order
-returns-clause-in_order g c = λ told h. (made g c told).in_order h
+returns-clause-in_order g c = λ told. (made g c told).in_order
 
 pub returns-clause-holds : goal.returns-clause-holds
 returns-clause-holds g c = λ told. let s = made g c told in record {
   pages = (g.D.Disk.image c.commit.new.disk).pages;
-  settled = idle_settles (g.D.Disk.image c.commit.new.disk) (on_ok c.commit.result _ (sym c.is_err.ensures.value ∙ c.if-is_err.false) c.commit.ensures.idle told);
+  settled = idle_settles (g.D.Disk.image c.commit.new.disk) (on_ok c.commit.result _ (cc) c.commit.ensures.idle told);
   space = record { superblock = s.superblock; roots = s.roots; there = s.there; few = s.few; in_use = refl; in_order = s.in_order };
 }
 
 pub returns-clause-any_moment : goal.returns-clause-any_moment
-returns-clause-any_moment g c = λ told.
-    holds_either c.args.self _ (g.D.Disk.moments c.commit.new.disk) told c.requires c.commit.ensures.any_moment
+returns-clause-any_moment g c = λ told. holds_either c.args.self _ _ told c.requires c.commit.ensures.any_moment
