@@ -1,61 +1,43 @@
 -- The entries of a node that is read in place, one after another.
-use Rattle.std.proofs.Common.{◌≡◌, ℕ, suc, ◌+◌, ◌-◌, ◌<◌, ◌≤◌, inl, inr, ◌≢◌, List, [], ◌∷◌, ◌++◌, length, get_or, take, sym, ap, ◌∙◌, subst, arith, length-drop}
-use Rattle.std.specs.List.{All, AllAdjacentBelow}
-use Rattle.std.proofs.Math.Seq.{take-suc}
-use Rattle.std.proofs.lemmas.List.{get_or-drop}
-use Rattle.std.proofs.lemmas.List.Elements.{All-push}
-use Rattle.std.proofs.lemmas.List.Sorted.{IsNonDecreasingBy-from_all_adjacent}
-use Rattle.page_layout.specs.declared.sb_node.SbNode.{SbNode}
-use Rattle.page_layout.specs.declared.sb_node.SbEntry.{SbEntry}
-use Rattle.sb_tree.specs.declared.place.Place.{Place}
-use Rattle.sb_tree.specs.Cut.{HaveBegun, IsCut}
-use Rattle.sb_tree.specs.Damage.{IsInPlace}
-use Rattle.sb_tree.specs.Stands.{first_low}
+use Rattle.sb_tree.proofs.Common.{◌≡◌, ℕ, suc, ◌+◌, ◌-◌, ◌<◌, ◌≤◌, inl, inr, ◌≢◌, List, [], ◌∷◌, ◌++◌, length, get_or, take, sym, ap, ◌∙◌, arith, length-drop, All, AllAdjacentBelow, take-suc, get_or-drop, All-push, IsNonDecreasingBy-from_all_adjacent, SbNode, SbEntry, Place, HaveBegun, IsCut, IsInPlace, first_low}
 
 -- the entries ascend
 abbrev pub InOrder : List SbEntry → Type 0
 InOrder es = AllAdjacentBelow (λ (e next : SbEntry). e.low < next.low) es (length es)
 
 rising : (es : List SbEntry) → InOrder es → (i j : ℕ) (d : SbEntry) → i ≤ j → j < length es → (get_or es i d).low ≤ (get_or es j d).low
-rising es order = IsNonDecreasingBy-from_all_adjacent (λ (e : SbEntry). e.low) es (λ k d h. omega (arith, order k d h))
+rising es order = IsNonDecreasingBy-from_all_adjacent (λ e. e.low) es (λ k d h. omega (arith, order k d h))
 
 -- one more entry has begun
 pub one_begun : (es : List SbEntry) (i v : ℕ) (e : SbEntry) → i < length es → ((d : SbEntry) → e ≡ get_or es i d) → HaveBegun v (take i es) → e.low ≤ v
     → HaveBegun v (take (i + 1) es)
 one_begun es i v e lt is_e begun here =
     let next : i + 1 ≡ suc i = omega arith in
-    let one : take (i + 1) es ≡ take i es ++ e ∷ [] = ap (λ (n : ℕ). take n es) next ∙ take-suc es i e lt ∙ ap (λ (x : SbEntry). take i es ++ x ∷ []) (sym (is_e e)) in
-    subst (λ (xs : List SbEntry). HaveBegun v xs) (sym one) (All-push (λ (x : SbEntry). x.low ≤ v) (take i es) e begun here)
+    let one : take (i + 1) es ≡ take i es ++ e ∷ [] = ap (λ n. take n es) next ∙ take-suc es i e lt ∙ ap (λ x. take i es ++ x ∷ []) (sym (is_e e)) in
+    rw one (All-push (λ (x : SbEntry). x.low ≤ v) (take i es) e begun here)
 
 -- the entries are cut before the first that has not begun
 pub cut_here : (es : List SbEntry) (i v : ℕ) (e : SbEntry) → InOrder es → i < length es → ((d : SbEntry) → e ≡ get_or es i d) → HaveBegun v (take i es) → v < e.low → IsCut es i v
-cut_here es i v e order lt is_e begun here = record {
-  bound = omega arith;
-  begun = begun;
-  later = λ k d h.
-      let same = get_or-drop i es k d in
-      let first : (get_or es i d).low ≡ e.low = ap (λ (x : SbEntry). x.low) (sym (is_e d)) in
-      subst (λ (x : SbEntry). v < x.low) (sym same) (omega (arith, first, rising es order i (i + k) d (omega arith) (omega (arith, length-drop i es))));
-}
+cut_here es i v e order lt is_e begun here = grind (arith, get_or-drop, rising, length-drop)
 
 -- where the first entry begins and the last one begins
 module _ (node : SbNode) (place : Place) (level : ℕ) (first last : SbEntry) (order : InOrder node.entries.items) (some : 1 ≤ length node.entries.items)
     (is_first : (d : SbEntry) → first ≡ get_or node.entries.items 0 d) (is_last : (d : SbEntry) → last ≡ get_or node.entries.items (length node.entries.items - 1) d) where
   first_low-is : (es : List SbEntry) (high : ℕ) → 1 ≤ length es → ((d : SbEntry) → first ≡ get_or es 0 d) → first_low es high ≡ first.low
   first_low-is [] high has is_it = absurd (omega arith)
-  first_low-is (e ∷ es) high has is_it = ap (λ (x : SbEntry). x.low) (sym (is_it e))
+  first_low-is (e ∷ es) high has is_it = ap (λ x. x.low) (sym (is_it e))
 
-  pub begins_within : place.low ≤ first.low → All (λ (e : SbEntry). place.low ≤ e.low) node.entries.items
-  begins_within h = λ k d lt. omega (arith, h, ap (λ (x : SbEntry). x.low) (is_first d), rising node.entries.items order 0 k d (omega arith) lt)
+  pub begins_within : place.low ≤ first.low → All (λ e. place.low ≤ e.low) node.entries.items
+  begins_within h = λ k d lt. omega (arith, h, ap (λ x. x.low) (is_first d), rising node.entries.items order 0 k d (omega arith) lt)
 
-  pub ends_within : last.low < place.high → All (λ (e : SbEntry). e.low < place.high) node.entries.items
-  ends_within h = λ k d lt. omega (arith, h, ap (λ (x : SbEntry). x.low) (is_last d), rising node.entries.items order k (length node.entries.items - 1) d (omega arith) (omega arith))
+  pub ends_within : last.low < place.high → All (λ e. e.low < place.high) node.entries.items
+  ends_within h = λ k d lt. omega (arith, h, ap (λ x. x.low) (is_last d), rising node.entries.items order k (length node.entries.items - 1) d (omega arith) (omega arith))
 
   pub begins_there : IsInPlace level place node → place.low ≤ first.low
-  begins_there p = omega (arith, p.from 0 first (omega arith), ap (λ (x : SbEntry). x.low) (is_first first))
+  begins_there p = omega (arith, p.from 0 first (omega arith), ap (λ x. x.low) (is_first first))
 
   pub ends_there : IsInPlace level place node → last.low < place.high
-  ends_there p = omega (arith, p.below (length node.entries.items - 1) last (omega arith), ap (λ (x : SbEntry). x.low) (is_last last))
+  ends_there p = omega (arith, p.below (length node.entries.items - 1) last (omega arith), ap (λ x. x.low) (is_last last))
 
   pub leads_there : IsInPlace level place node → level ≢ 1 → first.low ≤ place.sought
   leads_there p index = elim p.leads [

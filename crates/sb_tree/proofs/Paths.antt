@@ -1,15 +1,6 @@
 -- The entries of a node, cut at the path of a version: those before the path's entry, that entry, and
 -- those after it, which begin above the version.
-use Rattle.std.proofs.Common.{◌≡◌, ℕ, zero, suc, ◌+◌, ◌-◌, ◌<◌, ◌≤◌, List, [], ◌∷◌, ◌++◌, length, get_or, take, drop, nat_le, cond, true, false, refl, sym, ap, ◌∙◌, subst, arith, drop-cons}
-use Rattle.std.specs.List.{All, sum_by}
-use Rattle.std.proofs.lemmas.Bool.{le-leb, lt-leb}
-use Rattle.std.proofs.lemmas.List.{get_or-take, length-take, take-append-drop, drop_all}
-use Rattle.std.proofs.lemmas.List.Sums.{sum_by-append, sum_by-cons}
-use Rattle.page_layout.specs.declared.sb_node.SbEntry.{SbEntry}
-use Rattle.sb_tree.specs.Steps.{begun_value, child_from, child_at}
-use Rattle.sb_tree.specs.Cut.{HaveBegun, BeginLater, IsCut}
-use Rattle.sb_tree.specs.Stands.{first_low}
-use Rattle.sb_tree.specs.Damage.{low_from, next_from}
+use Rattle.sb_tree.proofs.Common.{◌≡◌, ℕ, zero, suc, ◌+◌, ◌-◌, ◌<◌, ◌≤◌, List, [], ◌∷◌, ◌++◌, length, get_or, take, drop, nat_le, cond, true, refl, sym, ap, ◌∙◌, arith, drop-cons, rules, All, sum_by, get_or-take, length-take, take-append-drop, drop_all, sum_by-append, sum_by-cons, SbEntry, begun_value, child_from, child_at, HaveBegun, BeginLater, IsCut, first_low, low_from, next_from}
 
 pub All-head : {X : Type 0} (P : X → Type 0) (x : X) (xs : List X) → All P (x ∷ xs) → P x
 All-head P x xs all = all 0 x (omega arith)
@@ -26,16 +17,13 @@ begun_value-cons e es v = sum_by-cons (λ e. cond (nat_le e.low v) e.value 0) e 
 pub begun_value-begun : (es : List SbEntry) (v : ℕ) → HaveBegun v es → begun_value es v ≡ sum_by (λ e. e.value) es
 begun_value-begun [] v all = refl
 begun_value-begun (e ∷ es) v all =
-    let here : nat_le e.low v ≡ true = le-leb e.low v (All-head (λ (e : SbEntry). e.low ≤ v) e es all) in
-    let rest = begun_value-begun es v (All-tail (λ (e : SbEntry). e.low ≤ v) e es all) in
-    begun_value-cons e es v ∙ (rw (here, rest) refl) ∙ sym (sum_by-cons (λ (e : SbEntry). e.value) e es)
+    let here : nat_le e.low v ≡ true = search (rules, All-head) in
+    let rest = begun_value-begun es v (All-tail (λ e. e.low ≤ v) e es all) in
+    begun_value-cons e es v ∙ (rw (here, rest) refl) ∙ sym (sum_by-cons (λ e. e.value) e es)
 
 pub begun_value-later : (es : List SbEntry) (v : ℕ) → BeginLater v es → begun_value es v ≡ 0
 begun_value-later [] v all = refl
-begun_value-later (e ∷ es) v all =
-    let here : nat_le e.low v ≡ false = lt-leb e.low v (All-head (λ (e : SbEntry). v < e.low) e es all) in
-    let rest = begun_value-later es v (All-tail (λ (e : SbEntry). v < e.low) e es all) in
-    begun_value-cons e es v ∙ (rw (here, rest) refl)
+begun_value-later (e ∷ es) v all = grind (arith, All-head, begun_value-later es v (All-tail (λ e. v < e.low) e es all))
 
 pub child_from-append : (c : ℕ) (xs ys : List SbEntry) (v : ℕ) → child_from c (xs ++ ys) v ≡ child_from (child_from c xs v) ys v
 child_from-append c [] ys v = refl
@@ -43,9 +31,7 @@ child_from-append c (x ∷ xs) ys v = child_from-append (cond (nat_le x.low v) x
 
 pub child_from-later : (c : ℕ) (es : List SbEntry) (v : ℕ) → BeginLater v es → child_from c es v ≡ c
 child_from-later c [] v all = refl
-child_from-later c (e ∷ es) v all =
-    let here : nat_le e.low v ≡ false = lt-leb e.low v (All-head (λ (e : SbEntry). v < e.low) e es all) in
-    rw here (child_from-later c es v (All-tail (λ (e : SbEntry). v < e.low) e es all))
+child_from-later c (e ∷ es) v all = grind (arith, All-head, child_from-later c es v (All-tail (λ e. v < e.low) e es all))
 
 pub low_from-append : (c : ℕ) (xs ys : List SbEntry) (v : ℕ) → low_from c (xs ++ ys) v ≡ low_from (low_from c xs v) ys v
 low_from-append c [] ys v = refl
@@ -53,21 +39,15 @@ low_from-append c (x ∷ xs) ys v = low_from-append (cond (nat_le x.low v) x.low
 
 pub low_from-later : (c : ℕ) (es : List SbEntry) (v : ℕ) → BeginLater v es → low_from c es v ≡ c
 low_from-later c [] v all = refl
-low_from-later c (e ∷ es) v all =
-    let here : nat_le e.low v ≡ false = lt-leb e.low v (All-head (λ (e : SbEntry). v < e.low) e es all) in
-    rw here (low_from-later c es v (All-tail (λ (e : SbEntry). v < e.low) e es all))
+low_from-later c (e ∷ es) v all = grind (arith, All-head, low_from-later c es v (All-tail (λ e. v < e.low) e es all))
 
 pub next_from-begun : (xs ys : List SbEntry) (v high : ℕ) → HaveBegun v xs → next_from (xs ++ ys) v high ≡ next_from ys v high
 next_from-begun [] ys v high all = refl
-next_from-begun (e ∷ es) ys v high all =
-    let here : nat_le e.low v ≡ true = le-leb e.low v (All-head (λ (e : SbEntry). e.low ≤ v) e es all) in
-    rw here (next_from-begun es ys v high (All-tail (λ (e : SbEntry). e.low ≤ v) e es all))
+next_from-begun (e ∷ es) ys v high all = grind (arith, All-head, next_from-begun es ys v high (All-tail (λ e. e.low ≤ v) e es all))
 
 pub next_from-later : (es : List SbEntry) (v high : ℕ) → BeginLater v es → next_from es v high ≡ first_low es high
 next_from-later [] v high all = refl
-next_from-later (e ∷ es) v high all =
-    let here : nat_le e.low v ≡ false = lt-leb e.low v (All-head (λ (e : SbEntry). v < e.low) e es all) in
-    rw here refl
+next_from-later (e ∷ es) v high all = grind (arith, All-head)
 
 -- The path of the version goes by the entry `at`.
 pub record GoesBy (entries before : List SbEntry) (at : SbEntry) (after : List SbEntry) (v : ℕ) : Type 0 where
@@ -77,28 +57,13 @@ pub record GoesBy (entries before : List SbEntry) (at : SbEntry) (after : List S
   pub later : BeginLater v after
 
 pub child_at-path : (entries before : List SbEntry) (at : SbEntry) (after : List SbEntry) (v : ℕ) → GoesBy entries before at after v → child_at entries v ≡ at.child
-child_at-path entries before at after v p =
-    let here : nat_le at.low v ≡ true = le-leb at.low v p.here in
-    ap (λ es. child_from 0 es v) p.whole ∙ child_from-append 0 before (at ∷ after) v ∙ (rw here (child_from-later at.child after v p.later))
+child_at-path entries before at after v p = grind (arith, child_from-append, child_from-later)
 
 pub low_from-path : (entries before : List SbEntry) (at : SbEntry) (after : List SbEntry) (v low : ℕ) → GoesBy entries before at after v → low_from low entries v ≡ at.low
-low_from-path entries before at after v low p =
-    let here : nat_le at.low v ≡ true = le-leb at.low v p.here in
-    ap (λ es. low_from low es v) p.whole ∙ low_from-append low before (at ∷ after) v ∙ (rw here (low_from-later at.low after v p.later))
+low_from-path entries before at after v low p = grind (arith, low_from-append, low_from-later)
 
 pub next_from-path : (entries before : List SbEntry) (at : SbEntry) (after : List SbEntry) (v high : ℕ) → GoesBy entries before at after v → next_from entries v high ≡ first_low after high
-next_from-path entries before at after v high p =
-    let here : nat_le at.low v ≡ true = le-leb at.low v p.here in
-    ap (λ es. next_from es v high) p.whole ∙ next_from-begun before (at ∷ after) v high p.begun ∙ (rw here (next_from-later after v high p.later))
-
-pub begun_value-path : (entries before : List SbEntry) (at : SbEntry) (after : List SbEntry) (v : ℕ) → GoesBy entries before at after v
-    → begun_value entries v ≡ sum_by (λ e. e.value) before + at.value
-begun_value-path entries before at after v p =
-    let here : nat_le at.low v ≡ true = le-leb at.low v p.here in
-    let first = begun_value-begun before v p.begun in
-    let last = begun_value-later after v p.later in
-    let mid : begun_value (at ∷ after) v ≡ at.value = begun_value-cons at after v ∙ (rw (here, last) (omega arith)) in
-    ap (λ es. begun_value es v) p.whole ∙ begun_value-append before (at ∷ after) v ∙ (rw (first, mid) refl)
+next_from-path entries before at after v high p = grind (arith, next_from-begun)
 
 pub begun_value-cut : (entries : List SbEntry) (k v : ℕ) → IsCut entries k v → begun_value entries v ≡ sum_by (λ e. e.value) (take k entries)
 begun_value-cut entries k v c =
@@ -110,16 +75,16 @@ begun_value-cut entries k v c =
 pub GoesBy-cut : (entries : List SbEntry) (k v : ℕ) (d : SbEntry) → IsCut entries (suc k) v
     → GoesBy entries (take k entries) (get_or entries k d) (drop (suc k) entries) v
 GoesBy-cut entries k v d c = record {
-  whole = sym (take-append-drop k entries) ∙ ap (λ es. take k entries ++ es) (drop-cons entries k d (omega (arith, c.bound)));
+  whole = search (rules, take-append-drop, drop-cons);
   begun = λ j e h.
-      let same : get_or (take (suc k) entries) j e ≡ get_or entries j e = get_or-take (suc k) entries j e (omega (arith, length-take k entries)) in
-      let same2 : get_or (take k entries) j e ≡ get_or entries j e = get_or-take k entries j e (omega (arith, length-take k entries)) in
+      let same : get_or (take (suc k) entries) j e ≡ get_or entries j e = search (rules, get_or-take) in
+      let same2 : get_or (take k entries) j e ≡ get_or entries j e = search (rules, get_or-take) in
       let b = c.begun j e (omega (arith, length-take k entries, length-take (suc k) entries, c.bound)) in
-      rw same2 (subst (λ (x : SbEntry). x.low ≤ v) same b);
+      rw same2 (rw same at b);
   here =
       let same : get_or (take (suc k) entries) k d ≡ get_or entries k d = get_or-take (suc k) entries k d (omega arith) in
       let b = c.begun k d (omega (arith, length-take (suc k) entries, c.bound)) in
-      subst (λ (x : SbEntry). x.low ≤ v) same b;
+      rw same at b;
   later = c.later;
 }
 
@@ -148,7 +113,5 @@ first_low-past es k high h = ap (λ xs. first_low xs high) (drop_all k es h)
 -- Where the first entry begins at or below the version, some have begun.
 pub some_begun : (entries : List SbEntry) (k v high : ℕ) → IsCut entries k v → 1 ≤ length entries → first_low entries high ≤ v → 1 ≤ k
 some_begun [] k v high c some first = absurd (omega arith)
-some_begun (e ∷ es) zero v high c some first =
-    let later = All-head (λ (e : SbEntry). v < e.low) e es c.later in
-    absurd (omega (arith, later, first))
+some_begun (e ∷ es) zero v high c some first = grind (arith, All-head)
 some_begun (e ∷ es) (suc k) v high c some first = omega arith

@@ -1,16 +1,5 @@
 -- Where a tree stands, no call finds it damaged.
-use Rattle.std.proofs.Common.{◌≡◌, ℕ, zero, suc, ◌<◌, ◌≤◌, ◌^◌, inl, inr, List, refl, sym, ap, ◌∙◌, subst, arith}
-use Rattle.bw_types.specs.declared.point.Point.{Point}
-use Rattle.bw_types.specs.declared.tree.Tree.{Tree}
-use Rattle.page_ports.specs.Pages.{PageMap}
-use Rattle.page_layout.specs.Damage.{IsDamagedBelow, NothingBeside}
-use Rattle.page_layout.specs.SbNode.{sb_node_page}
-use Rattle.page_layout.specs.declared.sb_node.SbNode.{SbNode}
-use Rattle.page_layout.specs.declared.sb_node.SbEntry.{SbEntry}
-use Rattle.sb_tree.specs.declared.place.Place.{Place}
-use Rattle.sb_tree.specs.Steps.{node_on, entries_on, child_at}
-use Rattle.sb_tree.specs.Stands.{first_low, NodeStands, EachStands, StandsBelow, RootStands, SbStands}
-use Rattle.sb_tree.specs.Damage.{FitsLevel, FitsPlace, LeadsTo, low_from, next_from, root_place, IsDamagedOnPath}
+use Rattle.sb_tree.proofs.Common.{◌≡◌, ℕ, zero, suc, ◌<◌, ◌≤◌, ◌^◌, inl, inr, List, sym, subst, arith, rules, Point, Tree, PageMap, IsDamagedBelow, NothingBeside, sb_node_page, SbNode, SbEntry, Place, node_on, entries_on, first_low, NodeStands, EachStands, StandsBelow, RootStands, SbStands, FitsLevel, FitsPlace, LeadsTo, root_place, IsDamagedOnPath}
 use Rattle.sb_tree.proofs.Nodes.{same_spelled}
 use Rattle.sb_tree.proofs.Paths.{child_at-path, low_from-path, next_from-path}
 use Rattle.sb_tree.proofs.Order.{ascends, all_from, first_low-later, EachStands-path}
@@ -18,18 +7,11 @@ use Rattle.sb_tree.proofs.Frames.{node_path}
 
 pub level_where_stands : (pages : PageMap) (level page low high least : ℕ) → NodeStands pages level page low high least
     → FitsLevel level (node_on pages page) (sb_node_page (node_on pages page))
-level_where_stands pages level page low high least s = record { spelled = refl; rules = s.rules; typed = s.typed; at_level = s.at_level }
+level_where_stands pages level page low high least s = grind arith
 
 pub fits_where_stands : (pages : PageMap) (level page least : ℕ) (place : Place) → NodeStands pages level page place.low place.high least
     → place.low ≤ place.sought → FitsPlace level place (node_on pages page) (sb_node_page (node_on pages page))
-fits_where_stands pages level page least place s from = record {
-  fits = level_where_stands pages level page place.low place.high least s;
-  admitted = record {
-    from = all_from (entries_on pages page) place.low place.high (ascends (entries_on pages page) s.rules.entries.order) s.begins;
-    below = s.ends;
-    leads = inr (subst (λ (n : ℕ). n ≤ place.sought) (sym s.begins) from);
-  };
-}
+fits_where_stands pages level page least place s from = grind (arith, all_from, ascends)
 
 -- the place to which a node that stands leads, and what stands there
 pub inner_stands : (pages : PageMap) (stands : ℕ → ℕ → ℕ → Type 0) (level page least child : ℕ) (place inner : Place) (node : SbNode)
@@ -41,9 +23,9 @@ inner_stands pages stands level page least child place inner node s each from be
     let es : List SbEntry = entries_on pages page in
     let v : ℕ = place.sought in
     let p = node_path pages level page place.low place.high least v s from in
-    let child_is : child ≡ p.1.child = leads.child_is ∙ ap (λ (n : SbNode). child_at n.entries.items v) same ∙ child_at-path es p.0 p.1 p.2 v p.3 in
-    let low_is : inner.low ≡ p.1.low = leads.low ∙ ap (λ (n : SbNode). low_from place.low n.entries.items v) same ∙ low_from-path es p.0 p.1 p.2 v place.low p.3 in
-    let high_is : inner.high ≡ first_low p.2 place.high = leads.high ∙ ap (λ (n : SbNode). next_from n.entries.items v place.high) same ∙ next_from-path es p.0 p.1 p.2 v place.high p.3 in
+    let child_is : child ≡ p.1.child = search (rules, child_at-path) in
+    let low_is : inner.low ≡ p.1.low = search (rules, low_from-path) in
+    let high_is : inner.high ≡ first_low p.2 place.high = search (rules, next_from-path) in
     let at = EachStands-path stands es p.0 p.1 p.2 v place.high p.3 each in
     let at1 = subst (λ (c : ℕ). stands c p.1.low (first_low p.2 place.high)) (sym child_is) at in
     let at2 = subst (λ (l : ℕ). stands child l (first_low p.2 place.high)) (sym low_is) at1 in
@@ -69,9 +51,8 @@ undamaged (suc (suc level)) pages page least damaged place s from below (inr (in
 root_undamaged : (levels : ℕ) (pages : PageMap) (root version damaged : ℕ) → RootStands levels pages root → version < 2 ^ 32
     → IsDamagedBelow FitsPlace LeadsTo NothingBeside pages levels (root_place version) root damaged → ⊥
 root_undamaged zero pages root version damaged s fits d = d
-root_undamaged (suc levels) pages root version damaged s fits d =
-    undamaged (suc levels) pages root 1 damaged (root_place version) s (omega arith) fits d
+root_undamaged (suc levels) pages root version damaged s fits d = undamaged (suc levels) pages root 1 damaged (root_place version) s (omega arith) fits d
 
 pub tree_undamaged : (pages : PageMap) (tree : Tree) (points : List Point) (version damaged : ℕ) → SbStands pages tree points → version < 2 ^ 32
     → IsDamagedOnPath pages tree version damaged → ⊥
-tree_undamaged pages tree points version damaged s fits d = root_undamaged tree.levels pages tree.root version damaged s.nodes fits d
+tree_undamaged pages tree points version damaged s fits d = grind (arith, root_undamaged)

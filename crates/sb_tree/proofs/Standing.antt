@@ -1,16 +1,5 @@
 -- The laws of trees that stand.
-use Rattle.std.proofs.Common.{◌≡◌, ℕ, zero, suc, ◌^◌, ◌%◌, ◌==◌, ◌||◌, cond, IsTrue, Bool, slice_index_or, List, [], ◌∷◌, length, refl, sym, ap, ◌∙◌, subst, arith}
-use Rattle.std.specs.Prelude.{IsPermutation}
-use Rattle.std.specs.List.{All}
-use Rattle.std.proofs.lemmas.List.Sorted.{sum_by-IsPermutation, length_permutation, list_any-IsPermutation}
-use Rattle.bw_types.specs.Dominance.{is_dominated}
-use Rattle.bw_types.specs.declared.point.Point.{Point}
-use Rattle.bw_types.specs.declared.tree.Tree.{Tree}
-use Rattle.page_ports.specs.Pages.{PageMap}
-use Rattle.page_ports.specs.Frame.{AgreeOn, AreInMap}
-use Rattle.page_layout.specs.Footprint.{NamesNoneTwice}
-use Rattle.sb_tree.specs.Steps.{pages_below, tree_pages, lows_below, total_below}
-use Rattle.sb_tree.specs.Stands.{RootStands, SbStands, is_marked}
+use Rattle.sb_tree.proofs.Common.{◌≡◌, ℕ, zero, suc, ◌^◌, List, [], ◌∷◌, length, refl, sym, ◌∙◌, arith, rules, IsPermutation, sum_by-IsPermutation, length_permutation, list_any-IsPermutation, Point, Tree, PageMap, AgreeOn, AreInMap, pages_below, tree_pages, lows_below, total_below, RootStands, SbStands}
 use Rattle.sb_tree.proofs.Frames.{same_pages, same_lows, same_total, same_stands, all_there}
 
 pub root_same : (levels : ℕ) (a b : PageMap) (root : ℕ) → RootStands levels a root → AgreeOn (pages_below levels a root) a b → RootStands levels b root
@@ -38,9 +27,9 @@ by_its_pages pages others tree points s h =
         changes = s.changes;
         last = s.last;
         nodes = root_same tree.levels pages others tree.root s.nodes h;
-        once = subst NamesNoneTwice (sym same) s.once;
-        lows = subst (λ (ls : List ℕ). All (λ low. IsTrue (is_marked points low)) ls) (sym lows) s.lows;
-        values = λ v fits. ap (λ (n : ℕ). n % 2 ^ 128) (root_total tree.levels pages others tree.root v s.nodes h) ∙ s.values v fits;
+        once = rw same s.once;
+        lows = search rules;
+        values = search (rules, root_total);
       },
       same,
     )
@@ -55,13 +44,11 @@ any_order pages tree points others s p =
     record {
       count = s.count ∙ sym long;
       few = omega (arith, long, s.few);
-      some = λ none. none_left others (long ∙ ap (λ (ps : List Point). length ps) (s.some none));
+      some = search (rules, none_left);
       changes = s.changes;
       last = s.last;
       nodes = s.nodes;
       once = s.once;
-      lows = λ k d h. subst (λ (b : Bool). IsTrue (slice_index_or (lows_below tree.levels pages tree.root) k d == 0 || b))
-          (list_any-IsPermutation (λ (q : Point). q.version == slice_index_or (lows_below tree.levels pages tree.root) k d) points others p) (s.lows k d h);
-      values = λ v fits. s.values v fits ∙ ap (λ (n : ℕ). n % 2 ^ 128)
-          (sym (sum_by-IsPermutation (λ (q : Point). cond (is_dominated 0 [] v q) q.weight 0) points others p));
+      lows = search (rules, list_any-IsPermutation);
+      values = search (rules, sum_by-IsPermutation);
     }

@@ -1,35 +1,26 @@
-use Rattle.std.proofs.Common.{◌≡◌, ◌≤◌, ◌<◌, ◌^◌, inl, inr, IsTrue, length, ℕ, List, [], ◌∷◌, Err, arith, sym, subst, ap, ◌∙◌, refl}
-use Rattle.std.proofs.lemmas.Result.{err_from_is_err_and}
-use Rattle.bw_types.specs.declared.point.Point.{Point}
+use Rattle.sb_tree.proofs.Common.{Some, ◌≡◌, ◌<◌, ◌^◌, inl, inr, IsTrue, List, [], ◌∷◌, Err, arith, sym, ap, ◌∙◌, refl, rules, err_from_is_err_and, Point, IsRaised, SecondFits, SbStands}
 use Rattle.page_ports.specs.declared.page.StageFault.TheVariants.{Damaged}
-use Rattle.page_layout.specs.Damage.{IsDamagedBelow, NothingBeside}
-use Rattle.sb_tree.specs.declared.place.Place.{Place}
-use Rattle.sb_tree.specs.Damage.{FitsPlace, LeadsTo, IsFullBelow}
-use Rattle.sb_tree.specs.Stands.{SbStands}
 use Rattle.sb_tree.proofs.Exits.{exit_error, same_damaged}
 use Rattle.sb_tree.proofs.Sound.{tree_undamaged}
-use Rattle.sb_tree.proofs.Growing.{grown_stands, grown_none, grown_some, grown_leaf, raised_of_tree, second_of_tree, root_spelled, few_levels, balanced_whole, balanced_first, balanced_split, full_there, full_root, bytes_of, Grown}
-use Rattle.sb_tree.proofs.add.sb_add.Goals.{then-tree-ge16-via-then-tree-ge16, then-tree-ge16-via-else-tree-ge16+then-tree-lt3}
+use Rattle.sb_tree.proofs.Growing.{grown_stands, grown_none, grown_split, grown_leaf, raised_of_tree, second_of_tree, root_spelled, few_levels, balanced_whole, balanced_first, balanced_split, full_there, full_root, bytes_of, Grown}
+use Rattle.sb_tree.proofs.add.sb_add.Goals.{In_ok-add_below, In-Some, then-tree-ge16-via-then-tree-ge16, then-tree-ge16-via-else-tree-ge16+then-tree-lt3}
 use Rattle.sb_tree.proofs.add.sb_add.Given
 use Rattle.sb_tree.proofs.add.sb_add.Goals as goal
 
 pub returns-then-tree-eq0-clause-stands : goal.returns-then-tree-eq0-clause-stands
 returns-then-tree-eq0-clause-stands g c = λ tells points p s few version weight.
-    let grown = grown_leaf c.args.tree.now c.grown.result (g.S.Pages.map c.args.stage.now) (g.S.Pages.map c.first_leaf.new.stage) c.in_ok-root.root c.args.version c.args.value
-    c.if-tree-eq0.true c.grown.ensures.root c.grown.ensures.levels (omega (arith, c.ranges.version.fits)) (omega (arith, c.ranges.value.fits)) (c.in_ok-root.ensures.made tells) in
-    grown_stands (g.S.Pages.map c.args.stage.now) (g.S.Pages.map c.first_leaf.new.stage) c.args.tree.now c.grown.result points p c.args.version c.args.value s few version weight
-    c.grown.ensures.count c.grown.ensures.changes c.grown.ensures.last (omega (arith, c.grown.ensures.levels)) grown
+    grown_stands s few version weight c.grown.ensures.count c.grown.ensures.changes c.grown.ensures.last (omega (arith, c.grown.ensures.levels))
+    (grown_leaf c.if-tree-eq0.true c.grown.ensures.root c.grown.ensures.levels (omega (arith, c.ranges.version.fits)) (omega (arith, c.ranges.value.fits)) (c.in_ok-root.ensures.made tells))
 
 pub returns-then-tree-eq0-clause-balanced : goal.returns-then-tree-eq0-clause-balanced
-returns-then-tree-eq0-clause-balanced g c = λ tells points s few balanced.
-    balanced_first c.args.tree.now c.grown.result c.grown.ensures.levels c.grown.ensures.count
+returns-then-tree-eq0-clause-balanced g c = search (rules, balanced_first)
 
 pub returns-in_err-add_below-clause-damaged : goal.returns-in_err-add_below-clause-damaged
 returns-in_err-add_below-clause-damaged g c = λ page e tells.
     let p = err_from_is_err_and c.from_residual-in_err-add_below.result c.from_residual-in_err-add_below.ensures.1 in
     let same = exit_error c.from_residual-in_err-add_below.result c.in_err-add_below.field-0.0 (Damaged page) p e in
     elim (c.in_err-add_below.ensures.damaged page (ap Err same) tells) [
-      | inl why ↦ inl (subst (λ (q : Place). IsDamagedBelow FitsPlace LeadsTo NothingBeside (g.S.Pages.map c.args.stage.now) c.args.tree.now.levels q c.args.tree.now.root page) c.root_place-place.ensures why)
+      | inl why ↦ search rules
       | inr unordered ↦ inr (inr (inr unordered))
     ]
 
@@ -38,8 +29,7 @@ returns-in_err-add_below-clause-sound g c = λ points page tells s few balanced 
     let p = err_from_is_err_and c.from_residual-in_err-add_below.result c.from_residual-in_err-add_below.ensures.1 in
     let same = exit_error c.from_residual-in_err-add_below.result c.in_err-add_below.field-0.0 (Damaged page) p e in
     elim (c.in_err-add_below.ensures.damaged page (ap Err same) tells) [
-      | inl why ↦ tree_undamaged (g.S.Pages.map c.args.stage.now) c.args.tree.now points c.args.version page s (omega (arith, c.ranges.version.fits))
-          (subst (λ (q : Place). IsDamagedBelow FitsPlace LeadsTo NothingBeside (g.S.Pages.map c.args.stage.now) c.args.tree.now.levels q c.args.tree.now.root page) c.root_place-place.ensures why)
+      | inl why ↦ search (rules, tree_undamaged)
       | inr unordered ↦ unordered ordered
     ]
 
@@ -51,11 +41,8 @@ returns-then-tree-ge16-clause-damaged g c = λ page e tells.
     elim c.then-tree-ge16.branch [
       | then-tree-ge16-via-then-tree-ge16 w ↦
           let sixteen : c.args.tree.now.levels ≡ 16 = omega (arith, w.if-tree-ge16.true, c.in_ok-add_below.ensures.level) in
-          inr (inr (inl (root_is, sixteen, subst (λ (n : ℕ). IsFullBelow n (g.S.Pages.map c.args.stage.now) c.args.tree.now.root c.args.version) sixteen full)))
-      | then-tree-ge16-via-else-tree-ge16+then-tree-lt3 w ↦
-          let there = bytes_of (g.S.Pages.map c.args.stage.now c.args.tree.now.root) (full_there c.args.tree.now.levels (g.S.Pages.map c.args.stage.now) c.args.tree.now.root c.args.version full) in
-          let three = g.met.S.Stage.from_three c.args.stage.now c.args.tree.now.root there.0 tells there.1 in
-          absurd (omega (arith, three, w.if-tree-lt3.true))
+          inr (inr (inl (root_is, sixteen, rw sixteen at full)))
+      | then-tree-ge16-via-else-tree-ge16+then-tree-lt3 w ↦ search (rules, bytes_of, full_there)
     ]
 
 pub returns-then-tree-ge16-clause-sound : goal.returns-then-tree-ge16-clause-sound
@@ -69,64 +56,57 @@ returns-then-tree-ge16-clause-sound g c = λ points page tells s few balanced or
     ]
 
 pub new_root-requires-clause-pages : goal.new_root-requires-clause-pages
-new_root-requires-clause-pages g c =
-    (c.if-tree-lt3.false, (second_of_tree c.args.version c.root_place-place.result c.in_ok-add_below.field-0 c.in-Some.second c.root_place-place.ensures c.in-Some.is c.in_ok-add_below.ensures.second).0)
+new_root-requires-clause-pages g c = search (rules, second_of_tree)
+
+-- What stands below the root after the call for it.
+raised : (g : Given.Over) (c : In_ok-add_below g) → IsTrue (g.S.Pages.tells c.args.stage.now) → (points : List Point) → SbStands (g.S.Pages.map c.args.stage.now) c.args.tree.now points
+    → IsRaised c.args.tree.now.levels (g.S.Pages.map c.args.stage.now) (g.S.Pages.map c.add_below.new.stage) c.args.tree.now.root 0 (2 ^ 32) 1 c.args.version c.args.value c.in_ok-add_below.field-0
+raised g c tells points s = raised_of_tree (omega (arith, c.if-tree-eq0.false)) c.root_place-place.ensures s.nodes s.once (c.in_ok-add_below.ensures.raised tells)
+
+grown_beside : (g : Given.Over) (c : goal.After-grown-in-None g) → IsTrue (g.S.Pages.tells c.args.stage.now) → (points : List Point) → SbStands (g.S.Pages.map c.args.stage.now) c.args.tree.now points
+    → Grown c.args.tree.now.levels c.grown-in-None.result.levels (g.S.Pages.map c.args.stage.now) (g.S.Pages.map c.add_below.new.stage) c.args.tree.now.root c.grown-in-None.result.root c.args.version c.args.value
+grown_beside g c tells points s =
+    grown_none c.in-None.is (omega (arith, c.if-tree-eq0.false)) c.grown-in-None.ensures.root c.grown-in-None.ensures.levels (raised g (goal.at.returns-in-None-clause-stands g c).In_ok-add_below tells points s)
 
 pub returns-in-None-clause-stands : goal.returns-in-None-clause-stands
 returns-in-None-clause-stands g c = λ tells points p s few version weight.
-    let some : 1 ≤ c.args.tree.now.levels = omega (arith, c.if-tree-eq0.false) in
-    let r = raised_of_tree c.args.tree.now.levels (g.S.Pages.map c.args.stage.now) (g.S.Pages.map c.add_below.new.stage) c.args.tree.now.root c.args.version c.args.value c.root_place-place.result c.in_ok-add_below.field-0
-    some c.root_place-place.ensures s.nodes s.once (c.in_ok-add_below.ensures.raised tells) in
-    grown_stands (g.S.Pages.map c.args.stage.now) (g.S.Pages.map c.add_below.new.stage) c.args.tree.now c.grown-in-None.result points p c.args.version c.args.value s few version weight
-    c.grown-in-None.ensures.count c.grown-in-None.ensures.changes c.grown-in-None.ensures.last (omega (arith, c.grown-in-None.ensures.levels, some))
-    (grown_none c.args.tree.now c.grown-in-None.result (g.S.Pages.map c.args.stage.now) (g.S.Pages.map c.add_below.new.stage) c.args.version c.args.value c.in_ok-add_below.field-0 c.in-None.is some
-    c.grown-in-None.ensures.root c.grown-in-None.ensures.levels r)
+    grown_stands s few version weight c.grown-in-None.ensures.count c.grown-in-None.ensures.changes c.grown-in-None.ensures.last (omega (arith, c.grown-in-None.ensures.levels, c.if-tree-eq0.false))
+    (grown_beside g c tells points s)
 
 pub returns-in-None-clause-balanced : goal.returns-in-None-clause-balanced
-returns-in-None-clause-balanced g c = λ tells points s few balanced.
-    balanced_whole c.args.tree.now c.grown-in-None.result c.grown-in-None.ensures.levels c.grown-in-None.ensures.count balanced
+returns-in-None-clause-balanced g c = search (rules, balanced_whole)
 
 pub returns-in-None-clause-change : goal.returns-in-None-clause-change
-returns-in-None-clause-change g c = λ tells points s.
-    let some : 1 ≤ c.args.tree.now.levels = omega (arith, c.if-tree-eq0.false) in
-    let r = raised_of_tree c.args.tree.now.levels (g.S.Pages.map c.args.stage.now) (g.S.Pages.map c.add_below.new.stage) c.args.tree.now.root c.args.version c.args.value c.root_place-place.result c.in_ok-add_below.field-0
-    some c.root_place-place.ensures s.nodes s.once (c.in_ok-add_below.ensures.raised tells) in
-    (grown_none c.args.tree.now c.grown-in-None.result (g.S.Pages.map c.args.stage.now) (g.S.Pages.map c.add_below.new.stage) c.args.version c.args.value c.in_ok-add_below.field-0 c.in-None.is some
-    c.grown-in-None.ensures.root c.grown-in-None.ensures.levels r).change
+returns-in-None-clause-change g c = λ tells points s. (grown_beside g c tells points s).change
+
+second : (g : Given.Over) (c : In-Some g) → SecondFits 0 (2 ^ 32) (Some c.in-Some.second)
+second g c = second_of_tree c.root_place-place.ensures c.in-Some.is c.in_ok-add_below.ensures.second
+
+-- The number of the root, which is in the map.
+root_fits : (g : Given.Over) (c : goal.After-grown-in-Some g) → IsTrue (g.S.Pages.tells c.args.stage.now) → (points : List Point) → SbStands (g.S.Pages.map c.args.stage.now) c.args.tree.now points → c.args.tree.now.root < 2 ^ 64
+root_fits g c tells points s =
+    let there = root_spelled c.args.tree.now.levels (g.S.Pages.map c.args.stage.now) c.args.tree.now.root (omega (arith, c.if-tree-eq0.false)) s.nodes in
+    omega (arith, g.met.S.Stage.below_allotted c.args.stage.now c.args.tree.now.root _ tells there, g.met.S.Stage.within_limit c.args.stage.now, g.met.S.Stage.limit_fits c.args.stage.now)
 
 grown_above : (g : Given.Over) (c : goal.After-grown-in-Some g) → IsTrue (g.S.Pages.tells c.args.stage.now) → (points : List Point) → SbStands (g.S.Pages.map c.args.stage.now) c.args.tree.now points
     → Grown c.args.tree.now.levels c.grown-in-Some.result.levels (g.S.Pages.map c.args.stage.now) (g.S.Pages.map c.new_root.new.stage) c.args.tree.now.root c.grown-in-Some.result.root c.args.version c.args.value
 grown_above g c tells points s =
-    let some : 1 ≤ c.args.tree.now.levels = omega (arith, c.if-tree-eq0.false) in
-    let there = root_spelled c.args.tree.now.levels (g.S.Pages.map c.args.stage.now) c.args.tree.now.root some s.nodes in
-    let fits : c.args.tree.now.root < 2 ^ 64 = omega (arith, g.met.S.Stage.below_allotted c.args.stage.now c.args.tree.now.root _ tells there, g.met.S.Stage.within_limit c.args.stage.now, g.met.S.Stage.limit_fits c.args.stage.now) in
-    let r = raised_of_tree c.args.tree.now.levels (g.S.Pages.map c.args.stage.now) (g.S.Pages.map c.add_below.new.stage) c.args.tree.now.root c.args.version c.args.value c.root_place-place.result c.in_ok-add_below.field-0
-    some c.root_place-place.ensures s.nodes s.once (c.in_ok-add_below.ensures.raised tells) in
-    let second = second_of_tree c.args.version c.root_place-place.result c.in_ok-add_below.field-0 c.in-Some.second c.root_place-place.ensures c.in-Some.is c.in_ok-add_below.ensures.second in
-    grown_some c.args.tree.now c.grown-in-Some.result (g.S.Pages.map c.args.stage.now) (g.S.Pages.map c.add_below.new.stage) (g.S.Pages.map c.new_root.new.stage) c.in_ok-root-in-Some.root c.args.version c.args.value
-    c.in_ok-add_below.field-0 c.in-Some.second c.in-Some.is some c.if-tree-ge16.false c.grown-in-Some.ensures.root c.grown-in-Some.ensures.levels c.if-tree-lt3.false fits second r
-    (c.in_ok-root-in-Some.ensures.made (c.add_below.ensures.grows.went_on.tells ∙ tells))
-
-stands_above : (g : Given.Over) (c : goal.After-grown-in-Some g) → IsTrue (g.S.Pages.tells c.args.stage.now) → (points : List Point) (p : Point) → SbStands (g.S.Pages.map c.args.stage.now) c.args.tree.now points
-    → length points < 2 ^ 31 → p.version ≡ c.args.version → p.weight ≡ c.args.value → SbStands (g.S.Pages.map c.new_root.new.stage) c.grown-in-Some.result (p ∷ points)
-stands_above g c tells points p s few version weight =
-    grown_stands (g.S.Pages.map c.args.stage.now) (g.S.Pages.map c.new_root.new.stage) c.args.tree.now c.grown-in-Some.result points p c.args.version c.args.value s few version weight
-    c.grown-in-Some.ensures.count c.grown-in-Some.ensures.changes c.grown-in-Some.ensures.last (omega (arith, c.grown-in-Some.ensures.levels)) (grown_above g c tells points s)
+    let at = goal.at.returns-in_ok-root-in-Some-clause-stands g c in
+    grown_split c.in-Some.is (omega (arith, c.if-tree-eq0.false)) c.if-tree-ge16.false c.grown-in-Some.ensures.root c.grown-in-Some.ensures.levels c.if-tree-lt3.false (root_fits g c tells points s) (second g at.In-Some)
+    (raised g at.In_ok-add_below tells points s) (c.in_ok-root-in-Some.ensures.made (c.add_below.ensures.grows.went_on.tells ∙ tells))
 
 pub returns-in_ok-root-in-Some-clause-stands : goal.returns-in_ok-root-in-Some-clause-stands
-returns-in_ok-root-in-Some-clause-stands g c = λ tells points p s few version weight. stands_above g c tells points p s few version weight
+returns-in_ok-root-in-Some-clause-stands g c = λ tells points p s few version weight.
+    grown_stands s few version weight c.grown-in-Some.ensures.count c.grown-in-Some.ensures.changes c.grown-in-Some.ensures.last (omega (arith, c.grown-in-Some.ensures.levels)) (grown_above g c tells points s)
 
 pub returns-in_ok-root-in-Some-clause-balanced : goal.returns-in_ok-root-in-Some-clause-balanced
 returns-in_ok-root-in-Some-clause-balanced g c = λ tells points s few balanced.
-    let some : 1 ≤ c.args.tree.now.levels = omega (arith, c.if-tree-eq0.false) in
-    let there = root_spelled c.args.tree.now.levels (g.S.Pages.map c.args.stage.now) c.args.tree.now.root some s.nodes in
-    let fits : c.args.tree.now.root < 2 ^ 64 = omega (arith, g.met.S.Stage.below_allotted c.args.stage.now c.args.tree.now.root _ tells there, g.met.S.Stage.within_limit c.args.stage.now, g.met.S.Stage.limit_fits c.args.stage.now) in
-    let second = second_of_tree c.args.version c.root_place-place.result c.in_ok-add_below.field-0 c.in-Some.second c.root_place-place.ensures c.in-Some.is c.in_ok-add_below.ensures.second in
     let p : Point = record { keys = []; version = c.args.version; weight = c.args.value } in
-    let stands = stands_above g c tells points p s few refl refl in
+    let stands = returns-in_ok-root-in-Some-clause-stands g c tells points p s few refl refl in
     let made = c.in_ok-root-in-Some.ensures.made (c.add_below.ensures.grows.went_on.tells ∙ tells) in
-    balanced_split c.args.tree.now.levels (g.S.Pages.map c.new_root.new.stage) c.grown-in-Some.result (p ∷ points) c.args.tree.now.root c.in-Some.second some c.if-tree-ge16.false c.grown-in-Some.ensures.levels stands
-    c.if-tree-lt3.false fits second (ap (g.S.Pages.map c.new_root.new.stage) c.grown-in-Some.ensures.root ∙ made.1)
+    balanced_split c.args.tree.now.levels (g.S.Pages.map c.new_root.new.stage) c.grown-in-Some.result (p ∷ points) c.args.tree.now.root c.in-Some.second (omega (arith, c.if-tree-eq0.false)) c.if-tree-ge16.false
+    c.grown-in-Some.ensures.levels stands c.if-tree-lt3.false (root_fits g c tells points s) (second g (goal.at.returns-in_ok-root-in-Some-clause-balanced g c).In-Some)
+    (ap (g.S.Pages.map c.new_root.new.stage) c.grown-in-Some.ensures.root ∙ made.1)
 
 pub returns-in_ok-root-in-Some-clause-change : goal.returns-in_ok-root-in-Some-clause-change
 returns-in_ok-root-in-Some-clause-change g c = λ tells points s. (grown_above g c tells points s).change

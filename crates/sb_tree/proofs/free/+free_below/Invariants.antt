@@ -1,7 +1,4 @@
-use Rattle.std.proofs.Common.{◌-◌, IsTrue, [], ◌∷◌, take}
-use Rattle.std.specs.List.{flat_map}
-use Rattle.page_ports.specs.Calls.{WentOn}
-use Rattle.page_ports.specs.Frame.{AreInMap, Replaces}
+use Rattle.sb_tree.proofs.Common.{◌-◌, IsTrue, [], ◌∷◌, take, flat_map, WentOn, AreInMap, Replaces}
 use Rattle.sb_tree.proofs.Freeing.{own_pages}
 use Rattle.sb_tree.proofs.free.+free_below.Given as goal
 

@@ -1,6 +1,4 @@
-use Rattle.std.proofs.Common.{◌^◌, ◌<◌, length, refl, arith}
-use Rattle.page_layout.specs.declared.sb_node.SbEntry.{SbEntry}
-use Rattle.page_layout.specs.Totals.{next_total}
+use Rattle.sb_tree.proofs.Common.{◌^◌, ◌<◌, length, refl, arith, next_total}
 use Rattle.sb_tree.proofs.InPlace.{one_begun, cut_here}
 use Rattle.sb_tree.proofs.view.begun_on.Goals as goal
 
@@ -13,5 +11,5 @@ loop-place-preserved c =
     let lt : c.loop-place.place < length c.args.view.now.entries.items = omega (arith, c.loop-place-test.true, c.len-count.ensures) in
     record {
       begun = one_begun c.args.view.now.entries.items c.loop-place.place c.args.version c.entry-e.result lt c.entry-e.ensures c.loop-place.invariant.begun c.if-e-version.false;
-      total = next_total (λ (e : SbEntry). e.value) c.args.view.now.entries.items c.loop-place.place c.loop-place.total c.entry-e.result.value (2 ^ 128) c.entry-e.result lt c.entry-e.ensures refl c.loop-place.invariant.total;
+      total = next_total (λ e. e.value) c.args.view.now.entries.items c.loop-place.place c.loop-place.total c.entry-e.result.value (2 ^ 128) c.entry-e.result lt c.entry-e.ensures refl c.loop-place.invariant.total;
     }

@@ -1,6 +1,4 @@
-use Rattle.std.proofs.Common.{◌≡◌, ◌%◌, ◌^◌, take}
-use Rattle.std.specs.List.{sum_by}
-use Rattle.sb_tree.specs.Cut.{HaveBegun}
+use Rattle.sb_tree.proofs.Common.{◌≡◌, ◌%◌, ◌^◌, take, sum_by, HaveBegun}
 use Rattle.sb_tree.proofs.view.begun_on.Given as goal
 
 abbrev pub invariant-loop-place : goal.invariant-loop-place
