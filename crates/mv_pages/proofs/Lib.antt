@@ -1,5 +1,6 @@
 pub mod Adding
 pub mod Additions
+pub mod Begun
 pub mod Beyond
 pub mod Changes
 pub mod Children
@@ -14,5 +15,6 @@ pub mod LowsAround
 pub mod Order
 pub mod Paths
 pub mod Putting
+mod LedTo
 pub mod Reaching
 pub mod Typing

@@ -1,5 +1,5 @@
 -- What a node of a multiversion tree says at a key and a version.
-use Rattle.std.specs.Prelude.{◌≡◌, ℕ, ◌%◌, ◌^◌, ◌<◌, ◌≤◌, ◌⊎◌, ◌==◌, ◌||◌, ◌&&◌, Bool, IsTrue, nat_lt, nat_le, if◌then◌else◌, cond, List, [], ◌∷◌, Option, Some, None, filter, sum_by}
+use Rattle.std.specs.Prelude.{◌≡◌, ℕ, ◌%◌, ◌^◌, ◌<◌, ◌≤◌, ◌⊎◌, ◌==◌, ◌||◌, ◌&&◌, Bool, IsTrue, nat_lt, nat_le, if◌then◌else◌, cond, List, [], ◌∷◌, Option, Some, None, filter, sum_by, take, drop}
 use Rattle.std.specs.List.{All}
 use Rattle.page_layout.specs.Entries.{AreInOrder}
 use Rattle.page_layout.specs.MvNode.{mv_keeps, mv_precedes}
@@ -66,6 +66,11 @@ next_entry (e ∷ entries) key version = cond (is_beyond key version e) (Some e)
 -- the entry is alive at the version, and begins at the low
 abbrev pub is_alive_from : ℕ → ℕ → MvEntry → Bool
 is_alive_from version low e = e.low == low && is_alive version e
+
+-- The first entries, so many of them, begin at or below the key, and all others above it.
+pub record IsBegunCount (entries : List MvEntry) (key count : ℕ) : Type 0 where
+  pub below : All (λ e. e.low ≤ key) (take count entries)
+  pub above : All (λ e. key < e.low) (drop count entries)
 
 -- 1 for an entry that is alive at the version and begins at the low
 abbrev pub alive_one : ℕ → ℕ → MvEntry → ℕ

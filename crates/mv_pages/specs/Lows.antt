@@ -1,8 +1,10 @@
 -- The lows of the entries of a node that are alive at a version. They cut its keys into intervals: each key
 -- belongs to the last low at or below it, up to the next one.
-use Rattle.std.specs.Prelude.{ℕ, ◌==◌, ◌&&◌, ◌||◌, Bool, true, nat_lt, nat_le, cond, List, [], ◌∷◌, Option, Some, None, map}
+use Rattle.std.specs.Prelude.{◌≡◌, ℕ, ◌==◌, ◌&&◌, ◌||◌, Bool, true, nat_lt, nat_le, cond, List, [], ◌∷◌, Option, Some, None, IfSome, map, option_map}
 use Rattle.page_layout.specs.declared.mv_node.MvEntry.{MvEntry}
-use Rattle.mv_pages.specs.Alive.{alive_at, or_later}
+use Rattle.page_layout.specs.declared.mv_node.MvNode.{MvNode}
+use Rattle.mv_pages.specs.declared.path.Reached.{Reached}
+use Rattle.mv_pages.specs.Alive.{alive_at, child_of, or_later}
 use Rattle.mv_pages.specs.Edits.{Cut}
 
 -- the lows of the entries that are alive at the version, in their order
@@ -47,6 +49,12 @@ ascend lows = ascend_from None lows
 abbrev pub low_of : Option MvEntry → Option ℕ
 low_of None = None
 low_of (Some e) = Some e.low
+
+-- This is the child to which the node leads at the key and the version, with the keys that lead to it.
+pub record IsReached (node : MvNode) (key version : ℕ) (reached : Option Reached) : Type 0 where
+  pub child : option_map (λ r. r.child) reached ≡ child_of node key version
+  pub low : IfSome reached (λ r. Some r.low ≡ low_at (alive_lows node.entries.items version) key)
+  pub next : IfSome reached (λ r. r.next ≡ low_above (alive_lows node.entries.items version) key)
 
 -- the entry starts at or before the version, and if it is closed, it ends there or before
 abbrev pub is_past : ℕ → MvEntry → Bool

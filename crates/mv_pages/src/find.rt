@@ -9,8 +9,8 @@ use page_layout::MvEntry;
 /// The end of an entry that is not closed.
 pub(crate) const OPEN: u32 = 4294967295;
 
-/// Whether the entry has started at the version and is not closed there.
-pub(crate) fn is_alive(e: &MvEntry, version: u32) -> bool
+/// Whether an entry has started at the version and is not closed there.
+pub fn is_alive(e: &MvEntry, version: u32) -> bool
     ensures { result ≡ is_alive version e.now }
 {
     // No branch: which entries are alive cannot be foreseen.

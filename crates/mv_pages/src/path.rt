@@ -1,7 +1,7 @@
 //! The child that a key leads to, with the keys that lead to it.
-ghost use Rattle.std.specs.Prelude.{◌≡◌, IfSome, Some, option_map};
-ghost use Rattle.mv_pages.specs.Alive.{child_of, next_entry};
-ghost use Rattle.mv_pages.specs.Lows.{alive_lows, low_above, low_at, low_of};
+ghost use Rattle.std.specs.Prelude.{◌≡◌};
+ghost use Rattle.mv_pages.specs.Alive.{next_entry};
+ghost use Rattle.mv_pages.specs.Lows.{IsReached, low_of};
 
 use crate::find::{next_index, path_index};
 use page_layout::{MvEntry, MvNode};
@@ -19,9 +19,7 @@ pub struct Reached {
 /// alive low at or below the key on, and before the first alive low above it. It is `None` exactly where
 /// `child_at` is.
 pub fn reached_at(node: &MvNode, key: u64, version: u32) -> Option<Reached>
-    ensures child { option_map (λ r. r.child) result ≡ child_of node.now key version }
-    ensures low { IfSome result (λ r. Some r.low ≡ low_at (alive_lows node.now.entries.items version) key) }
-    ensures next { IfSome result (λ r. r.next ≡ low_above (alive_lows node.now.entries.items version) key) }
+    ensures { IsReached node.now key version result }
 {
     if node.level == 1 {
         return None;

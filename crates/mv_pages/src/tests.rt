@@ -92,9 +92,8 @@ fn is_same_on_its_page(node: &MvNode, key: u64, version: u32) -> bool {
     let Some(view) = View::<MvNode>::on(&page) else {
         return false;
     };
-    reached_on(&view, key, version) == reached_at(node, key, version)
-        && child_on(&view, key, version) == child_at(node, key, version)
-        && value_on(&view, key, version) == value_at(node, key, version)
+    let said = said_on(&view, key, version);
+    said.reached == reached_at(node, key, version) && said.value == value_at(node, key, version)
 }
 
 #[test]

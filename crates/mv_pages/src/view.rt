@@ -1,92 +1,108 @@
 //! What a node says at a key and a version, where it is read in place.
-ghost use Rattle.std.specs.Prelude.{◌≡◌, IfSome, Some, option_map};
-ghost use Rattle.mv_pages.specs.Alive.{node_value, child_of, path_child, counted, next_entry};
+ghost use Rattle.std.specs.Prelude.{◌≡◌, ℕ, cond};
+ghost use Rattle.mv_pages.specs.Alive.{IsBegunCount, next_entry, node_value};
 ghost use Rattle.mv_pages.specs.Edits.{IsPathIndex};
-ghost use Rattle.mv_pages.specs.Lows.{alive_lows, low_above, low_at, low_of};
+ghost use Rattle.mv_pages.specs.Lows.{IsReached, low_of};
 
-use crate::find::{is_alive, reaches};
+use crate::find::is_alive;
 use crate::path::Reached;
 use page_layout::{MvEntry, MvNode, View};
 
-// What the entry counts for at the key and version.
-fn counted(e: &MvEntry, key: u64, version: u32) -> u128
-    ensures { result ≡ counted key version e.now }
-{
-    if reaches(e, key, version) { e.value } else { 0 }
+/// What a node says at a key and a version: its value, as `value_at`, and the child to which it leads,
+/// as `reached_at`.
+#[derive(Clone, Copy)]
+pub struct Said {
+    pub value: u128,
+    pub reached: Option<Reached>,
 }
 
-/// The value of a node at a key and a version, as `value_at`, where the node is read in place.
-pub fn value_on(view: &View<MvNode>, key: u64, version: u32) -> u128
-    ensures { result ≡ node_value view.now key version }
+/// What a node that is read in place says at a key and a version.
+pub fn said_on(view: &View<MvNode>, key: u64, version: u32) -> Said
+    ensures value { result.value ≡ node_value view.now key version }
+    ensures reached { IsReached view.now key version result.reached }
 {
-    let mut total: u128 = 0;
-    for place in 0..view.len() {
-        total = total.wrapping_add(counted(&view.entry(place), key, version));
+    let begun = begun_on(view, key, version);
+    Said {
+        value: begun.value,
+        reached: reached_on(view, begun, key, version),
     }
-    total
 }
 
-/// The child to which a node leads at a key and a version, as `child_at`, where the node is read in
-/// place.
-pub fn child_on(view: &View<MvNode>, key: u64, version: u32) -> Option<u64>
-    ensures { result ≡ child_of view.now key version }
+// The entries that begin at or below a key: how many there are, the value of those that are alive at a
+// version, and the index of the last of these.
+#[derive(Clone, Copy)]
+struct Begun {
+    count: usize,
+    value: u128,
+    last: Option<usize>,
+}
+
+// Entries ascend by low: the walk ends at the first one above the key.
+fn begun_on(view: &View<MvNode>, key: u64, version: u32) -> Begun
+    ensures count { IsBegunCount view.now.entries.items key result.count }
+    ensures value { result.value ≡ node_value view.now key version }
+    ensures last { IsPathIndex view.now.entries.items key version result.last }
 {
-    if view.level() == 1 {
-        return None;
-    }
-    let mut child = None;
-    for place in 0..view.len() {
-        let e = view.entry(place);
-        if reaches(&e, key, version) {
-            child = Some(e.child);
+    view.keeps_rules();
+    let mut value: u128 = 0;
+    let mut last = None;
+    for index in 0..view.len() {
+        let e = view.entry(index);
+        if key < e.low {
+            return Begun {
+                count: index,
+                value,
+                last,
+            };
         }
+        // Chosen without a branch: which entries are alive cannot be foreseen.
+        let alive = is_alive(&e, version);
+        value = value.wrapping_add(worth(&e, alive));
+        last = if alive { Some(index) } else { last };
     }
-    child
+    Begun {
+        count: view.len(),
+        value,
+        last,
+    }
 }
 
-/// The child to which a node leads at a key and a version, with the keys that lead to it, as
-/// `reached_at`, where the node is read in place.
-pub fn reached_on(view: &View<MvNode>, key: u64, version: u32) -> Option<Reached>
-    ensures child { option_map (λ r. r.child) result ≡ child_of view.now key version }
-    ensures low { IfSome result (λ r. Some r.low ≡ low_at (alive_lows view.now.entries.items version) key) }
-    ensures next { IfSome result (λ r. r.next ≡ low_above (alive_lows view.now.entries.items version) key) }
+// What the entry adds, if it is alive.
+fn worth(e: &MvEntry, alive: bool) -> u128
+    ensures { result ≡ cond alive e.now.value 0 }
+{
+    e.value.wrapping_mul(u128::from(alive))
+}
+
+// The child to which the node leads, with the keys that lead to it.
+fn reached_on(view: &View<MvNode>, begun: Begun, key: u64, version: u32) -> Option<Reached>
+    requires count { IsBegunCount view.now.entries.items key begun.count }
+    requires last { IsPathIndex view.now.entries.items key version begun.last }
+    ensures { IsReached view.now key version result }
 {
     if view.level() == 1 {
         return None;
     }
-    match path_on(view, key, version) {
+    match begun.last {
         Some(index) => {
             let e = view.entry(index);
             Some(Reached {
                 child: e.child,
                 low: e.low,
-                next: next_on(view, key, version),
+                next: next_on(view, begun.count, version),
             })
         }
         None => None,
     }
 }
 
-// The index of the last entry that is alive at the version and begins at or below the key.
-fn path_on(view: &View<MvNode>, key: u64, version: u32) -> Option<usize>
-    ensures { IsPathIndex view.now.entries.items key version result }
+// The first alive low above a key at or below which so many entries begin.
+fn next_on(view: &View<MvNode>, begun: usize, version: u32) -> Option<u64>
+    ensures { (key : ℕ) → IsBegunCount view.now.entries.items key begun → result ≡ low_of (next_entry view.now.entries.items key version) }
 {
-    let mut last = None;
-    for place in 0..view.len() {
-        if reaches(&view.entry(place), key, version) {
-            last = Some(place);
-        }
-    }
-    last
-}
-
-// The first alive low above the key.
-fn next_on(view: &View<MvNode>, key: u64, version: u32) -> Option<u64>
-    ensures { result ≡ low_of (next_entry view.now.entries.items key version) }
-{
-    for place in 0..view.len() {
-        let e = view.entry(place);
-        if key < e.low && is_alive(&e, version) {
+    for index in begun..view.len() {
+        let e = view.entry(index);
+        if is_alive(&e, version) {
             return Some(e.low);
         }
     }

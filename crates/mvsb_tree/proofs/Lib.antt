@@ -40,4 +40,4 @@ pub mod Topping
 pub mod Values
 pub mod Ways
 pub mod Whole
-mod Walking
+mod Within

@@ -26,6 +26,14 @@ mv_pages = record { keeps = IsMvNode; is_typed = IsTyped; spelling = mv_node_pag
 abbrev pub begins_within : Place → MvEntry → Bool
 begins_within place e = not (is_alive place.version e) || (nat_le place.low e.low && ends_after place.high e.low)
 
+-- the entry is not alive at the version sought, or does not begin below the place
+abbrev pub not_below : Place → MvEntry → Bool
+not_below place e = not (is_alive place.version e) || nat_le place.low e.low
+
+-- the entry is not alive at the version sought, or does not begin past the place
+abbrev pub not_past : Place → MvEntry → Bool
+not_past place e = not (is_alive place.version e) || ends_after place.high e.low
+
 -- The node keeps to the place: its entries that are alive at the version sought begin within it; an index node
 -- has one for the key.
 pub record IsInPlace (level : ℕ) (place : Place) (node : MvNode) : Type 0 where

@@ -11,6 +11,6 @@ pub mod Led
 pub mod Stands
 pub mod Steps
 pub mod Stored
+pub mod Telling
 pub mod Tops
-pub mod Walks
 pub mod Ways

@@ -1,11 +1,11 @@
 //! How a call comes to a node.
 ghost use Rattle.std.specs.Prelude.{◌≡◌, ◌↔◌, IsTrue};
 ghost use Rattle.std.specs.List.{list_all};
-ghost use Rattle.mv_pages.specs.Alive.{is_alive as spec_is_alive, or_later};
-ghost use Rattle.mvsb_tree.specs.Damage.{IsInPlace, begins_within as spec_begins_within, root_place as spec_root_place};
+ghost use Rattle.mv_pages.specs.Alive.{or_later};
+ghost use Rattle.mvsb_tree.specs.Damage.{IsInPlace, not_past, not_below, begins_within as spec_begins_within, root_place as spec_root_place};
 ghost use Rattle.mvsb_tree.specs.Stands.{ends_after as spec_ends_after};
 
-use mv_pages::{Reached, child_at, child_on};
+use mv_pages::{Reached, child_at, is_alive, said_on};
 use page_access::PlaceFor;
 use page_layout::{MvEntry, MvNode, View};
 
@@ -31,17 +31,6 @@ pub fn root_place(key: u64, version: u32) -> Place
     }
 }
 
-// The end of an entry that is not closed.
-const OPEN: u32 = 4294967295;
-
-/// Whether the entry has started at the version and is not closed there.
-pub fn is_alive(e: &MvEntry, version: u32) -> bool
-    ensures { result ≡ spec_is_alive version e.now }
-{
-    // No branch: which entries are alive cannot be foreseen.
-    (e.start <= version) & ((version < e.end) | (e.end == OPEN))
-}
-
 fn ends_after(high: Option<u64>, low: u64) -> bool
     ensures { result ≡ spec_ends_after high low }
 {
@@ -51,8 +40,8 @@ fn ends_after(high: Option<u64>, low: u64) -> bool
     }
 }
 
-/// Whether the entry is not alive at the version sought, or begins within the place.
-pub fn begins_within(e: &MvEntry, place: Place) -> bool
+// Whether the entry is not alive at the version sought, or begins within the place.
+fn begins_within(e: &MvEntry, place: Place) -> bool
     ensures { result ≡ spec_begins_within place e.now }
 {
     !is_alive(e, place.version) | ((place.low <= e.low) & ends_after(place.high, e.low))
@@ -64,14 +53,39 @@ fn begin_within(entries: &[MvEntry], place: Place) -> bool
     entries.iter().all(|e| begins_within(e, place))
 }
 
-// The same of the entries of a node that is read in place.
-fn all_begin_within(view: &View<MvNode>, place: Place) -> bool
+/// Whether each entry of a node that is read in place is not alive at the version sought, or begins within
+/// the place. Entries ascend, so the first one that is alive and the last one that is alive decide.
+pub fn all_begin_within(view: &View<MvNode>, place: Place) -> bool
     ensures { result ≡ list_all (spec_begins_within place) view.now.entries.items }
 {
+    none_begins_below(view, place) && none_begins_past(view, place)
+}
+
+// Whether no entry that is alive begins below the place.
+fn none_begins_below(view: &View<MvNode>, place: Place) -> bool
+    ensures { result ≡ list_all (not_below place) view.now.entries.items }
+{
+    view.keeps_rules();
     for index in 0..view.len() {
         let e = view.entry(index);
-        if !begins_within(&e, place) {
-            return false;
+        if is_alive(&e, place.version) {
+            return place.low <= e.low;
+        }
+    }
+    true
+}
+
+// Whether no entry that is alive begins past the place.
+fn none_begins_past(view: &View<MvNode>, place: Place) -> bool
+    ensures { result ≡ list_all (not_past place) view.now.entries.items }
+{
+    view.keeps_rules();
+    let mut rest = view.len();
+    while rest > 0 {
+        rest -= 1;
+        let e = view.entry(rest);
+        if is_alive(&e, place.version) {
+            return ends_after(place.high, e.low);
         }
     }
     true
@@ -105,6 +119,6 @@ impl PlaceFor<MvNode> for Place {
 
     fn admits_view(&self, level: u8, view: &View<MvNode>) -> bool {
         all_begin_within(view, *self)
-            && (level == 1 || child_on(view, self.key, self.version).is_some())
+            && (level == 1 || said_on(view, self.key, self.version).reached.is_some())
     }
 }

@@ -7,7 +7,7 @@ ghost use Rattle.page_layout.specs.Damage.{HoldsNoNode, IsDamagedBelow, NothingB
 ghost use Rattle.page_ports.specs.Calls.{OnlyReads};
 ghost use Rattle.mvsb_tree.specs.Damage.{FitsPlace, IsDamagedForValue, IsDamagedFromRoot, LeadsTo, root_place as spec_root_place};
 ghost use Rattle.mvsb_tree.specs.Stands.{IsBalanced, MvStands, RootStands};
-ghost use Rattle.mvsb_tree.specs.Walks.{ToldIn};
+ghost use Rattle.mvsb_tree.specs.Telling.{ToldIn};
 ghost use Rattle.mvsb_tree.specs.Steps.{root_level, total_below, tree_value};
 
 use crate::directory::root_at;

@@ -6,7 +6,7 @@ use Rattle.page_layout.specs.Damage.{IsDamagedBelow, NothingBeside}
 use Rattle.page_layout.specs.DamageLaws as laws
 use Rattle.mv_pages.specs.Alive.{child_of}
 use Rattle.mvsb_tree.specs.Damage.{FitsPlace, LeadsTo}
-use Rattle.mvsb_tree.specs.Walks.{StepsOn}
+use Rattle.mvsb_tree.specs.Telling.{StepsOn}
 use Rattle.mvsb_tree.specs.declared.step.Step.{Step}
 use Rattle.mvsb_tree.proofs.Exits.{exit_error}
 use Rattle.mvsb_tree.proofs.Values.{below_further, told_there, value_alone, value_with, whole_alone, whole_further}

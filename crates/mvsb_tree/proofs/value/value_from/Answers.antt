@@ -8,7 +8,7 @@ use Rattle.mvsb_tree.specs.declared.place.Place.{Place}
 use Rattle.mvsb_tree.specs.declared.step.Step.{Step}
 use Rattle.mvsb_tree.specs.Damage.{FitsPlace, IsDamagedFromRoot, LeadsTo}
 use Rattle.mvsb_tree.specs.Steps.{root_level, total_below}
-use Rattle.mvsb_tree.specs.Walks.{StepsOn}
+use Rattle.mvsb_tree.specs.Telling.{StepsOn}
 use Rattle.mvsb_tree.proofs.Exits.{exit_error, err_same}
 use Rattle.mvsb_tree.proofs.Sound.{root_undamaged}
 use Rattle.mvsb_tree.proofs.Values.{level_of_root, root_further, root_unfit, told_there, value_alone, value_with, whole_root_alone, whole_root_further}
