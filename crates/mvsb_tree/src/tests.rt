@@ -1,5 +1,5 @@
 //! A tree of one leaf: its values, what frees it, and what is answered where it is damaged.
-use crate::{mv_free, mv_value};
+use crate::{freed_laws, mv_free, mv_laws, mv_value};
 use arrayvec::ArrayVec;
 use bw_types::Tree;
 use page_access::make_page;
@@ -119,5 +119,12 @@ fn a_root_that_is_no_node(rt: HostRuntime) -> Result<(), Fail> {
         mv_value(&mut stage, &tree, 10, 1),
         Err(PageFault::Damaged(blank))
     );
+    Ok(())
+}
+
+#[test]
+fn laws_do_nothing(_: HostRuntime) -> Result<(), Fail> {
+    mv_laws();
+    freed_laws();
     Ok(())
 }

@@ -1,5 +1,5 @@
 //! What the fakes and the files do, as the model of a disk says.
-use crate::{Area, Disk, Failed, FileDisk, MemDisk, PlainDisk, Torn};
+use crate::{Area, Disk, Failed, FileDisk, MemDisk, PlainDisk, Torn, crash_laws};
 use page_ports::Page;
 use std::alloc::{AllocError, Global};
 use std::fs;
@@ -204,5 +204,11 @@ fn files_are_read_and_written_at_any_place(rt: HostRuntime) -> Result<(), Fail> 
     );
     fs::remove_file(&rt, PLACED_PAGES)?;
     fs::remove_file(&rt, PLACED_JOURNAL)?;
+    Ok(())
+}
+
+#[test]
+fn laws_do_nothing(_: HostRuntime) -> Result<(), Fail> {
+    crash_laws();
     Ok(())
 }

@@ -7,5 +7,8 @@ ghost use Rattle.page_layout.specs.Children.{child_fits};
 pub(crate) fn child_fits(level: u8, child: u64) -> bool
     ensures { result ≡ child_fits level child }
 {
-    if level == 1 { child == 0 } else { child >= 3 }
+    // One range for each level: a loop over entries finds it once, and no entry asks for the level.
+    let least = if level == 1 { 0 } else { 3 };
+    let more = if level == 1 { 0 } else { u64::MAX - 3 };
+    child.wrapping_sub(least) <= more
 }

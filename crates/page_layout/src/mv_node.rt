@@ -1,5 +1,5 @@
 //! Nodes of the multiversion trees.
-ghost use Rattle.std.specs.Prelude.{refl, ◌≡◌, ◌<◌, IsTrue};
+ghost use Rattle.std.specs.Prelude.{refl, ◌≡◌, ◌+◌, ◌*◌, ◌^◌, ◌<◌, IsTrue};
 ghost use Rattle.page_layout.specs.Counted.{not_free};
 ghost use Rattle.page_layout.specs.MvNode.{IsMvNode, IsTyped, raised_entry, mv_entry_bytes, mv_entry_at, IsMvEntryTyped, mv_keeps, mv_precedes, before_fits, length-mv_entry, mv_entry-back, mv_node_in, mv_node_page};
 ghost use Rattle.page_layout.specs.MvNodeLaws.{mv_node_in-page};
@@ -80,13 +80,21 @@ impl Entry<Own> for MvEntry {
     }
 
     fn precedes(&self, next: &MvEntry) -> bool {
-        // Which of the two decides differs from entry to entry: no branch could be foreseen.
-        (self.low < next.low) | ((self.low == next.low) & (self.start < next.start))
+        // One comparison: which of the two numbers decides differs from entry to entry, so no branch could be foreseen.
+        order(self) < order(next)
     }
 
     ghost has_size = { λ x _. length-mv_entry x };
 
     ghost reads_back = { λ _ x rest typed _. mv_entry-back x rest typed };
+}
+
+// The low and the start as one number, by which entries ascend.
+fn order(entry: &MvEntry) -> u128
+    ensures value { result ≡ entry.now.low * 2 ^ 64 + entry.now.start }
+    ensures start_fits { entry.now.start < 2 ^ 64 }
+{
+    (u128::from(entry.low) << 64) + u128::from(entry.start)
 }
 
 pub(crate) fn before_fits(place: u32, before: u64) -> bool

@@ -1,8 +1,9 @@
 //! Whether two pages are the same.
 ghost use Rattle.std.specs.Prelude.{◌≡◌, ◌↔◌, IsTrue, length};
+ghost use Rattle.std.specs.List.{All};
 ghost use Rattle.page_layout.specs.Numbers.{zeros};
 
-use crate::number::skip;
+use crate::number::{are_bytes, number_u128, skip};
 use page_ports::Page;
 
 /// Whether the bytes of two pages are the same.
@@ -12,22 +13,27 @@ pub(crate) fn are_same(page: &Page, other: &Page) -> bool
     page == other
 }
 
-fn are_equal(bytes: &[u8], other: &[u8]) -> bool
-    ensures { IsTrue result ↔ (bytes.now ≡ other.now) }
-{
-    bytes == other
-}
+// How many bytes are looked at as one number.
+const WORD: usize = 16;
 
 /// Whether these bytes are all 0.
 pub(crate) fn are_zeros(bytes: &[u8]) -> bool
     ensures { IsTrue result ↔ (bytes.now ≡ zeros (length bytes.now)) }
 {
-    if bytes.is_empty() {
-        return true;
+    let mut rest = bytes;
+    for _ in 0..bytes.len() / WORD {
+        are_bytes(rest);
+        if number_u128(rest) != 0 {
+            return false;
+        }
+        rest = skip(rest, WORD);
     }
-    if bytes[0] != 0 {
-        return false;
-    }
-    // Each byte is the one before it.
-    are_equal(skip(bytes, 1), &bytes[..bytes.len() - 1])
+    is_each_zero(rest)
+}
+
+// Whether each byte is 0.
+fn is_each_zero(bytes: &[u8]) -> bool
+    ensures { IsTrue result ↔ All (λ byte. byte ≡ 0) bytes.now }
+{
+    bytes.iter().all(|byte| *byte == 0)
 }

@@ -364,3 +364,9 @@ fn full_nodes_by_id(rt: HostRuntime) -> Result<(), Fail> {
     TableNode::one_spelling();
     Ok(())
 }
+
+#[test]
+fn laws_do_nothing(_: HostRuntime) -> Result<(), Fail> {
+    footprint_laws();
+    Ok(())
+}

@@ -4,7 +4,9 @@ ghost use Rattle.page_layout.specs.Meta.{IsMeta};
 ghost use Rattle.page_space.specs.MetaSet.{FitsBesideCounts};
 ghost use Rattle.page_space.specs.Shown.{IsMetaSet};
 
-use crate::{OpenFault, OpenRefused, Space, Staged};
+use crate::{
+    OpenFault, OpenRefused, Space, Staged, chain_is_free, created_holds, held_opens, holds_one,
+};
 use arrayvec::ArrayVec;
 use bw_types::{Params, Tree};
 use page_disk::{Area, Disk, Failed, MemDisk, Torn};
@@ -224,5 +226,14 @@ fn a_stop_of_a_commit_leaves_all_or_nothing(rt: HostRuntime) -> Result<(), Fail>
         }
     }
     assert_eq!(rt; dones, 1);
+    Ok(())
+}
+
+#[test]
+fn laws_do_nothing(_: HostRuntime) -> Result<(), Fail> {
+    created_holds();
+    holds_one();
+    held_opens();
+    chain_is_free();
     Ok(())
 }

@@ -2,7 +2,7 @@
 ghost use Rattle.std.specs.Prelude.{◌≡◌, ◌≤◌, ◌<◌, ◌+◌, ◌^◌, ◌↔◌, ℕ, IsSome, IfOk, true, false};
 ghost use Rattle.redo_journal.specs.Images.{image_map};
 
-use crate::{Gate, Images, JournalFault, NoMemory, commit, create, ready, replay};
+use crate::{Gate, Images, JournalFault, NoMemory, commit, create, ready, replay, settling_laws};
 use page_disk::{Area, Disk, Failed, MemDisk, Torn};
 use page_ports::Page;
 use std::alloc::Global;
@@ -181,5 +181,11 @@ fn images_come_in_order(rt: HostRuntime) -> Result<(), Fail> {
         assert_eq!(rt; order.next(), Some((u64::from(page), &[page; 4096])));
     }
     assert_eq!(rt; order.next(), None);
+    Ok(())
+}
+
+#[test]
+fn laws_do_nothing(_: HostRuntime) -> Result<(), Fail> {
+    settling_laws();
     Ok(())
 }

@@ -2,7 +2,7 @@
 ghost use Rattle.std.specs.Prelude.{◌≤◌};
 
 use crate::failing::Failing;
-use crate::{sb_add, sb_free, sb_value};
+use crate::{sb_add, sb_free, sb_value, tree_laws};
 use bw_types::Tree;
 use page_ports::{FREE_PAGE, MemStage, Page, PageFault, Pages, Stage, StageFault, blank_page};
 use std::alloc::{AllocError, Global};
@@ -234,5 +234,11 @@ fn damage_is_found(rt: HostRuntime) -> Result<(), Fail> {
         bytes[i] = (i * i % 251) as u8;
     }
     assert!(rt; is_found_damaged(rt.alloc(), &bytes, 1)?);
+    Ok(())
+}
+
+#[test]
+fn laws_do_nothing(_: HostRuntime) -> Result<(), Fail> {
+    tree_laws();
     Ok(())
 }

@@ -1,44 +1,27 @@
-use Rattle.std.proofs.Common.{◌≡◌, ℕ, ◌-◌, ◌≤◌, List, [], ◌∷◌, length, get_or, take, drop, refl, sym, ap, ◌∙◌, arith}
-use Rattle.std.proofs.lemmas.List.{drop-replicate, take-replicate}
-use Rattle.page_layout.specs.Numbers.{zeros}
-use Rattle.page_layout.proofs.Testing.{never}
+use Rattle.std.proofs.Common.{◌≡◌, ◌∙◌, sym, ap, arith}
+use Rattle.page_layout.proofs.Testing.{never, then_for}
+use Rattle.page_layout.proofs.Zeros.{zero_number, next_zeros, each_zero, same_rest}
 use Rattle.page_layout.proofs.same.are_zeros.Goals as goal
 
--- bytes that are the ones before them, the first of which is 0
-shifted : (ys : List ℕ) → ys ≡ take (length ys) (0 ∷ ys) → ys ≡ zeros (length ys)
-unfolding zeros
-shifted [] e = refl
-shifted (y ∷ ys) e = grind (arith, shifted ys)
+pub loop-init : goal.loop-init
+loop-init c = record { left = omega arith; same = (λ all. all, λ all. all) }
 
-all_zeros : (bytes : List ℕ) → get_or bytes 0 0 ≡ 0 → drop 1 bytes ≡ take (length bytes - 1) bytes → bytes ≡ zeros (length bytes)
-unfolding zeros
-all_zeros [] first e = refl
-all_zeros (x ∷ xs) first e = grind (arith, shifted xs)
+pub number_u128-requires : goal.number_u128-requires
+number_u128-requires c = omega (arith, c.loop.invariant.left, c.loop-test.true)
 
-are_shifted : (bytes : List ℕ) → bytes ≡ zeros (length bytes) → drop 1 bytes ≡ take (length bytes - 1) bytes
-unfolding zeros
-are_shifted bytes e =
-    let k : length bytes - 1 ≤ length bytes = omega arith in
-    ap (drop 1) e ∙ drop-replicate 1 (length bytes) 0 ∙ sym (ap (take (length bytes - 1)) e ∙ take-replicate (length bytes - 1) (length bytes) 0 k)
+pub returns-then-number_u128-ne0 : goal.returns-then-number_u128-ne0
+returns-then-number_u128-ne0 c = never (λ all. c.if-number_u128-ne0.true (c.number_u128.ensures
+    ∙ zero_number c.loop.rest.now (omega (arith, c.loop.invariant.left, c.loop-test.true)) (c.loop.invariant.same.0 all)))
 
-first_zero : (bytes : List ℕ) → bytes ≡ zeros (length bytes) → get_or bytes 0 0 ≡ 0
-unfolding zeros
-first_zero [] e = refl
-first_zero (x ∷ xs) e = cc
+pub skip-rest-requires : goal.skip-rest-requires
+skip-rest-requires c = omega (arith, c.loop.invariant.left, c.loop-test.true)
 
-none : (bytes : List ℕ) → length bytes ≡ 0 → bytes ≡ zeros (length bytes)
-unfolding zeros
-none [] e = refl
-none (x ∷ xs) e = absurd (omega arith)
+pub loop-preserved : goal.loop-preserved
+loop-preserved c = record {
+  left = omega (arith, c.loop.invariant.left, c.skip-rest.ensures.len);
+  same = then_for c.loop.invariant.same (same_rest c.skip-rest.ensures.value
+      (next_zeros c.loop.rest.now c.are_bytes.ensures (omega (arith, c.loop.invariant.left, c.loop-test.true)) (sym c.number_u128.ensures ∙ c.if-number_u128-ne0.false)));
+}
 
 pub returns : goal.returns
-returns c = (
-  λ t. all_zeros c.args.bytes.now c.if-bytes-ne0.false (sym c.skip.ensures.value ∙ c.are_equal.ensures.0 t),
-  λ e. c.are_equal.ensures.1 (c.skip.ensures.value ∙ are_shifted c.args.bytes.now e),
-)
-
-pub returns-then-bytes-ne0 : goal.returns-then-bytes-ne0
-returns-then-bytes-ne0 c = never (λ e. c.if-bytes-ne0.true (first_zero c.args.bytes.now e))
-
-pub returns-then-is_empty : goal.returns-then-is_empty
-returns-then-is_empty c = (λ _. none c.args.bytes.now (grind (arith, c.is_empty.ensures, c.if-is_empty.true)), λ _. refl)
+returns c = then_for (then_for c.is_each_zero.ensures (each_zero c.loop.rest.now)) (c.loop.invariant.same.1, c.loop.invariant.same.0)
