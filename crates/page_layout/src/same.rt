@@ -1,16 +1,8 @@
-//! Whether two pages are the same.
+//! Whether bytes are all 0.
 ghost use Rattle.std.specs.Prelude.{◌≡◌, ◌↔◌, IsTrue, length};
 ghost use Rattle.page_layout.specs.Numbers.{zeros};
 
 use crate::number::skip;
-use page_ports::Page;
-
-/// Whether the bytes of two pages are the same.
-pub(crate) fn are_same(page: &Page, other: &Page) -> bool
-    ensures { IsTrue result ↔ (page.now ≡ other.now) }
-{
-    page == other
-}
 
 fn are_equal(bytes: &[u8], other: &[u8]) -> bool
     ensures { IsTrue result ↔ (bytes.now ≡ other.now) }
