@@ -101,6 +101,13 @@ fn first_values(
     Ok(values)
 }
 
+// The levels of the directory and of the newest root: what a value of the newest version gets.
+fn height(stage: &mut MemStage, tree: &Tree, additions: u32) -> Result<u64, PageFault> {
+    let before = stage.gets();
+    mv_value(stage, tree, u64::MAX, additions / 4)?;
+    Ok(stage.gets().saturating_sub(before))
+}
+
 fn sorted(alloc: Global, keys: Keys, additions: u32) -> Result<Vec<Keyed>, AllocError> {
     let mut draws = Draws::new(1);
     let mut points = Vec::new(alloc);
@@ -174,10 +181,12 @@ fn print_values(
     let took = start.elapsed(rt)?.as_nanos();
     let gets = stage.gets().saturating_sub(before);
     println!(rt;
-        "{QUERIES} values: all read {read}, {} a second, {} gets in 100, {} nanoseconds a get",
+        "{QUERIES} values: all read {read}, {} a second, {} gets in 100, {} nanoseconds a get; {} levels, {} of them the directory's",
         rate(QUERIES, took),
         hundredths(gets, u64::from(QUERIES)),
-        took / u128::from(gets.max(1))
+        took / u128::from(gets.max(1)),
+        height(stage, tree, additions).unwrap_or(0),
+        tree.levels
     )?;
     Ok(())
 }

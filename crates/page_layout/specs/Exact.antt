@@ -73,6 +73,10 @@ module _ {X : Type 0} (spelling : X → List ℕ) (f : List ℕ → X) (size : �
     λ h. subst (λ (x : List ℕ). EachExact spelling f size n x) (sym is_b) (subst (λ (k : ℕ). EachExact spelling f size k a) (sym is_n) h),
   )
 
+-- a byte at a place, and those after it
+pub next_byte : (k x : ℕ) (bytes : List ℕ) → slice_index bytes k ≡ x → suc k ≤ length bytes → x ∷ drop (suc k) bytes ≡ drop k bytes
+next_byte k x bytes is_byte room = ap (λ (y : ℕ). y ∷ drop (suc k) bytes) (sym is_byte) ∙ sym (drop-cons bytes k 0 (omega arith))
+
 zeros_then : (m k : ℕ) (b : List ℕ) → AreZerosAt m k b → zeros k ++ drop (m + k) b ≡ drop m b
 zeros_then m k b z =
     ap (λ (p : List ℕ). p ++ drop (m + k) b) (sym z) ∙ ap (λ (r : List ℕ). take k (drop m b) ++ r) (sym (drop-drop k m b)) ∙ take-append-drop k (drop m b)
@@ -157,7 +161,7 @@ pocket_exact b h room mark =
       ),
     )
 
-tree_sized : (b : List ℕ) → AreBytes b → length (tree_bytes (tree_at b)) ≡ 28
+pub tree_sized : (b : List ℕ) → AreBytes b → length (tree_bytes (tree_at b)) ≡ 28
 tree_sized b h = length-tree (tree_at b)
 
 trees_exact : (b : List ℕ) → AreBytes b → EachExact tree_bytes tree_at 28 4 b ↔ (outside_bytes (trees_at b) ++ drop 112 b ≡ b)
@@ -187,7 +191,7 @@ entry_exact b h room =
       λ e. sym (past-spelled 8 (number_in 8 b) (outside ++ drop 112 (drop 8 b))) ∙ ap (λ (x : List ℕ). drop 8 x) (sym right ∙ e),
     )
 
-tree-typed : (b : List ℕ) → AreBytes b → IsTreeTyped (tree_at b)
+pub tree-typed : (b : List ℕ) → AreBytes b → IsTreeTyped (tree_at b)
 tree-typed b h = (number_in-lt 8 b h, number_in-lt 4 (drop 12 b) (bytes-drop 12 b h), number_in-lt 4 (drop 16 b) (bytes-drop 16 b h), number_in-lt 8 (drop 20 b) (bytes-drop 20 b h))
 
 outside-typed : (b : List ℕ) → AreBytes b → IsOutsideTyped (outside_at b)

@@ -41,11 +41,14 @@ pub mod TableNode
 pub mod TableView
 pub mod HeadLaws
 pub mod FreePageLaws
+pub mod FreePageView
 pub mod SbNodeLaws
 pub mod MvNodeLaws
 pub mod SuperLaws
+pub mod SuperExact
 pub mod PointLeafLaws
 pub mod MetaLaws
+pub mod MetaExact
 pub mod CutsLaws
 pub mod CutPageLaws
 pub mod LifeNodeLaws

@@ -40,9 +40,13 @@ root_bytes meta = tree_bytes meta.table ++ (spelled 4 (length meta.roots.items) 
 abbrev pub meta_page : Meta → List ℕ
 meta_page meta = padded (count_bytes meta ++ root_bytes meta)
 
--- the roots that a page may spell, at most 96
+-- how many roots a page may spell, at most 96
+abbrev pub root_count : List ℕ → ℕ
+root_count page = min (number_in 4 (drop 76 page)) 96
+
+-- the roots that a page may spell
 abbrev pub roots_of : List ℕ → List Tree
-roots_of page = entries_at tree_at 28 (min (number_in 4 (drop 76 page)) 96) (drop 80 page)
+roots_of page = entries_at tree_at 28 (root_count page) (drop 80 page)
 
 -- the meta page that a page may spell
 abbrev pub meta_in : List ℕ → Meta

@@ -18,7 +18,7 @@ origin-fits : (origin : ℕ) → (origin ≡ 0) ⊎ (origin ≡ 2147483647) → 
 origin-fits origin h = elim h [ inl a ↦ omega arith | inr b ↦ omega arith ]
 
 -- a page as the bytes that are one each and the rest, nested to the right
-regroup : (format dims degree events pages origin : ℕ) (pad : List ℕ)
+pub regroup : (format dims degree events pages origin : ℕ) (pad : List ℕ)
     → (magic ++ (format ∷ dims ∷ degree ∷ 0 ∷ (spelled 4 events ++ (spelled 8 pages ++ spelled 4 origin)))) ++ pad
     ≡ magic ++ (format ∷ dims ∷ degree ∷ 0 ∷ (spelled 4 events ++ (spelled 8 pages ++ (spelled 4 origin ++ pad))))
 regroup format dims degree events pages origin pad = simp append_assoc

@@ -9,7 +9,7 @@ ghost use Rattle.page_layout.specs.Counted.{front, counted_page, body_of, word_o
 use crate::entry::{Entry, Own, get_all, put_all, stand_in_order};
 use crate::front::{finish, put_u8, put_u16, put_u32, put_u64};
 use crate::number::{after, bytes_of, number_u16, number_u32, number_u64};
-use crate::same::are_zeros;
+use crate::zero_bytes::are_zeros;
 use arrayvec::ArrayVec;
 use page_ports::Page;
 

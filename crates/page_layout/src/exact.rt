@@ -7,7 +7,7 @@ ghost use Rattle.page_layout.specs.TreeValue.{tree_at, tree_bytes};
 
 use crate::ba_entry::POCKET;
 use crate::number::{are_bytes, skip};
-use crate::same::are_zeros;
+use crate::zero_bytes::are_zeros;
 
 // The bytes at a place.
 fn part(bytes: &[u8], place: usize, many: usize) -> &[u8]
@@ -34,7 +34,8 @@ fn is_node_exact(bytes: &[u8]) -> bool
     are_zeros_at(bytes, 2, 6)
 }
 
-fn is_tree_exact(bytes: &[u8]) -> bool
+/// Whether a tree is the spelling of what it may spell.
+pub(crate) fn is_tree_exact(bytes: &[u8]) -> bool
     requires { 28 ≤ length bytes.now }
     ensures { IsTrue result ↔ IsExact tree_bytes tree_at 28 bytes.now }
 {
@@ -104,4 +105,18 @@ pub(crate) fn are_entries_exact(count: usize, bytes: &[u8]) -> bool
         return false;
     }
     are_entries_exact(count - 1, skip(bytes, 120))
+}
+
+/// Whether so many trees in a row are the spelling of what they may spell.
+pub(crate) fn are_roots_exact(count: usize, bytes: &[u8]) -> bool
+    requires { count * 28 ≤ length bytes.now }
+    ensures { IsTrue result ↔ EachExact tree_bytes tree_at 28 count bytes.now }
+{
+    if count == 0 {
+        return true;
+    }
+    if !is_tree_exact(bytes) {
+        return false;
+    }
+    are_roots_exact(count - 1, skip(bytes, 28))
 }

@@ -3,8 +3,10 @@ ghost use Rattle.std.specs.Prelude.{◌≡◌};
 ghost use Rattle.page_layout.specs.FreePage.{IsFreePage, IsTyped, free_page_in, next_fits, free_page_page};
 ghost use Rattle.page_layout.specs.FreePageLaws.{free_page_in-page};
 
-use crate::counted::{read_double, start};
+use crate::counted::{is_counted, read_double, start};
+use crate::entry::Own;
 use crate::front::finish;
+use crate::number::bytes_of;
 use crate::spelled::Spelled;
 use page_ports::{FREE_PAGE, Page};
 
@@ -43,6 +45,18 @@ impl Spelled for FreePage {
 
     fn keeps_rules(&self) -> bool {
         next_fits(self.next)
+    }
+
+    fn is_spelled(page: &Page) -> bool {
+        let _bytes = bytes_of(page);
+        let next = read_double(page);
+        if !next_fits(next) {
+            return false;
+        }
+        if page[1] != 0 {
+            return false;
+        }
+        is_counted::<Own, u64>(page, FREE_PAGE, 0, next, 0)
     }
 
     ghost reads_back = { free_page_in-page };

@@ -27,7 +27,6 @@ mod mv_view;
 mod number;
 mod point_leaf;
 mod point_view;
-mod same;
 mod sb_node;
 mod sb_view;
 mod signed;
@@ -41,6 +40,7 @@ mod tests;
 mod three;
 mod tree_value;
 mod view;
+mod zero_bytes;
 
 pub use cut_node::{CutNode, cuts_are_tested};
 pub use cut_page::CutPage;

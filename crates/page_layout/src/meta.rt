@@ -1,16 +1,18 @@
 //! The meta page: page 2, with the counts of the warehouse and the trees that it consists of.
-ghost use Rattle.std.specs.Prelude.{◌≡◌, ◌+◌, ◌*◌, ◌++◌, ◌≤◌, length, take};
+ghost use Rattle.std.specs.Prelude.{◌≡◌, ◌+◌, ◌*◌, ◌++◌, ◌≤◌, ◌↔◌, IsTrue, length, take};
 ghost use Rattle.std.specs.List.{All};
 ghost use Rattle.page_layout.specs.TreeValue.{IsTreeTyped};
-ghost use Rattle.page_layout.specs.Meta.{IsMeta, IsTyped, count_bytes, root_bytes, roots_of, meta_in, meta_page};
+ghost use Rattle.page_layout.specs.Meta.{IsMeta, IsTyped, count_bytes, root_bytes, root_count, roots_of, meta_in, meta_page};
 ghost use Rattle.page_layout.specs.MetaLaws.{meta_in-page};
 
-use crate::entry::{Entry, Own, each_keeps, get_all, put_all};
+use crate::entry::{Entry, Own, each_keeps, get_all, put_all, stand_in_order};
+use crate::exact::{are_roots_exact, is_tree_exact};
 use crate::free_page::next_fits;
 use crate::front::{finish, put, put_u8, put_u32, put_u64, put_u128};
-use crate::number::{after, number_u32, number_u64, number_u128};
+use crate::number::{after, bytes_of, number_u32, number_u64, number_u128};
 use crate::spelled::Spelled;
 use crate::tree_value::plain_tree_fits;
+use crate::zero_bytes::are_zeros;
 use arrayvec::ArrayVec;
 use bw_types::Tree;
 use page_ports::Page;
@@ -62,12 +64,65 @@ fn put_roots(page: &mut Page, meta: &Meta)
     put_all(page, 80, meta.roots.as_slice());
 }
 
+// How many roots a page may spell.
+fn count_in(page: &Page) -> usize
+    ensures value { result ≡ root_count page.now }
+    ensures few { result ≤ 96 }
+{
+    number_u32(after(page, 76)).min(96) as usize
+}
+
 fn read_roots(page: &Page) -> ArrayVec<Tree, 96>
     ensures items { result.items ≡ roots_of page.now }
     ensures typed { All IsTreeTyped result.items }
 {
-    let count = number_u32(after(page, 76)).min(96);
-    get_all(count as usize, after(page, 80))
+    get_all(count_in(page), after(page, 80))
+}
+
+// Whether what the page may spell keeps its rules, which are tested where its bytes stand.
+fn keeps_rules_at(page: &Page) -> bool
+    ensures { IsTrue result ↔ IsMeta (meta_in page.now) }
+{
+    if page[1] > 1 {
+        return false;
+    }
+    if number_u64(after(page, 16)) < 3 {
+        return false;
+    }
+    if !next_fits(number_u64(after(page, 24))) {
+        return false;
+    }
+    if !plain_tree_fits(&Tree::get(after(page, 48))) {
+        return false;
+    }
+    stand_in_order::<Own, Tree>(0, count_in(page), after(page, 80))
+}
+
+// Whether the page is the spelling of what it may spell.
+fn is_exact(page: &Page) -> bool
+    ensures { IsTrue result ↔ (page.now ≡ meta_page (meta_in page.now)) }
+{
+    let _bytes = bytes_of(page);
+    let count = count_in(page);
+    if page[0] != KIND {
+        return false;
+    }
+    if page[2] != 0 {
+        return false;
+    }
+    if page[3] != 0 {
+        return false;
+    }
+    if number_u32(after(page, 76)) as usize != count {
+        return false;
+    }
+    if !is_tree_exact(after(page, 48)) {
+        return false;
+    }
+    if !are_roots_exact(count, after(page, 80)) {
+        return false;
+    }
+    are_zeros(after(page, 80 + count * 28))
 }
 
 impl Spelled for Meta {
@@ -103,6 +158,11 @@ impl Spelled for Meta {
         (self.lives <= 1 && self.allotted >= 3)
             && (next_fits(self.free) && plain_tree_fits(&self.table))
             && (self.roots.len() <= 96 && each_keeps(0, self.roots.as_slice()))
+    }
+
+    fn is_spelled(page: &Page) -> bool {
+        let _bytes = bytes_of(page);
+        keeps_rules_at(page) && is_exact(page)
     }
 
     ghost reads_back = { meta_in-page };

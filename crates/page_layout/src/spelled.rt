@@ -2,8 +2,7 @@
 ghost use Rattle.std.specs.Prelude.{◌≡◌, ◌≢◌, ◌↔◌, ℕ, List, Some, IfSome, IsTrue, slice_index};
 ghost use Rattle.page_ports.specs.declared.page.TheConstants.{FREE_PAGE};
 
-use crate::same::are_same;
-use page_ports::{Page, blank_page};
+use page_ports::Page;
 
 /// A value that one page spells.
 pub trait Spelled: Drop {
@@ -36,16 +35,7 @@ pub trait Spelled: Drop {
     /// Whether the page spells a value: that which it may spell keeps the rules, and the page is its spelling.
     fn is_spelled(page: &Page) -> bool
         ensures exact { IsTrue result ↔ (keeps (value_in page.now) × (page.now ≡ spelling (value_in page.now))) }
-        ensures typed { is_typed (value_in page.now) }
-    {
-        let value = Self::guess(page);
-        if !value.keeps_rules() {
-            return false;
-        }
-        let mut again = blank_page();
-        value.write(&mut again);
-        are_same(&again, page)
-    }
+        ensures typed { is_typed (value_in page.now) };
 
     ghost reads_back: { (x : Self) → is_typed x → keeps x → value_in (spelling x) ≡ x };
 

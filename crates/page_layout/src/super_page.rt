@@ -1,14 +1,17 @@
 //! The superblock: page 1, which says what the warehouse was made for.
-ghost use Rattle.std.specs.Prelude.{◌≡◌, ◌≤◌, IfSome, Some, ◌↔◌, IsTrue};
+ghost use Rattle.std.specs.Prelude.{◌≡◌, ◌≤◌, IfSome, Some, ◌↔◌, IsTrue, take};
 ghost use Rattle.bw_types.specs.Fits.{IsInRange};
-ghost use Rattle.page_layout.specs.Super.{IsSuper, IsTyped, super_in, format_of, degree_byte, degree_in, super_page};
+ghost use Rattle.page_layout.specs.Super.{IsSuper, IsTyped, magic, super_in, format_of, degree_byte, degree_in, super_page};
 ghost use Rattle.page_layout.specs.SuperLaws.{super_in-page};
 
 use crate::front::{finish, put, put_u8, put_u32, put_u64};
-use crate::number::{after, number_u32, number_u64};
+use crate::number::{after, bytes_of, number_u32, number_u64};
 use crate::spelled::Spelled;
+use crate::zero_bytes::are_zeros;
 use bw_types::Params;
 use page_ports::Page;
+
+const MAGIC: &[u8; 8] = b"BOXSUMWH";
 
 const PLAIN: u8 = 1;
 
@@ -62,6 +65,31 @@ fn are_in_range(params: &Params) -> bool
         && (params.origin == 0 || params.origin == Params::SIGNED_ORIGIN)
 }
 
+// Whether the page begins with the text of a superblock.
+fn has_magic(page: &Page) -> bool
+    ensures { IsTrue result ↔ (take 8 page.now ≡ magic) }
+{
+    let (text, _) = page.as_slice().split_at(8);
+    text == MAGIC.as_slice()
+}
+
+// Whether the page is the spelling of what it may spell.
+fn is_exact(page: &Page) -> bool
+    ensures { IsTrue result ↔ (page.now ≡ super_page (super_in page.now)) }
+{
+    let _bytes = bytes_of(page);
+    if !has_magic(page) {
+        return false;
+    }
+    if page[8] != format_of(number_u32(after(page, 24))) {
+        return false;
+    }
+    if page[11] != 0 {
+        return false;
+    }
+    are_zeros(after(page, 28))
+}
+
 impl Spelled for Super {
     ghost keeps = { IsSuper };
 
@@ -72,7 +100,7 @@ impl Spelled for Super {
     ghost value_in = { super_in };
 
     fn write(&self, page: &mut Page) {
-        put(page, 0, b"BOXSUMWH");
+        put(page, 0, MAGIC);
         put_u8(page, 8, format_of(self.params.origin));
         put_u8(page, 9, self.params.dims);
         put_u8(page, 10, degree_byte(self.params.degree));
@@ -97,6 +125,10 @@ impl Spelled for Super {
 
     fn keeps_rules(&self) -> bool {
         are_in_range(&self.params)
+    }
+
+    fn is_spelled(page: &Page) -> bool {
+        Self::guess(page).keeps_rules() && is_exact(page)
     }
 
     ghost reads_back = { super_in-page };

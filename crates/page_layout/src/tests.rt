@@ -82,9 +82,19 @@ fn a_free_page(rt: HostRuntime) -> Result<(), Fail> {
     let start = [9u8, 0, 0, 0, 0, 0, 0, 0, 0, 0, 0, 0, 0, 1, 0, 3];
     assert!(rt; &page[..16] == start.as_slice());
     assert!(rt; FreePage::read(&page) == Some(free));
+    // Another kind, a level, a count, a word, and a byte behind the number.
+    for place in [0, 1, 3, 7, 16, 4095] {
+        let byte = page[place];
+        page[place] = byte ^ 1;
+        assert!(rt; FreePage::read(&page).is_none());
+        page[place] = byte;
+    }
+    assert!(rt; FreePage::read(&page) == Some(free));
     page[13] = 0;
     page[15] = 2;
     assert!(rt; FreePage::read(&page).is_none());
+    page[15] = 0;
+    assert!(rt; FreePage::read(&page) == Some(FreePage { next: 0 }));
     FreePage::one_spelling();
     Ok(())
 }
@@ -106,10 +116,32 @@ fn the_superblock_byte_by_byte(rt: HostRuntime) -> Result<(), Fail> {
     ];
     assert!(rt; &page[..28] == start.as_slice());
     assert!(rt; Super::read(&page) == Some(Super { params }));
+    // The text at both ends, a byte that is no format, the unnamed byte, and the zeros at both ends.
+    for place in [0, 7, 8, 11, 28, 4095] {
+        let byte = page[place];
+        page[place] = byte ^ 1;
+        assert!(rt; Super::read(&page).is_none());
+        page[place] = byte;
+    }
+    page[10] = 3;
+    assert!(rt; Super::read(&page).is_none());
+    page[10] = 2;
+    let degree = Some(2);
+    assert!(rt;
+        Super::read(&page)
+            == Some(Super {
+                params: Params { degree, ..params }
+            })
+    );
+    // The format of a signed warehouse, with its origin.
     page[8] = 2;
     assert!(rt; Super::read(&page).is_none());
+    page[24] = 0x7f;
+    page[25] = 0xff;
+    page[26] = 0xff;
+    page[27] = 0xff;
+    assert!(rt; Super::read(&page).is_some());
     page[8] = 1;
-    page[4095] = 1;
     assert!(rt; Super::read(&page).is_none());
     Super::one_spelling();
     Ok(())
@@ -146,7 +178,45 @@ fn the_first_meta_page_byte_by_byte(rt: HostRuntime) -> Result<(), Fail> {
         assert!(rt; again[i] == start[i]);
     }
     assert!(rt; again == page);
+    // Another kind, unnamed bytes of the page, of the table and of the last root, and the zeros at both ends.
+    let last = 80 + 28 * 7;
+    for place in [0, 2, 3, 57, 59, last + 9, last + 11, last + 28, 4095] {
+        let byte = page[place];
+        page[place] = byte ^ 1;
+        assert!(rt; Meta::read(&page).is_none());
+        page[place] = byte;
+    }
     Meta::one_spelling();
+    Ok(())
+}
+
+#[test]
+fn each_rule_of_a_meta_page(rt: HostRuntime) -> Result<(), Fail> {
+    let mut page = blank_page();
+    page[0] = 7;
+    page[79] = 96;
+    // The three pages that each warehouse has are not allotted; then they are.
+    assert!(rt; Meta::read(&page).is_none());
+    page[23] = 3;
+    assert!(rt; Meta::read(&page).is_some());
+    // A third form of the table, a free page that may not be one, a table and a last root with levels alone,
+    // and one root more than there may be.
+    for (place, byte) in [(1, 2), (31, 2), (56, 1), (80 + 28 * 95 + 8, 1), (79, 97)] {
+        let before = page[place];
+        page[place] = byte;
+        assert!(rt; Meta::read(&page).is_none());
+        page[place] = before;
+    }
+    // The last root is a tree with a directory, which the table may not have.
+    for tree in [48, 80 + 28 * 95] {
+        page[tree + 7] = 3;
+        page[tree + 8] = 16;
+        page[tree + 15] = 1;
+        assert!(rt; Meta::read(&page).is_some());
+        page[tree + 19] = 1;
+        assert!(rt; Meta::read(&page).is_some() == (tree > 48));
+        page[tree + 19] = 0;
+    }
     Ok(())
 }
 

@@ -1,7 +1,7 @@
 use Rattle.std.proofs.Common.{◌≡◌, ◌∙◌, sym, ap, arith}
 use Rattle.page_layout.proofs.Testing.{never, then_for}
 use Rattle.page_layout.proofs.Zeros.{zero_number, next_zeros, each_zero, same_rest}
-use Rattle.page_layout.proofs.same.are_zeros.Goals as goal
+use Rattle.page_layout.proofs.zero_bytes.are_zeros.Goals as goal
 
 pub loop-init : goal.loop-init
 loop-init c = record { left = omega arith; same = (λ all. all, λ all. all) }

@@ -1,6 +1,6 @@
 use Rattle.std.proofs.Common.{◌≡◌, ◌↔◌, ◌+◌, ◌*◌, length}
 use Rattle.page_layout.proofs.Zeros.{AllZero}
-use Rattle.page_layout.proofs.same.are_zeros.Given as goal
+use Rattle.page_layout.proofs.zero_bytes.are_zeros.Given as goal
 
 abbrev pub invariant-loop : goal.invariant-loop
 invariant-loop l = record {

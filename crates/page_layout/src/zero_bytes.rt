@@ -1,17 +1,9 @@
-//! Whether two pages are the same.
+//! Whether bytes are all 0.
 ghost use Rattle.std.specs.Prelude.{◌≡◌, ◌↔◌, IsTrue, length};
 ghost use Rattle.std.specs.List.{All};
 ghost use Rattle.page_layout.specs.Numbers.{zeros};
 
 use crate::number::{are_bytes, number_u128, skip};
-use page_ports::Page;
-
-/// Whether the bytes of two pages are the same.
-pub(crate) fn are_same(page: &Page, other: &Page) -> bool
-    ensures { IsTrue result ↔ (page.now ≡ other.now) }
-{
-    page == other
-}
 
 // How many bytes are looked at as one number.
 const WORD: usize = 16;
