@@ -8,7 +8,7 @@ use Rattle.page_ports.specs.FrameLaws.{names_page-append, Replaces-agree, Replac
 use Rattle.page_layout.specs.Footprint.{NamesNoneTwice}
 use Rattle.std.proofs.lemmas.Bool.{or_left, or_right, or_cases}
 use Rattle.corner_forest.specs.Trees.{EachStands, trees_pages}
-use Rattle.corner_forest.proofs.Footprints.{apart_sym, once_apart, once_join, once_right}
+use Rattle.page_layout.specs.FootprintLaws.{apart_sym, once_apart, once_join, once_right}
 
 -- points that agree from a place on
 pub each_same : (S : Tree → List Point → Type 0) (P Q : ℕ → List Point) (from : ℕ) (ts : List Tree) → ((j : ℕ) → from ≤ j → j < from + length ts → Q j ≡ P j)

@@ -2,7 +2,6 @@ pub mod Adding
 pub mod Changing
 pub mod Entering
 pub mod Exits
-pub mod Footprints
 pub mod ForestLaws
 pub mod KeyBounds
 pub mod Lists

@@ -1,4 +1,4 @@
-use Rattle.std.proofs.Common.{◌≡◌, ◌∙◌, sym, ap, arith}
+use Rattle.std.proofs.Common.{◌∙◌, sym, arith}
 use Rattle.page_layout.proofs.Testing.{never, then_for}
 use Rattle.page_layout.proofs.Zeros.{zero_number, next_zeros, each_zero, same_rest}
 use Rattle.page_layout.proofs.zero_bytes.are_zeros.Goals as goal

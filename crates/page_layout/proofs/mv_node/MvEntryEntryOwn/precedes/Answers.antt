@@ -1,4 +1,3 @@
-use Rattle.std.proofs.Common.{◌≡◌, ◌↔◌, ◌<◌, subst, sym}
 use Rattle.page_layout.proofs.Ascending.{digits_decide}
 use Rattle.page_layout.proofs.mv_node.MvEntryEntryOwn.precedes.Goals as goal
 
