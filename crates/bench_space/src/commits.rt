@@ -2,7 +2,7 @@
 
 use crate::made::meta_of;
 use page_disk::Disk;
-use page_ports::{PageFault, Pages, Stage, StageFault, blank_page};
+use page_ports::{Pages, Stage, StageFault, blank_page};
 use page_space::{Space, Staged};
 
 // Gives out so many pages, and puts their numbers into the list.
@@ -21,11 +21,8 @@ fn allot_all<D: Disk>(
 // Reads a page and overwrites it.
 fn put_again<S: Stage>(stage: &mut S, page: u64) -> Result<(), StageFault> {
     let mut buf = blank_page();
-    match stage.get(page, &mut buf) {
-        Ok(()) => stage.put(page, &[7; 4096]),
-        Err(PageFault::Disk) => Err(StageFault::Disk),
-        Err(PageFault::Damaged(damaged)) => Err(StageFault::Damaged(damaged)),
-    }
+    stage.get(page, &mut buf)?;
+    stage.put(page, &[7; 4096])
 }
 
 fn put_all<S: Stage>(stage: &mut S, pages: &[u64]) -> Result<(), StageFault> {

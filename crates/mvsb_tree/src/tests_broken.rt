@@ -4,7 +4,7 @@ use arrayvec::ArrayVec;
 use bw_types::Tree;
 use page_access::{make_page, put_page};
 use page_layout::{MvEntry, MvNode, Spelled};
-use page_ports::{MemStage, PageFault, Stage, StageFault, blank_page};
+use page_ports::{MemStage, PageFault, Pages, Stage, StageFault, blank_page};
 use sb_tree::sb_add;
 use std::test::Fail;
 
@@ -28,6 +28,25 @@ fn node(level: u8, place: u32, before: u64, child: u64) -> MvNode {
         before,
         entries,
     }
+}
+
+// A page of its own for the node.
+fn page_of(stage: &mut MemStage, node: &MvNode) -> Result<u64, StageFault> {
+    if !node.keeps_rules() {
+        return Err(StageFault::Damaged(0));
+    }
+    make_page(stage, node)
+}
+
+// A page that holds no node, though its kind is that of one.
+fn noise(stage: &mut MemStage) -> Result<u64, StageFault> {
+    let page = stage.allot()?;
+    let mut bytes = blank_page();
+    bytes[0] = 3;
+    bytes[1] = 77;
+    bytes[9] = 200;
+    stage.put(page, &bytes)?;
+    Ok(page)
 }
 
 // A tree with this page as its root from version 1 on, which is the last page of its chain.
@@ -64,6 +83,47 @@ fn a_node_that_leads_to_itself(rt: HostRuntime) -> Result<(), Fail> {
 }
 
 #[test]
+fn two_pages_that_lead_to_each_other(rt: HostRuntime) -> Result<(), Fail> {
+    // Below a root of level 2 the other page is to be a leaf; below one of level 3 the root is, when it is reached again.
+    for level in 2..4u8 {
+        let mut stage = MemStage::new(rt.alloc(), 10);
+        let root = stage.allot()?;
+        let other = page_of(&mut stage, &node(2, 1, 0, root))?;
+        let leading = node(level, 2, other, other);
+        assert!(rt; leading.keeps_rules());
+        put_page(&mut stage, root, &leading)?;
+        let mut tree = tree_of(&mut stage, root)?;
+        let damaged = if level == 2 { other } else { root };
+        assert_eq!(rt;
+            mv_value(&mut stage, &tree, 5, 1),
+            Err(PageFault::Damaged(damaged))
+        );
+        assert_eq!(rt;
+            mv_add(&mut stage, &mut tree, 5, 2, 1),
+            Err(StageFault::Damaged(damaged))
+        );
+    }
+    Ok(())
+}
+
+#[test]
+fn a_node_that_is_its_own_child_is_freed(rt: HostRuntime) -> Result<(), Fail> {
+    let mut stage = MemStage::new(rt.alloc(), 10);
+    let page = stage.allot()?;
+    let circle = node(2, 1, 0, page);
+    assert!(rt; circle.keeps_rules());
+    put_page(&mut stage, page, &circle)?;
+    let tree = tree_of(&mut stage, page)?;
+    // The pages are those of the chain of places, whatever the nodes lead to.
+    assert_eq!(rt; mv_free(&mut stage, &tree), Ok(()));
+    let mut bytes = blank_page();
+    for gone in [page, tree.root] {
+        assert_eq!(rt; stage.get(gone, &mut bytes), Err(PageFault::Damaged(gone)));
+    }
+    Ok(())
+}
+
+#[test]
 fn a_place_behind_itself(rt: HostRuntime) -> Result<(), Fail> {
     let mut stage = MemStage::new(rt.alloc(), 10);
     let page = stage.allot()?;
@@ -78,15 +138,30 @@ fn a_place_behind_itself(rt: HostRuntime) -> Result<(), Fail> {
 }
 
 #[test]
+fn a_place_that_is_not_one_less(rt: HostRuntime) -> Result<(), Fail> {
+    for place in [1u32, 3, 4] {
+        let mut stage = MemStage::new(rt.alloc(), 10);
+        let last = stage.allot()?;
+        let before = if place == 1 { 0 } else { last };
+        let other = page_of(&mut stage, &node(1, place, before, 0))?;
+        let third = node(1, 3, other, 0);
+        assert!(rt; third.keeps_rules());
+        put_page(&mut stage, last, &third)?;
+        let tree = tree_of(&mut stage, last)?;
+        assert_eq!(rt; mv_free(&mut stage, &tree), Err(StageFault::Damaged(other)));
+    }
+    Ok(())
+}
+
+#[test]
 fn a_root_that_is_noise(rt: HostRuntime) -> Result<(), Fail> {
     let mut stage = MemStage::new(rt.alloc(), 10);
-    let page = stage.allot()?;
-    let mut bytes = blank_page();
-    bytes[0] = 3;
-    bytes[1] = 77;
-    bytes[9] = 200;
-    stage.put(page, &bytes)?;
+    let page = noise(&mut stage)?;
     let mut tree = tree_of(&mut stage, page)?;
+    assert_eq!(rt;
+        mv_value(&mut stage, &tree, 5, 2),
+        Err(PageFault::Damaged(page))
+    );
     assert_eq!(rt;
         mv_add(&mut stage, &mut tree, 5, 2, 1),
         Err(StageFault::Damaged(page))
@@ -100,25 +175,96 @@ fn a_root_that_is_noise(rt: HostRuntime) -> Result<(), Fail> {
 }
 
 #[test]
-fn an_entry_of_a_later_version(rt: HostRuntime) -> Result<(), Fail> {
+fn a_leaf_that_is_noise(rt: HostRuntime) -> Result<(), Fail> {
     let mut stage = MemStage::new(rt.alloc(), 10);
+    let leaf = noise(&mut stage)?;
+    let root = page_of(&mut stage, &node(2, 1, 0, leaf))?;
+    let mut tree = tree_of(&mut stage, root)?;
+    assert_eq!(rt;
+        mv_value(&mut stage, &tree, 5, 2),
+        Err(PageFault::Damaged(leaf))
+    );
+    assert_eq!(rt;
+        mv_add(&mut stage, &mut tree, 5, 2, 1),
+        Err(StageFault::Damaged(leaf))
+    );
+    Ok(())
+}
+
+#[test]
+fn an_entry_that_starts_or_ends_later(rt: HostRuntime) -> Result<(), Fail> {
+    // The start and the end of an entry at 7; a version before one of them; the value at 7 after an addition of 1 at the later one.
+    for case in [(9u32, u32::MAX, 2u32, 9u32, 7u128), (1, 2, 1, 2, 4)] {
+        let mut stage = MemStage::new(rt.alloc(), 10);
+        let mut entries = ArrayVec::new();
+        entries.push(entry(0, 1, 0));
+        let mut later = entry(7, case.0, 0);
+        later.end = case.1;
+        entries.push(later);
+        let leaf = MvNode {
+            level: 1,
+            place: 1,
+            before: 0,
+            entries,
+        };
+        let page = page_of(&mut stage, &leaf)?;
+        let mut tree = tree_of(&mut stage, page)?;
+        assert!(rt; case.2 < u32::MAX && case.3 < u32::MAX);
+        assert_eq!(rt;
+            mv_add(&mut stage, &mut tree, 5, case.2, 1),
+            Err(StageFault::Damaged(page))
+        );
+        mv_add(&mut stage, &mut tree, 5, case.3, 1)?;
+        assert_eq!(rt; mv_value(&mut stage, &tree, 7, case.3), Ok(case.4));
+    }
+    Ok(())
+}
+
+// A leaf whose entry is closed at version 2.
+fn closed_leaf(low: u64) -> MvNode {
     let mut entries = ArrayVec::new();
-    entries.push(entry(0, 1, 0));
-    entries.push(entry(7, 9, 0));
-    let later = MvNode {
+    let mut closed = entry(low, 1, 0);
+    closed.end = 2;
+    entries.push(closed);
+    MvNode {
         level: 1,
         place: 1,
         before: 0,
         entries,
-    };
-    assert!(rt; later.keeps_rules());
-    let page = make_page(&mut stage, &later)?;
-    let mut tree = tree_of(&mut stage, page)?;
-    assert_eq!(rt;
-        mv_add(&mut stage, &mut tree, 5, 2, 1),
-        Err(StageFault::Damaged(page))
-    );
-    mv_add(&mut stage, &mut tree, 5, 9, 1)?;
-    assert_eq!(rt; mv_value(&mut stage, &tree, 7, 9), Ok(7));
+    }
+}
+
+#[test]
+fn a_low_outside_the_keys_of_a_leaf(rt: HostRuntime) -> Result<(), Fail> {
+    // The lows of two leaves, which are reached below 100 and from 100 on; a key, a version, and the value there, if there is one.
+    for case in [
+        (0u64, 99u64, 5u64, 1u32, Some(6u128)),
+        (0, 99, 150, 1, None),
+        (0, 99, 150, 2, Some(6)),
+        (100, 100, 5, 1, None),
+        (100, 100, 5, 2, Some(3)),
+        (100, 100, 150, 1, Some(9)),
+    ] {
+        let mut stage = MemStage::new(rt.alloc(), 10);
+        let first = page_of(&mut stage, &closed_leaf(case.0))?;
+        let second = page_of(&mut stage, &closed_leaf(case.1))?;
+        let mut entries = ArrayVec::new();
+        entries.push(entry(0, 1, first));
+        entries.push(entry(100, 1, second));
+        let above = MvNode {
+            level: 2,
+            place: 1,
+            before: 0,
+            entries,
+        };
+        let root = page_of(&mut stage, &above)?;
+        let tree = tree_of(&mut stage, root)?;
+        let reached = if case.2 < 100 { first } else { second };
+        let expected = match case.4 {
+            Some(value) => Ok(value),
+            None => Err(PageFault::Damaged(reached)),
+        };
+        assert_eq!(rt; mv_value(&mut stage, &tree, case.2, case.3), expected);
+    }
     Ok(())
 }

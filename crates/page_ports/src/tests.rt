@@ -3,7 +3,9 @@ ghost use Rattle.std.specs.Prelude.{◌≡◌, IsTrue, IsSome, IfOk, OnOk};
 ghost use Rattle.page_ports.specs.MemStage.{page_map};
 ghost use Rattle.page_ports.specs.Frame.{AgreeOn, AreApart, AreInMap, KeepsPages, Replaces};
 
-use crate::{FREE_PAGE, MemStage, Page, PageFault, Pages, Stage, StageFault, blank_page};
+use crate::{
+    FREE_PAGE, MemStage, Page, PageFault, Pages, Stage, StageFault, blank_page, changes_compose,
+};
 use std::alloc::Global;
 use std::test::Fail;
 
@@ -113,5 +115,28 @@ fn the_page_freed_last_is_given_out_first(rt: HostRuntime) -> Result<(), Fail> {
     assert_eq!(rt; first_byte(&mut stage, 3), Ok(7));
     assert_eq!(rt; stage.allot(), Ok(5));
     assert_eq!(rt; stage.allot(), Err(StageFault::PageLimit(6)));
+    Ok(())
+}
+
+#[test]
+fn laws_do_nothing(_: HostRuntime) -> Result<(), Fail> {
+    changes_compose();
+    Ok(())
+}
+
+// Reads a page and overwrites it.
+fn put_again<S: Stage>(stage: &mut S, page: u64) -> Result<(), StageFault> {
+    let mut buf = blank_page();
+    stage.get(page, &mut buf)?;
+    stage.put(page, &[7; 4096])
+}
+
+#[test]
+fn hands_on_the_refusal_of_a_get(rt: HostRuntime) -> Result<(), Fail> {
+    let mut stage = MemStage::new(rt.alloc(), 5);
+    assert_eq!(rt; put_again(&mut stage, 3), Err(StageFault::Damaged(3)));
+    assert_eq!(rt; stage.allot(), Ok(3));
+    assert_eq!(rt; put_again(&mut stage, 3), Ok(()));
+    assert_eq!(rt; first_byte(&mut stage, 3), Ok(7));
     Ok(())
 }

@@ -1,0 +1,54 @@
+//! The laws and the worked examples, called.
+
+use crate::heights::{
+    digits_are_counted, heights_are_least, heights_are_worked, heights_grow, heights_unfold,
+    pages_unfold, parts_take_no_more,
+};
+use crate::keys_are_ordered;
+use crate::residue_laws::{
+    residues_add_up, residues_are_below, residues_are_signed, residues_follow,
+};
+use crate::worked::{
+    an_id_lives_again, each_dimension_counts, events_are_limited, ids_are_judged,
+    integrals_are_scaled, lawful_histories_are, lives_are_numbered, mass_is_limited,
+    masses_of_boxes, past_versions_stay, sessions_collide, signed_coordinates, touching_boxes_meet,
+    what_fits, within_one_batch,
+};
+use std::test::Fail;
+
+#[test]
+fn laws_do_nothing(_: HostRuntime) -> Result<(), Fail> {
+    residues_follow();
+    residues_are_below();
+    residues_are_signed();
+    residues_add_up();
+    keys_are_ordered();
+    heights_are_worked();
+    heights_unfold();
+    pages_unfold();
+    digits_are_counted();
+    heights_are_least();
+    heights_grow();
+    parts_take_no_more();
+    Ok(())
+}
+
+#[test]
+fn worked_examples_do_nothing(_: HostRuntime) -> Result<(), Fail> {
+    touching_boxes_meet();
+    past_versions_stay();
+    each_dimension_counts();
+    integrals_are_scaled();
+    signed_coordinates();
+    masses_of_boxes();
+    mass_is_limited();
+    ids_are_judged();
+    sessions_collide();
+    events_are_limited();
+    an_id_lives_again();
+    within_one_batch();
+    lives_are_numbered();
+    lawful_histories_are();
+    what_fits();
+    Ok(())
+}
