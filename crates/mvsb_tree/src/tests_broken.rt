@@ -87,11 +87,9 @@ fn two_pages_that_lead_to_each_other(rt: HostRuntime) -> Result<(), Fail> {
     // Below a root of level 2 the other page is to be a leaf; below one of level 3 the root is, when it is reached again.
     for level in 2..4u8 {
         let mut stage = MemStage::new(rt.alloc(), 10);
-        let root = stage.allot()?;
-        let other = page_of(&mut stage, &node(2, 1, 0, root))?;
-        let leading = node(level, 2, other, other);
-        assert!(rt; leading.keeps_rules());
-        put_page(&mut stage, root, &leading)?;
+        let root = page_of(&mut stage, &node(level, 2, 4, 4))?;
+        let other = page_of(&mut stage, &node(2, 1, 0, 3))?;
+        assert_eq!(rt; [root, other], [3, 4]);
         let mut tree = tree_of(&mut stage, root)?;
         let damaged = if level == 2 { other } else { root };
         assert_eq!(rt;
@@ -141,12 +139,10 @@ fn a_place_behind_itself(rt: HostRuntime) -> Result<(), Fail> {
 fn a_place_that_is_not_one_less(rt: HostRuntime) -> Result<(), Fail> {
     for place in [1u32, 3, 4] {
         let mut stage = MemStage::new(rt.alloc(), 10);
-        let last = stage.allot()?;
-        let before = if place == 1 { 0 } else { last };
+        let last = page_of(&mut stage, &node(1, 3, 4, 0))?;
+        let before = if place == 1 { 0 } else { 3 };
         let other = page_of(&mut stage, &node(1, place, before, 0))?;
-        let third = node(1, 3, other, 0);
-        assert!(rt; third.keeps_rules());
-        put_page(&mut stage, last, &third)?;
+        assert_eq!(rt; [last, other], [3, 4]);
         let tree = tree_of(&mut stage, last)?;
         assert_eq!(rt; mv_free(&mut stage, &tree), Err(StageFault::Damaged(other)));
     }
