@@ -2,9 +2,10 @@
 ghost use Rattle.std.specs.Prelude.{◌≡◌, false, Ok};
 
 use crate::Failed;
-use crate::file_pages::{page_count, read_page, seek_page, write_page};
+use crate::file_pages::{page_count, read_page, write_page};
 use page_ports::Page;
 use std::fs::{OpenFile, OpenOptions};
+use std::os::unix::fs::FileExt;
 use std::rt::Files;
 
 /// A file that is opened, and made where absent, at the first call.
@@ -14,25 +15,25 @@ pub(crate) struct AreaFile<R: Files> {
     pub file: Option<R::File>,
     // How many whole pages the file has, if that is known.
     pub len: Option<u64>,
-    // The page at which the file stands, if that is known.
-    pub place: Option<u64>,
     // Whether writes may be pending: since the last sync, or of a program that stopped before.
     pub pending: bool,
 }
 
-impl<R: Files> AreaFile<R> {
+impl<R: Files> AreaFile<R>
+where
+    R::File: FileExt,
+{
     /// The file of this name, of which nothing is known yet.
     pub fn named(name: &'static str) -> AreaFile<R> {
         AreaFile {
             name,
             file: None,
             len: None,
-            place: None,
             pending: true,
         }
     }
 
-    fn opened(&mut self, rt: &R) -> Result<&mut R::File, Failed> {
+    fn opened(&mut self, rt: &R) -> Result<&R::File, Failed> {
         if self.file.is_none() {
             let mut how = OpenOptions::new();
             how.read(true).write(true).create(true);
@@ -41,7 +42,7 @@ impl<R: Files> AreaFile<R> {
                 Err(_) => return Err(Failed),
             }
         }
-        match &mut self.file {
+        match &self.file {
             Some(file) => Ok(file),
             None => Err(Failed),
         }
@@ -57,16 +58,6 @@ impl<R: Files> AreaFile<R> {
         Ok(len)
     }
 
-    // Brings the file to a page, with no call where it stands there. Its place is then to be set anew.
-    fn go_to(&mut self, rt: &R, page: u64) -> Result<(), Failed> {
-        if self.place == Some(page) {
-            self.place = None;
-            return Ok(());
-        }
-        self.place = None;
-        seek_page(self.opened(rt)?, page)
-    }
-
     /// Answers false where the page is at or past the end, and then `buf` is as before.
     pub fn read(&mut self, rt: &R, page: u64, buf: &mut Page) -> Result<bool, Failed>
         ensures { result ≡ Ok false → buf.new ≡ buf.old }
@@ -74,9 +65,7 @@ impl<R: Files> AreaFile<R> {
         if page >= self.len(rt)? {
             return Ok(false);
         }
-        self.go_to(rt, page)?;
-        read_page(self.opened(rt)?, buf)?;
-        self.place = page.checked_add(1);
+        read_page(self.opened(rt)?, page, buf)?;
         Ok(true)
     }
 
@@ -86,11 +75,9 @@ impl<R: Files> AreaFile<R> {
         if page > len {
             return Err(Failed);
         }
-        self.go_to(rt, page)?;
         self.pending = true;
         self.len = None;
-        write_page(self.opened(rt)?, buf)?;
-        self.place = page.checked_add(1);
+        write_page(self.opened(rt)?, page, buf)?;
         self.len = Some(len.max(page.saturating_add(1)));
         Ok(())
     }

@@ -10,6 +10,7 @@ use crate::{Area, Disk, Failed};
 use counts::raised;
 use page_ports::Page;
 use std::fs::{OpenFile, OpenOptions};
+use std::os::unix::fs::FileExt;
 use std::rt::Files;
 
 /// The file of the Pages area, in the working folder.
@@ -48,7 +49,10 @@ fn sync_folder<R: Files>(rt: &R) -> Result<(), Failed> {
     }
 }
 
-impl<R: Files> FileDisk<R> {
+impl<R: Files> FileDisk<R>
+where
+    R::File: FileExt,
+{
     ghost use Rattle.page_disk.specs.FileDisk.{read_count, fault_count};
 
     /// A disk over the files `boxsum.pages` and `boxsum.journal` in the working folder.
@@ -103,7 +107,10 @@ impl<R: Files> FileDisk<R> {
     }
 }
 
-impl<R: Files> Disk for FileDisk<R> {
+impl<R: Files> Disk for FileDisk<R>
+where
+    R::File: FileExt,
+{
     ghost tells = { λ _. false };
 
     ghost image = { λ _. record { pages = []; journal = [] } };

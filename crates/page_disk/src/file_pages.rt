@@ -2,7 +2,7 @@
 use crate::Failed;
 use page_ports::Page;
 use std::fs::OpenFile;
-use std::io::{ErrorKind, Read, Seek, SeekFrom, Write};
+use std::os::unix::fs::FileExt;
 
 /// The bytes of a page.
 const PAGE_BYTES: u64 = 4096;
@@ -15,47 +15,26 @@ pub(crate) fn page_count<F: OpenFile>(file: &F) -> Result<u64, Failed> {
     }
 }
 
-/// Brings a file to the place of a page.
-pub(crate) fn seek_page<F: Seek>(file: &mut F, page: u64) -> Result<(), Failed> {
-    let Some(at) = page.checked_mul(PAGE_BYTES) else {
-        return Err(Failed);
-    };
-    match file.seek(SeekFrom::Start(at)) {
-        Ok(_) => Ok(()),
+// The first byte of a page in its file.
+fn place_of(page: u64) -> Result<u64, Failed> {
+    match page.checked_mul(PAGE_BYTES) {
+        Some(place) => Ok(place),
+        None => Err(Failed),
+    }
+}
+
+/// Reads a page where it stands, whatever was read or written before: one call of the system.
+pub(crate) fn read_page<F: FileExt>(file: &F, page: u64, buf: &mut Page) -> Result<(), Failed> {
+    match file.read_exact_at(buf, place_of(page)?) {
+        Ok(()) => Ok(()),
         Err(_) => Err(Failed),
     }
 }
 
-/// Reads a page from where the file stands.
-pub(crate) fn read_page<F: Read>(file: &mut F, buf: &mut Page) -> Result<(), Failed> {
-    let mut done = 0;
-    for _ in 0..u64::MAX {
-        if done == buf.len() {
-            return Ok(());
-        }
-        match file.read(&mut buf[done..]) {
-            Ok(0) => return Err(Failed),
-            Ok(n) => done += n,
-            Err(error) if error.kind() == ErrorKind::Interrupted => {}
-            Err(_) => return Err(Failed),
-        }
+/// Writes a page where it stands, whatever was read or written before: one call of the system.
+pub(crate) fn write_page<F: FileExt>(file: &F, page: u64, buf: &Page) -> Result<(), Failed> {
+    match file.write_all_at(buf, place_of(page)?) {
+        Ok(()) => Ok(()),
+        Err(_) => Err(Failed),
     }
-    Err(Failed)
-}
-
-/// Writes a page to where the file stands.
-pub(crate) fn write_page<F: Write>(file: &mut F, buf: &Page) -> Result<(), Failed> {
-    let mut done = 0;
-    for _ in 0..u64::MAX {
-        if done == buf.len() {
-            return Ok(());
-        }
-        match file.write(&buf[done..]) {
-            Ok(0) => return Err(Failed),
-            Ok(n) => done += n,
-            Err(error) if error.kind() == ErrorKind::Interrupted => {}
-            Err(_) => return Err(Failed),
-        }
-    }
-    Err(Failed)
 }
