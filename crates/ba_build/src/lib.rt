@@ -10,8 +10,6 @@ mod by_hand;
 mod collecting;
 mod dividing;
 mod dropping;
-#[cfg(test)]
-mod failing;
 mod filters;
 mod fitting;
 mod gathering;

@@ -6,8 +6,8 @@ use crate::by_hand::{
     tree_over_three, tree_over_two,
 };
 use crate::collect;
-use crate::failing::Failing;
 use bw_types::{Outside, Point, Tree};
+use failing_stage::FailingStage;
 use page_ports::{MemStage, Pages, StageFault};
 use std::alloc::Global;
 use std::test::Fail;
@@ -145,11 +145,7 @@ fn leaves_that_are_none(rt: HostRuntime) -> Result<(), Fail> {
 
 #[test]
 fn each_read_fails_once(rt: HostRuntime) -> Result<(), Fail> {
-    let mut failing = Failing {
-        stage: MemStage::new(rt.alloc(), 100),
-        calls_left: u64::MAX,
-        faults: 0,
-    };
+    let mut failing = FailingStage::over(MemStage::new(rt.alloc(), 100));
     let tree = tree_over_three(&mut failing)?;
     for calls in 0..7u64 {
         failing.calls_left = calls;

@@ -3,11 +3,11 @@ ghost use Rattle.std.specs.Prelude.{◌≤◌};
 ghost use Rattle.page_layout.specs.CutPage.{IsCutPage};
 
 use crate::by_hand::{ENTRY, cut, holds_no_pages, point};
-use crate::failing::Failing;
 use crate::fitting::may_be_built;
 use crate::tests::collects;
 use crate::{build, drop_tree};
 use bw_types::{BaEntry, Outside, Point, Region, Tree};
+use failing_stage::FailingStage;
 use kdb_pages::{region_of, root_region};
 use mvsb_tree::mv_value;
 use page_access::{read_level, read_page};
@@ -360,11 +360,8 @@ fn each_call_fails_once(rt: HostRuntime) -> Result<(), Fail> {
     let mut wanting = [0_u32; 2];
     let mut ended = false;
     for calls in 0..1000u64 {
-        let mut failing = Failing {
-            stage: MemStage::new(rt.alloc(), 1000),
-            calls_left: calls,
-            faults: 0,
-        };
+        let mut failing = FailingStage::over(MemStage::new(rt.alloc(), 1000));
+        failing.calls_left = calls;
         let answer = tree_of_points(rt.alloc(), &mut failing, 2, points.as_slice());
         // None of so many calls failed.
         if failing.calls_left < calls {

@@ -4,8 +4,8 @@ use crate::by_hand::{
     points_page, tree_beside, tree_of, tree_over_three, tree_over_two, version_tree,
 };
 use crate::drop_tree;
-use crate::failing::Failing;
 use bw_types::{Outside, Tree};
+use failing_stage::FailingStage;
 use mvsb_tree::mv_add;
 use page_ports::{MemStage, PageFault, Pages, StageFault, blank_page};
 use std::test::Fail;
@@ -217,11 +217,7 @@ fn pages_that_are_missing_or_of_another_kind(rt: HostRuntime) -> Result<(), Fail
 fn each_call_fails_once(rt: HostRuntime) -> Result<(), Fail> {
     let mut ended = false;
     for calls in 0..100u64 {
-        let mut failing = Failing {
-            stage: MemStage::new(rt.alloc(), 100),
-            calls_left: u64::MAX,
-            faults: 0,
-        };
+        let mut failing = FailingStage::over(MemStage::new(rt.alloc(), 100));
         let tree = tree_over_three(&mut failing)?;
         failing.calls_left = calls;
         let dropped = drop_tree(&mut failing, 3, &tree);

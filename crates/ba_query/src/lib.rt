@@ -11,8 +11,6 @@
 #[cfg(test)]
 mod by_hand;
 mod descent;
-#[cfg(test)]
-mod failing;
 mod keys;
 mod nodes;
 mod place;

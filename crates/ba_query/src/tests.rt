@@ -3,8 +3,8 @@ use crate::by_hand::{
     ENTRY, count_of, cut, cuts_page, entry_of, entry_with_pocket, entry_with_trees, key_tree,
     point, points_page, sum_at, tree_of, version_tree,
 };
-use crate::failing::Failing;
 use bw_types::{Point, Tree};
+use failing_stage::FailingStage;
 use mvsb_tree::mv_add;
 use page_ports::{MemStage, PageFault, StageFault};
 use std::test::Fail;
@@ -66,11 +66,8 @@ fn each_read_fails_once(rt: HostRuntime) -> Result<(), Fail> {
     for gets in 0..5u64 {
         let mut stage = MemStage::new(rt.alloc(), 10);
         let tree = two_leaves(&mut stage)?;
-        let mut failing = Failing {
-            pages: stage,
-            gets_left: gets,
-            faults: 0,
-        };
+        let mut failing = FailingStage::over(stage);
+        failing.calls_left = gets;
         if gets < 4 {
             assert_eq!(rt;
                 sum_at(&mut failing, 2, &tree, [20, 9, 0], 1),

@@ -369,3 +369,10 @@ fn a_limit_that_is_met(rt: HostRuntime) -> Result<(), Fail> {
     assert!(rt; sixty_five(rt.alloc(), &mut stage).is_ok());
     Ok(())
 }
+
+#[test]
+fn an_index_over_three_dimensions(rt: HostRuntime) -> Result<(), Fail> {
+    assert_eq!(rt; BaIndex::DIMS, 3);
+    BaIndex::index_laws();
+    Ok(())
+}

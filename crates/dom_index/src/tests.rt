@@ -117,3 +117,10 @@ fn the_limit_is_told(rt: HostRuntime) -> Result<(), Fail> {
     assert_eq!(rt; tree, Tree::default());
     Ok(())
 }
+
+#[test]
+fn a_list_over_three_dimensions(rt: HostRuntime) -> Result<(), Fail> {
+    assert_eq!(rt; PointList::DIMS, 3);
+    PointList::index_laws();
+    Ok(())
+}

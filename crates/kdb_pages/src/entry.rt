@@ -1,7 +1,7 @@
 //! A page of one entry, and an entry in the place of another.
 ghost use Rattle.std.specs.Prelude.{◌≡◌, ◌<◌, ◌≤◌, ◌∷◌, [], ℕ, IsTrue, length, slice_set};
 ghost use Rattle.page_layout.specs.BaEntry.{IsBaEntryTyped, ba_entry_fits};
-ghost use Rattle.page_layout.specs.Cuts.{Entry, cuts_in};
+ghost use Rattle.page_layout.specs.Cuts.{entry_node};
 ghost use Rattle.page_layout.specs.CutPage.{IsCutPage, IsCutPageUpTo, IsTyped};
 
 use crate::sides::entry_node;
@@ -12,7 +12,7 @@ use page_layout::CutPage;
 /// A page of one entry, whose region is the page's.
 pub fn page_of_one(level: u8, entry: &BaEntry) -> CutPage
     ensures level { result.level ≡ level }
-    ensures cuts { cuts_in result.cuts.items ≡ Entry }
+    ensures nodes { result.cuts.items ≡ entry_node ∷ [] }
     ensures entries { result.entries.items ≡ entry.now ∷ [] }
     // The page keeps its rules where the level is one of such a page and the entry keeps its own.
     ensures rules { 2 ≤ level → level ≤ 16 → IsTrue (ba_entry_fits entry.now) → IsCutPage result }

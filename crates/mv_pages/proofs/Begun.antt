@@ -1,9 +1,9 @@
 -- The entries that begin at or below a key, which stand before all others.
-use Rattle.std.proofs.Common.{◌≡◌, ℕ, suc, ◌+◌, ◌-◌, ◌<◌, ◌≤◌, nat_lt, false, List, ◌∷◌, ◌++◌, length, get_or, take, drop, Option, Some, None, refl, sym, ap, ◌∙◌, subst, arith, drop-cons, append_assoc, get_or-drop, length-drop}
+use Rattle.std.proofs.Common.{◌≡◌, ℕ, suc, ◌+◌, ◌-◌, ◌<◌, ◌≤◌, nat_lt, nat_le, true, false, List, ◌∷◌, ◌++◌, length, get_or, take, drop, Some, refl, sym, ap, ◌∙◌, subst, arith, drop-cons, get_or-drop, length-drop}
 use Rattle.std.specs.List.{All}
-use Rattle.std.proofs.lemmas.Bool.{and_left, lt-leb, le-leb, le-ltb}
-use Rattle.std.proofs.lemmas.List.{take-append-drop}
-use Rattle.std.proofs.lemmas.List.Elements.{All-append, All-cons}
+use Rattle.std.proofs.lemmas.Bool.{and_left, and_right, lt-leb, le-leb, le-ltb}
+use Rattle.std.proofs.lemmas.List.{get_or-take, length-take, length-take-le, take-append-drop}
+use Rattle.std.proofs.lemmas.List.Elements.{All-cons}
 use Rattle.page_layout.specs.declared.mv_node.MvEntry.{MvEntry}
 use Rattle.mv_pages.specs.Alive.{IsBegunCount, is_alive, is_beyond, reaches, value_of}
 use Rattle.mv_pages.specs.Edits.{IsPathIndex}
@@ -52,26 +52,33 @@ module _ (key v : ℕ) (es : List MvEntry) (order : Ordered es) (i : ℕ) (e : M
       let lows = lows_after (take i es) e after order_here in
       All-cons (λ f. key < f.low) e after above (λ k d h. omega (arith, lows k d h, above))
 
-  none_after : All (λ f. reaches key v f ≡ false) (e ∷ after)
-  none_after = λ k d h. and_left _ _ (lt-leb (get_or (e ∷ after) k d).low key (rest_above k d h))
-
   pub begun_count : All (λ f. f.low ≤ key) (take i es) → IsBegunCount es key i
   begun_count below = record {
     below = below;
     above = subst (All (λ f. key < f.low)) (sym (drop-cons es i e within ∙ ap (λ (f : MvEntry). f ∷ after) (sym (is_e e)))) rest_above;
   }
 
-  further : (last : Option ℕ) → IsPathIndex (take i es) key v last → IsPathIndex (take i es ++ (e ∷ after)) key v last
-  further None none = All-append (λ f. reaches key v f ≡ false) (take i es) (e ∷ after) none none_after
-  further (Some n) t = (
-    t.0,
-    t.1,
-    t.2 ++ (e ∷ after),
-    ap (λ (l : List MvEntry). l ++ (e ∷ after)) t.3 ∙ append_assoc t.0 (t.1 ∷ t.2) (e ∷ after),
-    t.4,
-    t.5,
-    All-append (λ f. reaches key v f ≡ false) t.2 (e ∷ after) t.6 none_after,
-  )
+-- Among those that have begun, the last that is alive is looked for from the back: those behind are passed over.
+abbrev pub PassedOver : List MvEntry → ℕ → ℕ → ℕ → Type 0
+PassedOver es key v rest = All (λ f. reaches key v f ≡ false) (drop rest es)
 
-  pub begun_last : (last : Option ℕ) → IsPathIndex (take i es) key v last → IsPathIndex es key v last
-  begun_last last t = subst (λ (l : List MvEntry). IsPathIndex l key v last) (sym whole) (further last t)
+pub passed_above : (key v n : ℕ) (es : List MvEntry) → IsBegunCount es key n → PassedOver es key v n
+passed_above key v n es begun = λ k d h. and_left _ _ (lt-leb (get_or (drop n es) k d).low key (begun.above k d h))
+
+module _ (key v : ℕ) (es : List MvEntry) (i : ℕ) (e : MvEntry) (within : i < length es) (is_e : (d : MvEntry) → e ≡ get_or es i d) (passed : PassedOver es key v (suc i)) where
+  pub passed_one : is_alive v e ≡ false → PassedOver es key v i
+  passed_one dead =
+      subst (All (λ f. reaches key v f ≡ false)) (sym (drop-cons es i e within ∙ ap (λ (f : MvEntry). f ∷ drop (suc i) es) (sym (is_e e))))
+      (All-cons (λ f. reaches key v f ≡ false) e (drop (suc i) es) (and_right (nat_le e.low key) (is_alive v e) dead) passed)
+
+  pub last_begun : (n : ℕ) → IsBegunCount es key n → i < n → is_alive v e ≡ true → IsPathIndex es key v (Some i)
+  last_begun n begun below alive =
+      let begins : e.low ≤ key = subst (λ (f : MvEntry). f.low ≤ key) (get_or-take n es i e below ∙ sym (is_e e)) (begun.below i e (omega (arith, length-take n es, below, within))) in (
+        take i es,
+        e,
+        drop (suc i) es,
+        sym (take-append-drop i es) ∙ ap (λ (l : List MvEntry). take i es ++ l) (drop-cons es i e within ∙ ap (λ (f : MvEntry). f ∷ drop (suc i) es) (sym (is_e e))),
+        length-take-le i es (omega (arith, within)),
+        reaches_begun key v e begins ∙ alive,
+        passed,
+      )

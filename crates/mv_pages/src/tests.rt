@@ -165,6 +165,44 @@ fn a_leaf_is_copied(rt: HostRuntime) -> Result<(), Fail> {
     Ok(())
 }
 
+// A node of two alive entries is copied into one, which begins at the version.
+fn is_copied_into_one() -> bool {
+    let node = index_node();
+    if !is_changeable(&node, 2) {
+        return false;
+    }
+    match close_and_copy(&node, 2) {
+        Copied::One(copy) => {
+            copy.entries.len() == 2
+                && child_at(&copy, 12, 2) == Some(4)
+                && child_at(&copy, 12, 1) == None
+                && value_at(&copy, 12, 2) == 12
+        }
+        Copied::Two(_, _, _) => false,
+    }
+}
+
+#[test]
+fn a_node_is_copied_into_one(rt: HostRuntime) -> Result<(), Fail> {
+    assert!(rt; is_copied_into_one());
+    Ok(())
+}
+
+// The last version is past every closed entry, and an open one is alive there too.
+#[test]
+fn alive_from_start_to_end(rt: HostRuntime) -> Result<(), Fail> {
+    let mut e = index_entry(0, 5, 3);
+    assert!(rt; !is_alive(&e, 0) && is_alive(&e, 1) && is_alive(&e, u32::MAX));
+    e.end = 4;
+    assert!(rt; is_alive(&e, 3) && !is_alive(&e, 4));
+    e.end = u32::MAX - 1;
+    assert!(rt;
+        is_alive(&e, u32::MAX - 2) && !is_alive(&e, u32::MAX - 1) && !is_alive(&e, u32::MAX)
+    );
+    assert!(rt; is_same_on_its_page(&index_node(), 10, u32::MAX));
+    Ok(())
+}
+
 #[test]
 fn laws_do_nothing(_: HostRuntime) -> Result<(), Fail> {
     later_laws();

@@ -1,10 +1,10 @@
 //! What a node says at a key and a version, where it is read in place.
-ghost use Rattle.std.specs.Prelude.{◌≡◌, ℕ, cond};
-ghost use Rattle.mv_pages.specs.Alive.{IsBegunCount, next_entry, node_value};
+ghost use Rattle.std.specs.Prelude.{◌≡◌, ◌≤◌, ℕ, cond, length, min};
+ghost use Rattle.mv_pages.specs.Alive.{IsBegunCount, is_alive, next_entry, node_value};
 ghost use Rattle.mv_pages.specs.Edits.{IsPathIndex};
 ghost use Rattle.mv_pages.specs.Lows.{IsReached, low_of};
 
-use crate::find::is_alive;
+use crate::find::{OPEN, is_alive};
 use crate::path::Reached;
 use page_layout::{MvEntry, MvNode, View};
 
@@ -24,47 +24,49 @@ pub fn said_on(view: &View<MvNode>, key: u64, version: u32) -> Said
     let begun = begun_on(view, key, version);
     Said {
         value: begun.value,
-        reached: reached_on(view, begun, key, version),
+        reached: reached_on(view, begun.count, key, version),
     }
 }
 
-// The entries that begin at or below a key: how many there are, the value of those that are alive at a
-// version, and the index of the last of these.
+// The entries that begin at or below a key: how many there are, and the value of those that are alive at a version.
 #[derive(Clone, Copy)]
 struct Begun {
     count: usize,
     value: u128,
-    last: Option<usize>,
 }
 
 // Entries ascend by low: the walk ends at the first one above the key.
 fn begun_on(view: &View<MvNode>, key: u64, version: u32) -> Begun
     ensures count { IsBegunCount view.now.entries.items key result.count }
+    ensures few { result.count ≤ length view.now.entries.items }
     ensures value { result.value ≡ node_value view.now key version }
-    ensures last { IsPathIndex view.now.entries.items key version result.last }
 {
     view.keeps_rules();
+    let closable = version.min(OPEN - 1);
     let mut value: u128 = 0;
-    let mut last = None;
     for index in 0..view.len() {
         let e = view.entry(index);
         if key < e.low {
             return Begun {
                 count: index,
                 value,
-                last,
             };
         }
         // Chosen without a branch: which entries are alive cannot be foreseen.
-        let alive = is_alive(&e, version);
-        value = value.wrapping_add(worth(&e, alive));
-        last = if alive { Some(index) } else { last };
+        value = value.wrapping_add(worth(&e, lives(&e, version, closable)));
     }
     Begun {
         count: view.len(),
         value,
-        last,
     }
+}
+
+// Whether the entry is alive at a version. No entry is closed past `closable`, so one that is open needs no test of its own.
+fn lives(e: &MvEntry, version: u32, closable: u32) -> bool
+    requires { closable ≡ min version 4294967294 }
+    ensures { result ≡ is_alive version e.now }
+{
+    (e.start <= version) & (closable < e.end)
 }
 
 // What the entry adds, if it is alive.
@@ -75,25 +77,41 @@ fn worth(e: &MvEntry, alive: bool) -> u128
 }
 
 // The child to which the node leads, with the keys that lead to it.
-fn reached_on(view: &View<MvNode>, begun: Begun, key: u64, version: u32) -> Option<Reached>
-    requires count { IsBegunCount view.now.entries.items key begun.count }
-    requires last { IsPathIndex view.now.entries.items key version begun.last }
+fn reached_on(view: &View<MvNode>, begun: usize, key: u64, version: u32) -> Option<Reached>
+    requires count { IsBegunCount view.now.entries.items key begun }
+    requires few { begun ≤ length view.now.entries.items }
     ensures { IsReached view.now key version result }
 {
     if view.level() == 1 {
         return None;
     }
-    match begun.last {
+    match last_on(view, begun, version) {
         Some(index) => {
             let e = view.entry(index);
             Some(Reached {
                 child: e.child,
                 low: e.low,
-                next: next_on(view, begun.count, version),
+                next: next_on(view, begun, version),
             })
         }
         None => None,
     }
+}
+
+// The index of the last alive one of the entries that begin at or below a key: so many do.
+fn last_on(view: &View<MvNode>, begun: usize, version: u32) -> Option<usize>
+    requires { begun ≤ length view.now.entries.items }
+    ensures { (key : ℕ) → IsBegunCount view.now.entries.items key begun → IsPathIndex view.now.entries.items key version result }
+{
+    let mut rest = begun;
+    while rest > 0 {
+        rest -= 1;
+        let e = view.entry(rest);
+        if is_alive(&e, version) {
+            return Some(rest);
+        }
+    }
+    None
 }
 
 // The first alive low above a key at or below which so many entries begin.

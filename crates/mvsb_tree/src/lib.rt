@@ -39,6 +39,8 @@ mod tests_build;
 #[cfg(test)]
 mod tests_ends;
 #[cfg(test)]
+mod tests_failing;
+#[cfg(test)]
 mod tests_index;
 mod told;
 mod top;

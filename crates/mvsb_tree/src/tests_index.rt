@@ -40,3 +40,10 @@ fn three_points(rt: HostRuntime) -> Result<(), Fail> {
     assert_eq!(rt; sum_at(&mut stage, &tree, 25, 2), Ok(13));
     Ok(())
 }
+
+#[test]
+fn an_index_of_one_dimension(rt: HostRuntime) -> Result<(), Fail> {
+    assert_eq!(rt; MvIndex::DIMS, 1);
+    MvIndex::index_laws();
+    Ok(())
+}

@@ -2,11 +2,11 @@
 ghost use Rattle.std.specs.Prelude.{◌≡◌, ◌≤◌, IsTrue};
 ghost use Rattle.page_layout.specs.Dated.{by_life_fits};
 
-use crate::failing::Failing;
 use crate::tests::{index, leaf, page_of, table_of};
 use crate::{enter, find, mark_withdrawn, walk};
 use arrayvec::ArrayVec;
 use bw_types::{Dated, Object, Tree};
+use failing_stage::FailingStage;
 use page_access::read_page;
 use page_layout::{LifeEntry, LifeNode};
 use page_ports::{FREE_PAGE, MemStage, Page, PageFault, Pages, Stage, StageFault, blank_page};
@@ -327,16 +327,16 @@ fn a_root_of_level_16_is_not_split(rt: HostRuntime) -> Result<(), Fail> {
 }
 
 // A table whose one leaf is full, on a stage with this limit.
-fn full_leaf(alloc: Global, limit: u64, table: &mut Tree) -> Result<Failing<MemStage>, StageFault>
+fn full_leaf(
+    alloc: Global,
+    limit: u64,
+    table: &mut Tree,
+) -> Result<FailingStage<MemStage>, StageFault>
     requires { (3 ≤ limit) × (limit ≤ 4294967295) }
 {
     let mut stage = MemStage::new(alloc, limit);
     enter_first(&mut stage, table, 14)?;
-    Ok(Failing {
-        stage,
-        calls_left: u64::MAX,
-        faults: 0,
-    })
+    Ok(FailingStage::over(stage))
 }
 
 // How a split of the root is refused where this call of the stage fails, counted from 0; the table value

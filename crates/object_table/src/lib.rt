@@ -12,8 +12,6 @@ mod copying;
 mod entering;
 #[cfg(test)]
 mod entering_tests;
-#[cfg(test)]
-mod failing;
 mod finding;
 mod form;
 mod freeing;

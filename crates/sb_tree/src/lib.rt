@@ -12,8 +12,6 @@
 mod add;
 mod edit;
 mod entries;
-#[cfg(test)]
-mod failing;
 mod free;
 mod laws;
 mod place;

@@ -1,9 +1,9 @@
 //! Trees in memory: additions against plain sums, what damage is answered, and calls that fail.
 ghost use Rattle.std.specs.Prelude.{◌≤◌};
 
-use crate::failing::Failing;
 use crate::{sb_add, sb_free, sb_value, tree_laws};
 use bw_types::Tree;
+use failing_stage::FailingStage;
 use page_ports::{FREE_PAGE, MemStage, Page, PageFault, Pages, Stage, StageFault, blank_page};
 use std::alloc::{AllocError, Global};
 use std::test::Fail;
@@ -105,15 +105,15 @@ fn holds_no_pages(stage: &mut MemStage) -> bool {
 }
 
 // A tree of one full leaf.
-fn full_leaf(alloc: Global, limit: u64, tree: &mut Tree) -> Result<Failing<MemStage>, StageFault>
+fn full_leaf(
+    alloc: Global,
+    limit: u64,
+    tree: &mut Tree,
+) -> Result<FailingStage<MemStage>, StageFault>
     requires low { 3 ≤ limit }
     requires high { limit ≤ 4294967295 }
 {
-    let mut stage = Failing {
-        stage: MemStage::new(alloc, limit),
-        calls_left: u64::MAX,
-        faults: 0,
-    };
+    let mut stage = FailingStage::over(MemStage::new(alloc, limit));
     for version in 0..64u32 {
         sb_add(&mut stage, tree, version, 1)?;
     }

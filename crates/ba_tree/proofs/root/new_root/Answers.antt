@@ -4,6 +4,8 @@ use Rattle.bw_types.specs.Heights.{pages_a_point}
 use Rattle.bw_types.specs.declared.point.Point.{Point}
 use Rattle.bw_types.specs.Regions.{root_region}
 use Rattle.bw_types.specs.declared.ba_entry.BaEntry.{BaEntry}
+use Rattle.page_layout.specs.Cuts.{cuts_in}
+use Rattle.page_layout.specs.declared.cut_node.CutNode.{CutNode}
 use Rattle.page_ports.specs.Pages.{PageMap}
 use Rattle.ba_trees.specs.Kinds.{trees_over}
 use Rattle.ba_tree.proofs.NewRoot.{both_are_balanced, made_over, page_over, page_there, pages_of_both, root_was_split, two_rules}
@@ -35,7 +37,7 @@ returns-in_err-_points-clause-goes_on g c = λ tells points before old s may cou
     let only = c.page_of_one-node.ensures.entries ∙ ap (λ (e : BaEntry). e ∷ []) c.entry_of.ensures in
     let at_level : c.page_of_one-node.result.level - 1 ≡ levels = omega (arith, c.page_of_one-node.ensures.level) in
     let child = root_was_split c.tree_kind_laws.ensures dims levels points old before m0 c.args.tree.now.root c.args.split.now c.requires.dims.0 c.requires.dims.1 c.root_laws.ensures.three may s
-    (c.page_of_one-node.result.level - 1) c.root_region-region.result _ c.page_of_one-node.result.entries.items at_level c.root_region-region.ensures c.page_of_one-node.ensures.cuts only in
+    (c.page_of_one-node.result.level - 1) c.root_region-region.result _ c.page_of_one-node.result.entries.items at_level c.root_region-region.ensures (ap (λ (nodes : List CutNode). cuts_in nodes) c.page_of_one-node.ensures.nodes) only in
     goes_told g.S.Pages (1 + number) _ s0 s1 c.from_residual.result c.in_err-_points.field-0.0 (λ u. Unit {0}) _
     (err_from_is_err_and c.from_residual.result c.from_residual.ensures.1)
     (let cut = c.in_err-_points.ensures.goes_on tells points child may counted most few in
@@ -53,7 +55,7 @@ returns-in_err-root-clause-goes_on g c = λ tells points before old s may counte
     let only = c.page_of_one-node.ensures.entries ∙ ap (λ (e : BaEntry). e ∷ []) c.entry_of.ensures in
     let at_level : c.page_of_one-node.result.level - 1 ≡ levels = omega (arith, c.page_of_one-node.ensures.level) in
     let child = root_was_split c.tree_kind_laws.ensures dims levels points old before m0 c.args.tree.now.root c.args.split.now c.requires.dims.0 c.requires.dims.1 c.root_laws.ensures.three may s
-    (c.page_of_one-node.result.level - 1) c.root_region-region.result _ c.page_of_one-node.result.entries.items at_level c.root_region-region.ensures c.page_of_one-node.ensures.cuts only in
+    (c.page_of_one-node.result.level - 1) c.root_region-region.result _ c.page_of_one-node.result.entries.items at_level c.root_region-region.ensures (ap (λ (nodes : List CutNode). cuts_in nodes) c.page_of_one-node.ensures.nodes) only in
     let s2 = c.make_page.new.stage in
     let cut = c.cut_entry.ensures.goes_on tells points child may counted most few in
     let went = (cut.few tt).went_on in
@@ -74,7 +76,7 @@ returns-clause-goes_on g c = λ tells points before old s may counted most few.
     let only = c.page_of_one-node.ensures.entries ∙ ap (λ (e : BaEntry). e ∷ []) c.entry_of.ensures in
     let at_level : c.page_of_one-node.result.level - 1 ≡ levels = omega (arith, c.page_of_one-node.ensures.level) in
     let child = root_was_split c.tree_kind_laws.ensures dims levels points old before m0 c.args.tree.now.root c.args.split.now c.requires.dims.0 c.requires.dims.1 c.root_laws.ensures.three may s
-    (c.page_of_one-node.result.level - 1) c.root_region-region.result _ c.page_of_one-node.result.entries.items at_level c.root_region-region.ensures c.page_of_one-node.ensures.cuts only in
+    (c.page_of_one-node.result.level - 1) c.root_region-region.result _ c.page_of_one-node.result.entries.items at_level c.root_region-region.ensures (ap (λ (nodes : List CutNode). cuts_in nodes) c.page_of_one-node.ensures.nodes) only in
     let s2 = c.make_page.new.stage in
     let cut = c.cut_entry.ensures.goes_on tells points child may counted most few in
     let went = (cut.few tt).went_on in

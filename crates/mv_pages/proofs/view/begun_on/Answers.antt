@@ -3,10 +3,8 @@ use Rattle.std.proofs.lemmas.List.Elements.{All-more}
 use Rattle.page_layout.specs.Totals.{next_total}
 use Rattle.page_layout.specs.declared.mv_node.MvEntry.{MvEntry}
 use Rattle.mv_pages.specs.Alive.{counted, reaches}
-use Rattle.mv_pages.proofs.Begun.{all_begun, begun_count, begun_last, begun_value, reaches_begun}
-use Rattle.mv_pages.proofs.Found.{index_here, index_passed}
+use Rattle.mv_pages.proofs.Begun.{all_begun, begun_count, begun_value, reaches_begun}
 use Rattle.mv_pages.proofs.Order.{ordered}
-use Rattle.mv_pages.proofs.view.begun_on.Goals.{then-alive, else-alive}
 use Rattle.mv_pages.proofs.view.begun_on.Goals as goal
 
 pub returns-then-key-e-clause-count : goal.returns-then-key-e-clause-count
@@ -21,28 +19,18 @@ returns-then-key-e-clause-value c =
     c.loop-index.invariant.value ∙ ap (λ (n : ℕ). n % 2 ^ 128) (begun_value c.args.key c.args.version es (ordered es c.keeps_rules.ensures.entries.order) c.loop-index.index c.entry-e.result
     (omega (arith, c.loop-index-test.true, c.len-index-end.ensures)) c.entry-e.ensures c.if-key-e.true)
 
-pub returns-then-key-e-clause-last : goal.returns-then-key-e-clause-last
-returns-then-key-e-clause-last c =
-    let es : List MvEntry = c.args.view.now.entries.items in
-    begun_last c.args.key c.args.version es (ordered es c.keeps_rules.ensures.entries.order) c.loop-index.index c.entry-e.result
-    (omega (arith, c.loop-index-test.true, c.len-index-end.ensures)) c.entry-e.ensures c.if-key-e.true c.loop-index.last c.loop-index.invariant.last
-
 pub loop-index-preserved : goal.loop-index-preserved
 loop-index-preserved c =
     let es : List MvEntry = c.args.view.now.entries.items in
     let e : MvEntry = c.entry-e.result in
     let index : ℕ = c.loop-index.index in
     let within : index < length es = omega (arith, c.loop-index-test.true, c.len-index-end.ensures) in
-    let here : reaches c.args.key c.args.version e ≡ c.is_alive-alive.result = reaches_begun c.args.key c.args.version e c.if-key-e.false ∙ sym c.is_alive-alive.ensures in
-    let there : reaches c.args.key c.args.version (get_or es index e) ≡ c.is_alive-alive.result = ap (reaches c.args.key c.args.version) (sym (c.entry-e.ensures e)) ∙ here in
+    let here : reaches c.args.key c.args.version e ≡ c.lives.result = reaches_begun c.args.key c.args.version e c.if-key-e.false ∙ sym c.lives.ensures in
+    let there : reaches c.args.key c.args.version (get_or es index e) ≡ c.lives.result = ap (reaches c.args.key c.args.version) (sym (c.entry-e.ensures e)) ∙ here in
     record {
       below = All-more (λ f. f.low ≤ c.args.key) es index e within c.loop-index.invariant.below (subst (λ (f : MvEntry). f.low ≤ c.args.key) (c.entry-e.ensures e) c.if-key-e.false);
-      value = next_total (counted c.args.key c.args.version) es index c.loop-index.value c.worth-value.result (2 ^ 128) e within c.entry-e.ensures
-          (c.worth-value.ensures ∙ sym (ap (λ b. cond b e.value 0) here)) c.loop-index.invariant.value;
-      last = elim c.if-alive.branch [
-        | then-alive w ↦ index_here c.args.key c.args.version es index e c.if-alive.last within (there ∙ w.if-alive.true) w.last-is
-        | else-alive w ↦ index_passed c.args.key c.args.version es index e c.loop-index.last c.if-alive.last within c.loop-index.invariant.last (there ∙ w.if-alive.false) w.last-is
-      ];
+      value = next_total (counted c.args.key c.args.version) es index c.loop-index.value c.worth.result (2 ^ 128) e within c.entry-e.ensures
+          (c.worth.ensures ∙ sym (ap (λ b. cond b e.value 0) here)) c.loop-index.invariant.value;
     }
 
 pub returns-clause-count : goal.returns-clause-count

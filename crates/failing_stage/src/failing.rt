@@ -1,19 +1,40 @@
-//! A stage of which one call fails.
-ghost use Rattle.std.specs.Prelude.{◌≡◌, ◌+◌, IsTrue};
-ghost use Rattle.counts.specs.Count.{Rose};
+//! The stage, and which of its calls fails.
+ghost use Rattle.std.specs.Prelude.{◌≡◌, ◌+◌, ◌↔◌, IsTrue};
 
+use counts::raised;
 use page_ports::{Page, PageFault, Pages, Stage, StageFault};
 
-/// A stage that fails once, after so many calls: an allotment for want of memory, each other call for
-/// the disk.
+/// A stage over another, of which one call fails: the one that comes after so many. An allotment fails for want of memory,
+/// each other call for the disk. The call that fails does not come to the stage below, and those after it do again.
 #[derive(Drop)]
-pub(crate) struct Failing<S: Stage + Drop> {
-    pub(crate) stage: S,
-    pub(crate) calls_left: u64,
-    pub(crate) faults: u64,
+pub struct FailingStage<S: Stage + Drop> {
+    /// The stage below.
+    pub stage: S,
+    /// How many calls there are before the one that fails.
+    pub calls_left: u64,
+    /// How many calls failed for the disk.
+    pub faults: u64,
 }
 
-fn fails(calls_left: &mut u64) -> bool {
+impl<S: Stage + Drop> FailingStage<S> {
+    /// A stage over this one, which fails at no call that can be counted: set `calls_left` for that.
+    pub fn over(stage: S) -> FailingStage<S>
+        ensures stage { result.stage ≡ stage }
+        ensures calls_left { result.calls_left ≡ 18446744073709551615 }
+        ensures faults { result.faults ≡ 0 }
+    {
+        FailingStage {
+            stage,
+            calls_left: u64::MAX,
+            faults: 0,
+        }
+    }
+}
+
+// Whether this call is the one that fails; it counts the call.
+fn fails(calls_left: &mut u64) -> bool
+    ensures { IsTrue result ↔ (calls_left.old ≡ 0) }
+{
     if *calls_left == 0 {
         *calls_left = u64::MAX;
         return true;
@@ -22,13 +43,7 @@ fn fails(calls_left: &mut u64) -> bool {
     false
 }
 
-fn more(faults: u64) -> u64
-    ensures { Rose faults result }
-{
-    faults.saturating_add(1)
-}
-
-impl<S: Stage + Drop> Pages for Failing<S> {
+impl<S: Stage + Drop> Pages for FailingStage<S> {
     ghost tells = { λ f. S.tells f.stage };
 
     ghost map = { λ f. S.map f.stage };
@@ -51,14 +66,14 @@ impl<S: Stage + Drop> Pages for Failing<S> {
 
     fn get(&mut self, page: u64, buf: &mut Page) -> Result<(), PageFault> {
         if fails(&mut self.calls_left) {
-            self.faults = more(self.faults);
+            self.faults = raised(self.faults);
             return Err(PageFault::Disk);
         }
         self.stage.get(page, buf)
     }
 }
 
-impl<S: Stage + Drop> Stage for Failing<S> {
+impl<S: Stage + Drop> Stage for FailingStage<S> {
     ghost below_allotted = { λ f page bytes told there. S.below_allotted f.stage page bytes told there };
 
     ghost from_three = { λ f page bytes told there. S.from_three f.stage page bytes told there };
@@ -76,7 +91,7 @@ impl<S: Stage + Drop> Stage for Failing<S> {
 
     fn put(&mut self, page: u64, buf: &Page) -> Result<(), StageFault> {
         if fails(&mut self.calls_left) {
-            self.faults = more(self.faults);
+            self.faults = raised(self.faults);
             return Err(StageFault::Disk);
         }
         self.stage.put(page, buf)
@@ -84,7 +99,7 @@ impl<S: Stage + Drop> Stage for Failing<S> {
 
     fn free(&mut self, page: u64) -> Result<(), StageFault> {
         if fails(&mut self.calls_left) {
-            self.faults = more(self.faults);
+            self.faults = raised(self.faults);
             return Err(StageFault::Disk);
         }
         self.stage.free(page)

@@ -1,0 +1,8 @@
+//! A stage of which one call fails, under the tests of what stands on a stage.
+#![tactic(auto)]
+
+mod failing;
+#[cfg(test)]
+mod tests;
+
+pub use failing::FailingStage;
