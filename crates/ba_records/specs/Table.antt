@@ -10,10 +10,6 @@ use Rattle.bw_types.specs.Regions.{Holds, IsNotEmpty}
 abbrev pub IsBeyond : ℕ → List ℕ → Region → Type 0
 IsBeyond dims keys region = (i : ℕ) × (i < dims) × (slice_index region.high i ≤ slice_index keys i)
 
--- the region holds the keys: each is from the low end to before the high end
-abbrev pub IsInside : ℕ → List ℕ → Region → Type 0
-IsInside dims keys region = Holds dims region keys
-
 -- each key is below the low end
 abbrev pub IsBelow : ℕ → List ℕ → Region → Type 0
 IsBelow dims keys region = (i : ℕ) → i < dims → slice_index keys i < slice_index region.low i
@@ -26,10 +22,10 @@ IsFirstBelow dims keys region dimension =
 -- the keys have the class for the region; those of a border have none of the others
 abbrev pub IsClass : ℕ → List ℕ → Region → Class → Type 0
 IsClass dims keys region Beyond = IsBeyond dims keys region
-IsClass dims keys region Inside = IsInside dims keys region
+IsClass dims keys region Inside = Holds dims region keys
 IsClass dims keys region Below = IsBelow dims keys region
 IsClass dims keys region (Border dimension) =
-    (IsBeyond dims keys region → ⊥) × (IsInside dims keys region → ⊥) × (IsBelow dims keys region → ⊥) × IsFirstBelow dims keys region dimension
+    (IsBeyond dims keys region → ⊥) × (Holds dims region keys → ⊥) × (IsBelow dims keys region → ⊥) × IsFirstBelow dims keys region dimension
 
 -- for a region that is not empty each point has exactly one class
 abbrev pub OneClass : Type 0

@@ -6,7 +6,8 @@ use Rattle.bw_types.specs.declared.region.Region.{Region}
 use Rattle.bw_types.specs.declared.class.Class.{Class}
 use Rattle.bw_types.specs.declared.class.Class.TheVariants.{Beyond, Inside, Below, Border}
 use Rattle.bw_types.specs.Classes.{keys_before, first_below, class_of, is_same_class}
-use Rattle.ba_records.specs.Table.{IsBeyond, IsInside, IsBelow, IsFirstBelow, IsClass, OneClass, InsideLiesIn, LiesInHolds}
+use Rattle.bw_types.specs.Regions.{Holds}
+use Rattle.ba_records.specs.Table.{IsBeyond, IsBelow, IsFirstBelow, IsClass, OneClass, InsideLiesIn, LiesInHolds}
 use Rattle.ba_records.specs.CountLaws.{class_by, lies_by}
 
 -- ---- the tests dimension by dimension
@@ -103,7 +104,7 @@ one_row dims keys region d r (Border i) (Border j) c o = ap Border (one_first di
 
 -- ---- the class that the tests give is in the table
 
-by_tests : (dims : ℕ) (keys : List ℕ) (region : Region) (before past below : Bool) (i : ℕ) → (before ≡ false → IsBeyond dims keys region) → (before ≡ true → IsBeyond dims keys region → ⊥) → (before ≡ true → past ≡ true → IsInside dims keys region) → (past ≡ false → (IsInside dims keys region → ⊥) × IsFirstBelow dims keys region i) → (below ≡ true → IsBelow dims keys region) → (below ≡ false → IsBelow dims keys region → ⊥) → IsClass dims keys region (class_by before past below i)
+by_tests : (dims : ℕ) (keys : List ℕ) (region : Region) (before past below : Bool) (i : ℕ) → (before ≡ false → IsBeyond dims keys region) → (before ≡ true → IsBeyond dims keys region → ⊥) → (before ≡ true → past ≡ true → Holds dims region keys) → (past ≡ false → (Holds dims region keys → ⊥) × IsFirstBelow dims keys region i) → (below ≡ true → IsBelow dims keys region) → (below ≡ false → IsBelow dims keys region → ⊥) → IsClass dims keys region (class_by before past below i)
 by_tests dims keys region false past below i b nb ins fst bel nbel = b refl
 by_tests dims keys region true true below i b nb ins fst bel nbel = ins refl refl
 by_tests dims keys region true false true i b nb ins fst bel nbel = bel refl

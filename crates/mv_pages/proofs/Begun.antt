@@ -2,7 +2,7 @@
 use Rattle.std.proofs.Common.{◌≡◌, ℕ, suc, ◌+◌, ◌-◌, ◌<◌, ◌≤◌, nat_lt, nat_le, true, false, List, ◌∷◌, ◌++◌, length, get_or, take, drop, Some, refl, sym, ap, ◌∙◌, subst, arith, drop-cons, get_or-drop, length-drop}
 use Rattle.std.specs.List.{All}
 use Rattle.std.proofs.lemmas.Bool.{and_left, and_right, lt-leb, le-leb, le-ltb}
-use Rattle.std.proofs.lemmas.List.{get_or-take, length-take, length-take-le, take-append-drop}
+use Rattle.std.proofs.lemmas.List.{get_or-take, length-append, length-take, length-take-le, take-append-drop}
 use Rattle.std.proofs.lemmas.List.Elements.{All-cons}
 use Rattle.page_layout.specs.declared.mv_node.MvEntry.{MvEntry}
 use Rattle.mv_pages.specs.Alive.{IsBegunCount, is_alive, is_beyond, reaches, value_of}
@@ -82,3 +82,8 @@ module _ (key v : ℕ) (es : List MvEntry) (i : ℕ) (e : MvEntry) (within : i <
         reaches_begun key v e begins ∙ alive,
         passed,
       )
+
+pub index_fits : (key v i : ℕ) (es : List MvEntry) → IsPathIndex es key v (Some i) → i < length es
+index_fits key v i es t =
+    let long = ap (λ (l : List MvEntry). length l) t.3 ∙ length-append t.0 (t.1 ∷ t.2) in
+    omega (arith, long, t.4)

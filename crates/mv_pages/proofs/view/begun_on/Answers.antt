@@ -29,8 +29,8 @@ loop-index-preserved c =
     let there : reaches c.args.key c.args.version (get_or es index e) ≡ c.lives.result = ap (reaches c.args.key c.args.version) (sym (c.entry-e.ensures e)) ∙ here in
     record {
       below = All-more (λ f. f.low ≤ c.args.key) es index e within c.loop-index.invariant.below (subst (λ (f : MvEntry). f.low ≤ c.args.key) (c.entry-e.ensures e) c.if-key-e.false);
-      value = next_total (counted c.args.key c.args.version) es index c.loop-index.value c.worth.result (2 ^ 128) e within c.entry-e.ensures
-          (c.worth.ensures ∙ sym (ap (λ b. cond b e.value 0) here)) c.loop-index.invariant.value;
+      value = next_total (counted c.args.key c.args.version) es index c.loop-index.value c.worth-value.result (2 ^ 128) e within c.entry-e.ensures
+          (c.worth-value.ensures ∙ sym (ap (λ b. cond b e.value 0) here)) c.loop-index.invariant.value;
     }
 
 pub returns-clause-count : goal.returns-clause-count
