@@ -1,4 +1,4 @@
-use Rattle.std.proofs.Common.{rules, ◌≡◌, ◌<◌, ◌≤◌, ◌%◌, ◌^◌, ℕ, List, cond, length, get_or, sym, ap, ◌∙◌, subst, arith}
+use Rattle.std.proofs.Common.{rules, ◌≡◌, ◌<◌, ◌≤◌, ◌%◌, ◌^◌, ℕ, List, cond, length, sym, ap, ◌∙◌, subst, arith}
 use Rattle.std.proofs.lemmas.List.Elements.{All-more}
 use Rattle.page_layout.specs.Totals.{next_total}
 use Rattle.page_layout.specs.declared.mv_node.MvEntry.{MvEntry}
@@ -26,7 +26,6 @@ loop-index-preserved c =
     let index : ℕ = c.loop-index.index in
     let within : index < length es = omega (arith, c.loop-index-test.true, c.len-index-end.ensures) in
     let here : reaches c.args.key c.args.version e ≡ c.lives.result = reaches_begun c.args.key c.args.version e c.if-key-e.false ∙ sym c.lives.ensures in
-    let there : reaches c.args.key c.args.version (get_or es index e) ≡ c.lives.result = ap (reaches c.args.key c.args.version) (sym (c.entry-e.ensures e)) ∙ here in
     record {
       below = All-more (λ f. f.low ≤ c.args.key) es index e within c.loop-index.invariant.below (subst (λ (f : MvEntry). f.low ≤ c.args.key) (c.entry-e.ensures e) c.if-key-e.false);
       value = next_total (counted c.args.key c.args.version) es index c.loop-index.value c.worth-value.result (2 ^ 128) e within c.entry-e.ensures
