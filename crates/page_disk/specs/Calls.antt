@@ -1,5 +1,5 @@
 -- What calls on a disk leave as they found it, and what their failures tell.
-use Rattle.std.specs.Prelude.{◌≡◌, ℕ, ◌+◌, ◌≤◌, Bool, true, Result, Ok, Err}
+use Rattle.std.specs.Prelude.{◌≡◌, ℕ, ◌+◌, ◌≤◌, Bool, true, IsTrue, Result, Ok, Err}
 use Rattle.std.specs.Bool.{MatchBool}
 use Rattle.counts.specs.Count.{Rose}
 use Rattle.page_disk.specs.declared.disk.Disk.{Ghosts}
@@ -44,4 +44,11 @@ pub record Writes {D T E : Type 0} (g : Ghosts D) (of_device : E → Bool) (most
   pub tells : g.tells new ≡ g.tells old
   pub reads : g.reads old ≤ g.reads new
   pub at_most : g.reads new ≤ g.reads old + most
+  pub faults : RisesWhere of_device result (g.faults old) (g.faults new)
+
+-- A call that may write. Of a disk that tells its image it reads at most so many pages.
+pub record WritesAsTold {D T E : Type 0} (g : Ghosts D) (of_device : E → Bool) (most : ℕ) (old new : D) (result : Result T E) : Type 0 where
+  pub tells : g.tells new ≡ g.tells old
+  pub reads : g.reads old ≤ g.reads new
+  pub at_most : IsTrue (g.tells old) → g.reads new ≤ g.reads old + most
   pub faults : RisesWhere of_device result (g.faults old) (g.faults new)

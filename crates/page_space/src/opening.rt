@@ -1,7 +1,7 @@
 //! The opening of a space on a disk.
 ghost use Rattle.std.specs.Prelude.{◌≡◌, ◌≢◌, true, ◌⊎◌, ◌+◌, ◌*◌, ◌≤◌, ◌<◌, ℕ, length, Ok, Err, IsTrue, IfOk, IfErr, OnOk, OnErr};
 ghost use Rattle.bw_types.specs.Fits.{IsInRange};
-ghost use Rattle.page_disk.specs.Calls.{OnlyReads, RisesWhere};
+ghost use Rattle.page_disk.specs.Calls.{OnlyReads, WritesAsTold};
 ghost use Rattle.page_disk.specs.Image.{PageList, page_at};
 ghost use Rattle.page_disk.specs.Since.{LeavesNow, LeavesOnly};
 ghost use Rattle.redo_journal.specs.Gates.{gate_of, is_empty};
@@ -175,10 +175,7 @@ impl<D: Disk> Space<D> {
         ensures bad_journal { IfErr result (λ refused. AtBadJournal refused.fault (λ page. IsTrue (D.tells disk) → IsBadAt (D.image disk) page)) }
         ensures damaged { IfErr result (λ refused. AtDamaged refused.fault (λ page. IsTrue (D.tells disk) → StandsDamagedAt (D.image disk) page)) }
         ensures no_memory { IfErr result (λ refused. AtNoMemory refused.fault (IsTrue (D.tells disk) → StandsWhole (D.image disk))) }
-        ensures faults { RisesWhere (λ refused. is_disk refused.fault) result (D.faults disk) (D.faults (opened_disk result)) }
-        ensures reads { IsTrue (D.tells disk) → D.reads (opened_disk result) ≤ D.reads disk + 4 + replay_reads (D.image disk) }
-        ensures reads_stay_or_rise { D.reads disk ≤ D.reads (opened_disk result) }
-        ensures tells { D.tells (opened_disk result) ≡ D.tells disk }
+        ensures writes { WritesAsTold D.Disk (λ refused. is_disk refused.fault) (4 + replay_reads (D.image disk)) disk (opened_disk result) result }
     {
         // A disk stands for one list of pages.
         settling_laws();

@@ -1,6 +1,6 @@
 //! The journal of a disk that is opened.
 ghost use Rattle.std.specs.Prelude.{◌≡◌, ◌≢◌, ◌⊎◌, ◌+◌, ◌*◌, ◌≤◌, ◌<◌, ℕ, true, Ok, Err, IsTrue, IfErr, OnOk};
-ghost use Rattle.page_disk.specs.Calls.{RisesWhere};
+ghost use Rattle.page_disk.specs.Calls.{WritesAsTold};
 ghost use Rattle.page_disk.specs.Image.{PageList};
 ghost use Rattle.page_disk.specs.Since.{LeavesNow, LeavesOnly};
 ghost use Rattle.redo_journal.specs.Gates.{gate_of, is_empty};
@@ -29,10 +29,7 @@ fn replay_journal<D: Disk>(disk: &mut D) -> Result<(), OpenFault>
         → (D.image disk.new ≡ D.image disk.old) × (D.moments disk.new ≡ D.moments disk.old) }
     ensures any_moment { (pages : PageList) → SettlesTo (D.image disk.old) pages
         → LeavesOnly (λ x. SettlesTo x pages) (D.moments disk.old) (D.moments disk.new) }
-    ensures faults { RisesWhere is_disk result (D.faults disk.old) (D.faults disk.new) }
-    ensures reads_stay_or_rise { D.reads disk.old ≤ D.reads disk.new }
-    ensures reads { IsTrue (D.tells disk.old) → D.reads disk.new ≤ D.reads disk.old + replay_reads (D.image disk.old) }
-    ensures tells { D.tells disk.new ≡ D.tells disk.old }
+    ensures writes { WritesAsTold D.Disk is_disk (replay_reads (D.image disk.old)) disk.old disk.new result }
 {
     match replay(disk) {
         Ok(_) => Ok(()),
@@ -56,10 +53,7 @@ pub(crate) fn settle<D: Disk>(disk: &mut D) -> Result<(), OpenFault>
         → LeavesOnly (λ x. x ≡ D.image disk.old) (D.moments disk.old) (D.moments disk.new) }
     ensures any_moment { IsTrue (D.tells disk.old) → (pages : PageList) → SettlesTo (D.image disk.old) pages
         → LeavesOnly (λ x. SettlesTo x pages) (D.moments disk.old) (D.moments disk.new) }
-    ensures faults { RisesWhere is_disk result (D.faults disk.old) (D.faults disk.new) }
-    ensures reads_stay_or_rise { D.reads disk.old ≤ D.reads disk.new }
-    ensures reads { IsTrue (D.tells disk.old) → D.reads disk.new ≤ D.reads disk.old + 2 + replay_reads (D.image disk.old) }
-    ensures tells { D.tells disk.new ≡ D.tells disk.old }
+    ensures writes { WritesAsTold D.Disk is_disk (2 + replay_reads (D.image disk.old)) disk.old disk.new result }
 {
     match ready(disk) {
         Ok(Gate::Idle) => Ok(()),

@@ -2,7 +2,7 @@
 ghost use Rattle.std.specs.Prelude.{◌≡◌, ◌≢◌, ◌⊎◌, ◌+◌, ◌≤◌, true, false, length, IsTrue, IfOk, IfErr};
 ghost use Rattle.bw_types.specs.History.{History};
 ghost use Rattle.bw_types.specs.declared.params.Params.{Params};
-ghost use Rattle.page_disk.specs.Calls.{RisesWhere};
+ghost use Rattle.page_disk.specs.Calls.{WritesAsTold};
 ghost use Rattle.page_disk.specs.Image.{PageList};
 ghost use Rattle.page_disk.specs.Since.{LeavesNow, LeavesOnly};
 ghost use Rattle.redo_journal.specs.Gates.{is_empty};
@@ -95,10 +95,7 @@ impl<D: Disk, X: DomIndex> Warehouse<D, X> {
         ensures empty { IfErr result (λ refused. AtEmpty refused.fault (IsTrue (D.tells disk) → is_empty (D.image disk) ≡ true)) }
         ensures bad_journal { IfErr result (λ refused. AtBadJournal refused.fault (λ page. IsTrue (D.tells disk) → IsBadAt (D.image disk) page)) }
         ensures damaged { IfErr result (λ refused. AtDamaged refused.fault (λ page. IsTrue (D.tells disk) → IsDamagedToOpen X.DIMS (D.image disk) page)) }
-        ensures faults { RisesWhere (λ refused. is_disk refused.fault) result (D.faults disk) (D.faults (opened_disk disk_in result)) }
-        ensures reads { IsTrue (D.tells disk) → D.reads (opened_disk disk_in result) ≤ D.reads disk + 4 + replay_reads (D.image disk) }
-        ensures reads_stay_or_rise { D.reads disk ≤ D.reads (opened_disk disk_in result) }
-        ensures tells { D.tells (opened_disk disk_in result) ≡ D.tells disk }
+        ensures writes { WritesAsTold D.Disk (λ refused. is_disk refused.fault) (4 + replay_reads (D.image disk)) disk (opened_disk disk_in result) result }
     {
         // A disk stands for one list of pages, and one space.
         settling_laws();

@@ -4,7 +4,7 @@ ghost use Rattle.std.specs.List.{All};
 ghost use Rattle.page_layout.specs.declared.journal_head.JournalHead.{JournalHead};
 ghost use Rattle.redo_journal.specs.declared.replaying.JournalFault.TheVariants.{Disk};
 ghost use Rattle.page_ports.specs.Pages.{PageMap};
-ghost use Rattle.page_disk.specs.Calls.{OnlyReads, RisesWhere, Writes};
+ghost use Rattle.page_disk.specs.Calls.{OnlyReads, Writes, WritesAsTold};
 ghost use Rattle.page_disk.specs.Image.{Image, PageList};
 ghost use Rattle.page_disk.specs.Since.{LeavesNow, LeavesOnly};
 ghost use Rattle.redo_journal.specs.Committing.{HasGate};
@@ -271,10 +271,7 @@ pub fn replay<D: Disk>(disk: &mut D) -> Result<u64, JournalFault>
         → (D.image disk.new ≡ D.image disk.old) × (D.moments disk.new ≡ D.moments disk.old) }
     ensures any_moment { (pages : PageList) → SettlesTo (D.image disk.old) pages
         → LeavesOnly (λ x. SettlesTo x pages) (D.moments disk.old) (D.moments disk.new) }
-    ensures faults { RisesWhere is_disk result (D.faults disk.old) (D.faults disk.new) }
-    ensures reads { IsTrue (D.tells disk.old) → D.reads disk.new ≤ D.reads disk.old + 2 * length (D.image disk.old).journal }
-    ensures reads_stay_or_rise { D.reads disk.old ≤ D.reads disk.new }
-    ensures tells { D.tells disk.new ≡ D.tells disk.old }
+    ensures writes { WritesAsTold D.Disk is_disk (2 * length (D.image disk.old).journal) disk.old disk.new result }
 {
     // What the first pass finds whole breaks no rule.
     settling_laws();

@@ -34,7 +34,7 @@ returns-clause-refused g c = λ told none.
 
 pub returns-in-Err-clause-goes_on : goal.returns-in-Err-clause-goes_on
 returns-in-Err-clause-goes_on g c = λ params h held other. (
-  c.in-Err.ensures.tells ∙ held.0,
+  c.in-Err.ensures.writes.tells ∙ held.0,
   from_here g.X.DomIndex params h (g.D.Disk.image c.in-Err.refused.disk) (c.in-Err.ensures.kept (λ so. other (c.from.ensures ∙ ap status_of_fault so)) held.0 params h held.1),
 )
 
@@ -72,7 +72,7 @@ returns-in-Err-clause-reads g c = λ params h held told may.
       one = omega arith;
       read = λ still. record { taken = []; more = []; cut = refl; begins = refl };
       wrote = λ sink disk tells still. sym (append-nil (g.K.Sink.written c.args.sink.now));
-      most = let most = c.in-Err.ensures.reads held.0 in omega arith;
+      most = let most = c.in-Err.ensures.writes.at_most held.0 in omega arith;
     }
 
 pub returns-in-Err-clause-damaged : goal.returns-in-Err-clause-damaged
@@ -96,7 +96,7 @@ returns-clause-none_only g c = λ so told.
 pub returns-clause-fine : goal.returns-clause-fine
 returns-clause-fine g c = λ params h b fine told tells.
     let w = some_way g.D.Disk g.X.DomIndex c.machine_laws.ensures.may (g.S.Source.tells c.args.source.now) c.args.disk (g.S.Source.left c.args.source.now) params h b in
-    let o = opened g.D.Disk g.X.DomIndex w.0 c.args.disk (disk_in c.in-Ok.house) (params_in c.in-Ok.house) params h c.in-Ok.ensures.holds c.in-Ok.ensures.holds_trees c.in-Ok.ensures.tells w.1.1 in
+    let o = opened g.D.Disk g.X.DomIndex w.0 c.args.disk (disk_in c.in-Ok.house) (params_in c.in-Ok.house) params h c.in-Ok.ensures.holds c.in-Ok.ensures.holds_trees c.in-Ok.ensures.writes.tells w.1.1 in
     let e = ends_at _ w.0 (g.K.Sink.tells c.args.sink.now) (g.K.Sink.tells c.serve-ran.new.sink) (g.S.Source.tells c.serve-ran.new.source) (g.S.Source.left c.args.source.now) (g.S.Source.left c.serve-ran.new.source)
     c.serve-ran.result (g.K.Sink.written c.args.sink.now) (g.K.Sink.written c.serve-ran.new.sink) h c.new-desk.result.params params c.new-desk.result.house c.in-Ok.house c.new-desk.result.sessions
     (c.new-desk.ensures.params ∙ o.0) c.new-desk.ensures.house c.new-desk.ensures.sessions (c.serve-ran.ensures.ends told w.0 h) w.1.0 o.1 in
@@ -106,7 +106,7 @@ returns-clause-fine g c = λ params h b fine told tells.
 
 pub returns-clause-kept : goal.returns-clause-kept
 returns-clause-kept g c = λ params h held fine told.
-    let o = opened g.D.Disk g.X.DomIndex true c.args.disk (disk_in c.in-Ok.house) (params_in c.in-Ok.house) params h c.in-Ok.ensures.holds c.in-Ok.ensures.holds_trees c.in-Ok.ensures.tells held in
+    let o = opened g.D.Disk g.X.DomIndex true c.args.disk (disk_in c.in-Ok.house) (params_in c.in-Ok.house) params h c.in-Ok.ensures.holds c.in-Ok.ensures.holds_trees c.in-Ok.ensures.writes.tells held in
     let e = ends_at _ true (g.K.Sink.tells c.args.sink.now) (g.K.Sink.tells c.serve-ran.new.sink) (g.S.Source.tells c.serve-ran.new.source) (g.S.Source.left c.args.source.now) (g.S.Source.left c.serve-ran.new.source)
     c.serve-ran.result (g.K.Sink.written c.args.sink.now) (g.K.Sink.written c.serve-ran.new.sink) h c.new-desk.result.params params c.new-desk.result.house c.in-Ok.house c.new-desk.result.sessions
     (c.new-desk.ensures.params ∙ o.0) c.new-desk.ensures.house c.new-desk.ensures.sessions (c.serve-ran.ensures.ends told true h) (c.machine_laws.ensures.may params (lines (g.S.Source.left c.args.source.now))) o.1 in
@@ -120,7 +120,7 @@ returns-clause-kept g c = λ params h held fine told.
 pub returns-clause-part : goal.returns-clause-part
 returns-clause-part g c = λ params h b told tells still.
     let w = some_way g.D.Disk g.X.DomIndex c.machine_laws.ensures.may (g.S.Source.tells c.args.source.now) c.args.disk (g.S.Source.left c.args.source.now) params h b in
-    let o = opened g.D.Disk g.X.DomIndex w.0 c.args.disk (disk_in c.in-Ok.house) (params_in c.in-Ok.house) params h c.in-Ok.ensures.holds c.in-Ok.ensures.holds_trees c.in-Ok.ensures.tells w.1.1 in
+    let o = opened g.D.Disk g.X.DomIndex w.0 c.args.disk (disk_in c.in-Ok.house) (params_in c.in-Ok.house) params h c.in-Ok.ensures.holds c.in-Ok.ensures.holds_trees c.in-Ok.ensures.writes.tells w.1.1 in
     let e = ends_at _ w.0 (g.K.Sink.tells c.args.sink.now) (g.K.Sink.tells c.serve-ran.new.sink) (g.S.Source.tells c.serve-ran.new.source) (g.S.Source.left c.args.source.now) (g.S.Source.left c.serve-ran.new.source)
     c.serve-ran.result (g.K.Sink.written c.args.sink.now) (g.K.Sink.written c.serve-ran.new.sink) h c.new-desk.result.params params c.new-desk.result.house c.in-Ok.house c.new-desk.result.sessions
     (c.new-desk.ensures.params ∙ o.0) c.new-desk.ensures.house c.new-desk.ensures.sessions (c.serve-ran.ensures.ends told w.0 h) w.1.0 o.1 in
@@ -129,7 +129,7 @@ returns-clause-part g c = λ params h b told tells still.
 pub returns-clause-whole_lines : goal.returns-clause-whole_lines
 returns-clause-whole_lines g c = λ params h b why told left_told tells.
     let w = some_way g.D.Disk g.X.DomIndex c.machine_laws.ensures.may (g.S.Source.tells c.args.source.now) c.args.disk (g.S.Source.left c.args.source.now) params h b in
-    let o = opened g.D.Disk g.X.DomIndex w.0 c.args.disk (disk_in c.in-Ok.house) (params_in c.in-Ok.house) params h c.in-Ok.ensures.holds c.in-Ok.ensures.holds_trees c.in-Ok.ensures.tells w.1.1 in
+    let o = opened g.D.Disk g.X.DomIndex w.0 c.args.disk (disk_in c.in-Ok.house) (params_in c.in-Ok.house) params h c.in-Ok.ensures.holds c.in-Ok.ensures.holds_trees c.in-Ok.ensures.writes.tells w.1.1 in
     let e = ends_at _ w.0 (g.K.Sink.tells c.args.sink.now) (g.K.Sink.tells c.serve-ran.new.sink) (g.S.Source.tells c.serve-ran.new.source) (g.S.Source.left c.args.source.now) (g.S.Source.left c.serve-ran.new.source)
     c.serve-ran.result (g.K.Sink.written c.args.sink.now) (g.K.Sink.written c.serve-ran.new.sink) h c.new-desk.result.params params c.new-desk.result.house c.in-Ok.house c.new-desk.result.sessions
     (c.new-desk.ensures.params ∙ o.0) c.new-desk.ensures.house c.new-desk.ensures.sessions (c.serve-ran.ensures.ends told w.0 h) w.1.0 o.1 in
@@ -142,7 +142,7 @@ returns-clause-whole_lines g c = λ params h b why told left_told tells.
 
 pub returns-clause-whole_kept : goal.returns-clause-whole_kept
 returns-clause-whole_kept g c = λ params h taken held why told left_told cut.
-    let o = opened g.D.Disk g.X.DomIndex true c.args.disk (disk_in c.in-Ok.house) (params_in c.in-Ok.house) params h c.in-Ok.ensures.holds c.in-Ok.ensures.holds_trees c.in-Ok.ensures.tells held in
+    let o = opened g.D.Disk g.X.DomIndex true c.args.disk (disk_in c.in-Ok.house) (params_in c.in-Ok.house) params h c.in-Ok.ensures.holds c.in-Ok.ensures.holds_trees c.in-Ok.ensures.writes.tells held in
     let e = ends_at _ true (g.K.Sink.tells c.args.sink.now) (g.K.Sink.tells c.serve-ran.new.sink) (g.S.Source.tells c.serve-ran.new.source) (g.S.Source.left c.args.source.now) (g.S.Source.left c.serve-ran.new.source)
     c.serve-ran.result (g.K.Sink.written c.args.sink.now) (g.K.Sink.written c.serve-ran.new.sink) h c.new-desk.result.params params c.new-desk.result.house c.in-Ok.house c.new-desk.result.sessions
     (c.new-desk.ensures.params ∙ o.0) c.new-desk.ensures.house c.new-desk.ensures.sessions (c.serve-ran.ensures.ends told true h) (c.machine_laws.ensures.may params (lines (g.S.Source.left c.args.source.now))) o.1 in
@@ -153,13 +153,13 @@ returns-clause-whole_kept g c = λ params h taken held why told left_told cut.
 
 pub returns-clause-goes_on : goal.returns-clause-goes_on
 returns-clause-goes_on g c = λ params h held other.
-    let o = opened g.D.Disk g.X.DomIndex true c.args.disk (disk_in c.in-Ok.house) (params_in c.in-Ok.house) params h c.in-Ok.ensures.holds c.in-Ok.ensures.holds_trees c.in-Ok.ensures.tells held in
+    let o = opened g.D.Disk g.X.DomIndex true c.args.disk (disk_in c.in-Ok.house) (params_in c.in-Ok.house) params h c.in-Ok.ensures.holds c.in-Ok.ensures.holds_trees c.in-Ok.ensures.writes.tells held in
     let l = lasts_at _ c.serve-ran.result h c.new-desk.result.params params c.new-desk.result.house c.in-Ok.house (c.new-desk.ensures.params ∙ o.0) c.new-desk.ensures.house (c.serve-ran.ensures.lasts h) o.1 in
     ((l.stands (λ so. other (c.from-2.ensures ∙ ap status_of so))).0, record { kept = l.sure; holds = (l.stands (λ so. other (c.from-2.ensures ∙ ap status_of so))).1; begins = l.begins })
 
 pub returns-clause-goes_on_always : goal.returns-clause-goes_on_always
 returns-clause-goes_on_always g c = λ params h held.
-    let o = opened g.D.Disk g.X.DomIndex true c.args.disk (disk_in c.in-Ok.house) (params_in c.in-Ok.house) params h c.in-Ok.ensures.holds c.in-Ok.ensures.holds_trees c.in-Ok.ensures.tells held in
+    let o = opened g.D.Disk g.X.DomIndex true c.args.disk (disk_in c.in-Ok.house) (params_in c.in-Ok.house) params h c.in-Ok.ensures.holds c.in-Ok.ensures.holds_trees c.in-Ok.ensures.writes.tells held in
     let l = lasts_at _ c.serve-ran.result h c.new-desk.result.params params c.new-desk.result.house c.in-Ok.house (c.new-desk.ensures.params ∙ o.0) c.new-desk.ensures.house (c.serve-ran.ensures.lasts h) o.1 in
     stretched (λ x. Holds g.X.DomIndex x params h) _ (HoldsFrom g.X.DomIndex params h) (g.D.Disk.moments c.args.disk) (g.D.Disk.moments (disk_in c.in-Ok.house)) (g.D.Disk.moments c.serve-ran.result.device)
     (λ x holds. from_here g.X.DomIndex params h x holds) (λ x k. record { kept = k.kept; holds = k.keeps; begins = k.begins })
@@ -167,7 +167,7 @@ returns-clause-goes_on_always g c = λ params h held.
 
 pub returns-clause-stays : goal.returns-clause-stays
 returns-clause-stays g c = λ params h held told other.
-    let o = opened g.D.Disk g.X.DomIndex true c.args.disk (disk_in c.in-Ok.house) (params_in c.in-Ok.house) params h c.in-Ok.ensures.holds c.in-Ok.ensures.holds_trees c.in-Ok.ensures.tells held in
+    let o = opened g.D.Disk g.X.DomIndex true c.args.disk (disk_in c.in-Ok.house) (params_in c.in-Ok.house) params h c.in-Ok.ensures.holds c.in-Ok.ensures.holds_trees c.in-Ok.ensures.writes.tells held in
     let e = ends_at _ true (g.K.Sink.tells c.args.sink.now) (g.K.Sink.tells c.serve-ran.new.sink) (g.S.Source.tells c.serve-ran.new.source) (g.S.Source.left c.args.source.now) (g.S.Source.left c.serve-ran.new.source)
     c.serve-ran.result (g.K.Sink.written c.args.sink.now) (g.K.Sink.written c.serve-ran.new.sink) h c.new-desk.result.params params c.new-desk.result.house c.in-Ok.house c.new-desk.result.sessions
     (c.new-desk.ensures.params ∙ o.0) c.new-desk.ensures.house c.new-desk.ensures.sessions (c.serve-ran.ensures.ends told true h) (c.machine_laws.ensures.may params (lines (g.S.Source.left c.args.source.now))) o.1 in
@@ -176,7 +176,7 @@ returns-clause-stays g c = λ params h held told other.
 
 pub returns-clause-crashes : goal.returns-clause-crashes
 returns-clause-crashes g c = λ params h held told.
-    let o = opened g.D.Disk g.X.DomIndex true c.args.disk (disk_in c.in-Ok.house) (params_in c.in-Ok.house) params h c.in-Ok.ensures.holds c.in-Ok.ensures.holds_trees c.in-Ok.ensures.tells held in
+    let o = opened g.D.Disk g.X.DomIndex true c.args.disk (disk_in c.in-Ok.house) (params_in c.in-Ok.house) params h c.in-Ok.ensures.holds c.in-Ok.ensures.holds_trees c.in-Ok.ensures.writes.tells held in
     let e = ends_at _ true (g.K.Sink.tells c.args.sink.now) (g.K.Sink.tells c.serve-ran.new.sink) (g.S.Source.tells c.serve-ran.new.source) (g.S.Source.left c.args.source.now) (g.S.Source.left c.serve-ran.new.source)
     c.serve-ran.result (g.K.Sink.written c.args.sink.now) (g.K.Sink.written c.serve-ran.new.sink) h c.new-desk.result.params params c.new-desk.result.house c.in-Ok.house c.new-desk.result.sessions
     (c.new-desk.ensures.params ∙ o.0) c.new-desk.ensures.house c.new-desk.ensures.sessions (c.serve-ran.ensures.ends told true h) (c.machine_laws.ensures.may params (lines (g.S.Source.left c.args.source.now))) o.1 in
@@ -188,7 +188,7 @@ returns-clause-crashes g c = λ params h held told.
 
 pub returns-clause-acknowledged : goal.returns-clause-acknowledged
 returns-clause-acknowledged g c = λ params h first held told tells still r other.
-    let o = opened g.D.Disk g.X.DomIndex true c.args.disk (disk_in c.in-Ok.house) (params_in c.in-Ok.house) params h c.in-Ok.ensures.holds c.in-Ok.ensures.holds_trees c.in-Ok.ensures.tells held in
+    let o = opened g.D.Disk g.X.DomIndex true c.args.disk (disk_in c.in-Ok.house) (params_in c.in-Ok.house) params h c.in-Ok.ensures.holds c.in-Ok.ensures.holds_trees c.in-Ok.ensures.writes.tells held in
     let e = ends_at _ true (g.K.Sink.tells c.args.sink.now) (g.K.Sink.tells c.serve-ran.new.sink) (g.S.Source.tells c.serve-ran.new.source) (g.S.Source.left c.args.source.now) (g.S.Source.left c.serve-ran.new.source)
     c.serve-ran.result (g.K.Sink.written c.args.sink.now) (g.K.Sink.written c.serve-ran.new.sink) h c.new-desk.result.params params c.new-desk.result.house c.in-Ok.house c.new-desk.result.sessions
     (c.new-desk.ensures.params ∙ o.0) c.new-desk.ensures.house c.new-desk.ensures.sessions (c.serve-ran.ensures.ends told true h) (c.machine_laws.ensures.may params (lines (g.S.Source.left c.args.source.now))) o.1 in
@@ -202,7 +202,7 @@ returns-clause-acknowledged g c = λ params h first held told tells still r othe
 
 pub returns-clause-acknowledged_left : goal.returns-clause-acknowledged_left
 returns-clause-acknowledged_left g c = λ params h first held told tells still r some.
-    let o = opened g.D.Disk g.X.DomIndex true c.args.disk (disk_in c.in-Ok.house) (params_in c.in-Ok.house) params h c.in-Ok.ensures.holds c.in-Ok.ensures.holds_trees c.in-Ok.ensures.tells held in
+    let o = opened g.D.Disk g.X.DomIndex true c.args.disk (disk_in c.in-Ok.house) (params_in c.in-Ok.house) params h c.in-Ok.ensures.holds c.in-Ok.ensures.holds_trees c.in-Ok.ensures.writes.tells held in
     let e = ends_at _ true (g.K.Sink.tells c.args.sink.now) (g.K.Sink.tells c.serve-ran.new.sink) (g.S.Source.tells c.serve-ran.new.source) (g.S.Source.left c.args.source.now) (g.S.Source.left c.serve-ran.new.source)
     c.serve-ran.result (g.K.Sink.written c.args.sink.now) (g.K.Sink.written c.serve-ran.new.sink) h c.new-desk.result.params params c.new-desk.result.house c.in-Ok.house c.new-desk.result.sessions
     (c.new-desk.ensures.params ∙ o.0) c.new-desk.ensures.house c.new-desk.ensures.sessions (c.serve-ran.ensures.ends told true h) (c.machine_laws.ensures.may params (lines (g.S.Source.left c.args.source.now))) o.1 in
@@ -215,7 +215,7 @@ returns-clause-acknowledged_left g c = λ params h first held told tells still r
 
 pub returns-clause-reads : goal.returns-clause-reads
 returns-clause-reads g c = λ params h held told may.
-    let o = opened g.D.Disk g.X.DomIndex false c.args.disk (disk_in c.in-Ok.house) (params_in c.in-Ok.house) params h c.in-Ok.ensures.holds c.in-Ok.ensures.holds_trees c.in-Ok.ensures.tells held in
+    let o = opened g.D.Disk g.X.DomIndex false c.args.disk (disk_in c.in-Ok.house) (params_in c.in-Ok.house) params h c.in-Ok.ensures.holds c.in-Ok.ensures.holds_trees c.in-Ok.ensures.writes.tells held in
     let e = ends_at _ false (g.K.Sink.tells c.args.sink.now) (g.K.Sink.tells c.serve-ran.new.sink) (g.S.Source.tells c.serve-ran.new.source) (g.S.Source.left c.args.source.now) (g.S.Source.left c.serve-ran.new.source)
     c.serve-ran.result (g.K.Sink.written c.args.sink.now) (g.K.Sink.written c.serve-ran.new.sink) h c.new-desk.result.params params c.new-desk.result.house c.in-Ok.house c.new-desk.result.sessions
     (c.new-desk.ensures.params ∙ o.0) c.new-desk.ensures.house c.new-desk.ensures.sessions (c.serve-ran.ensures.ends told false h) may o.1 in
@@ -227,7 +227,7 @@ returns-clause-reads g c = λ params h held told may.
       one = e.one;
       read = e.read;
       wrote = λ sink disk tells still. e.flushed (flushes c.serve-ran.result.ending c.from-2.result c.from-2.ensures sink disk) tells still;
-      most = let opening = c.in-Ok.ensures.reads held.0 in
+      most = let opening = c.in-Ok.ensures.writes.at_most held.0 in
           let serving = e.reads may in omega arith;
     }
 
@@ -236,13 +236,13 @@ returns-clause-damaged g c = λ params h area page b.
     λ so. let ended = ending_of c.serve-ran.result.ending (ending.Damaged page) c.from-2.result (status.Damaged area page) c.from-2.ensures so refl in
     elim b [
       | inl held ↦ (
-          let o = opened g.D.Disk g.X.DomIndex true c.args.disk (disk_in c.in-Ok.house) (params_in c.in-Ok.house) params h c.in-Ok.ensures.holds c.in-Ok.ensures.holds_trees c.in-Ok.ensures.tells held in
+          let o = opened g.D.Disk g.X.DomIndex true c.args.disk (disk_in c.in-Ok.house) (params_in c.in-Ok.house) params h c.in-Ok.ensures.holds c.in-Ok.ensures.holds_trees c.in-Ok.ensures.writes.tells held in
           let l = lasts_at _ c.serve-ran.result h c.new-desk.result.params params c.new-desk.result.house c.in-Ok.house (c.new-desk.ensures.params ∙ o.0) c.new-desk.ensures.house (c.serve-ran.ensures.lasts h) o.1 in
           l.undamaged page ended
           )
       | inr w ↦ (
           let told = w.0 in
-          let o = opened g.D.Disk g.X.DomIndex false c.args.disk (disk_in c.in-Ok.house) (params_in c.in-Ok.house) params h c.in-Ok.ensures.holds c.in-Ok.ensures.holds_trees c.in-Ok.ensures.tells w.2 in
+          let o = opened g.D.Disk g.X.DomIndex false c.args.disk (disk_in c.in-Ok.house) (params_in c.in-Ok.house) params h c.in-Ok.ensures.holds c.in-Ok.ensures.holds_trees c.in-Ok.ensures.writes.tells w.2 in
           let e = ends_at _ false (g.K.Sink.tells c.args.sink.now) (g.K.Sink.tells c.serve-ran.new.sink) (g.S.Source.tells c.serve-ran.new.source) (g.S.Source.left c.args.source.now) (g.S.Source.left c.serve-ran.new.source)
           c.serve-ran.result (g.K.Sink.written c.args.sink.now) (g.K.Sink.written c.serve-ran.new.sink) h c.new-desk.result.params params c.new-desk.result.house c.in-Ok.house c.new-desk.result.sessions
           (c.new-desk.ensures.params ∙ o.0) c.new-desk.ensures.house c.new-desk.ensures.sessions (c.serve-ran.ensures.ends told false h) w.1 o.1 in
@@ -252,7 +252,7 @@ returns-clause-damaged g c = λ params h area page b.
 
 pub returns-clause-page_limit : goal.returns-clause-page_limit
 returns-clause-page_limit g c = λ params h allotted held so told.
-    let o = opened g.D.Disk g.X.DomIndex true c.args.disk (disk_in c.in-Ok.house) (params_in c.in-Ok.house) params h c.in-Ok.ensures.holds c.in-Ok.ensures.holds_trees c.in-Ok.ensures.tells held in
+    let o = opened g.D.Disk g.X.DomIndex true c.args.disk (disk_in c.in-Ok.house) (params_in c.in-Ok.house) params h c.in-Ok.ensures.holds c.in-Ok.ensures.holds_trees c.in-Ok.ensures.writes.tells held in
     let e = ends_at _ true (g.K.Sink.tells c.args.sink.now) (g.K.Sink.tells c.serve-ran.new.sink) (g.S.Source.tells c.serve-ran.new.source) (g.S.Source.left c.args.source.now) (g.S.Source.left c.serve-ran.new.source)
     c.serve-ran.result (g.K.Sink.written c.args.sink.now) (g.K.Sink.written c.serve-ran.new.sink) h c.new-desk.result.params params c.new-desk.result.house c.in-Ok.house c.new-desk.result.sessions
     (c.new-desk.ensures.params ∙ o.0) c.new-desk.ensures.house c.new-desk.ensures.sessions (c.serve-ran.ensures.ends told true h) (c.machine_laws.ensures.may params (lines (g.S.Source.left c.args.source.now))) o.1 in
@@ -264,13 +264,13 @@ returns-clause-page_limit g c = λ params h allotted held so told.
 
 pub returns-clause-at_limit : goal.returns-clause-at_limit
 returns-clause-at_limit g c = λ params h allotted held so.
-    let o = opened g.D.Disk g.X.DomIndex true c.args.disk (disk_in c.in-Ok.house) (params_in c.in-Ok.house) params h c.in-Ok.ensures.holds c.in-Ok.ensures.holds_trees c.in-Ok.ensures.tells held in
+    let o = opened g.D.Disk g.X.DomIndex true c.args.disk (disk_in c.in-Ok.house) (params_in c.in-Ok.house) params h c.in-Ok.ensures.holds c.in-Ok.ensures.holds_trees c.in-Ok.ensures.writes.tells held in
     let l = lasts_at _ c.serve-ran.result h c.new-desk.result.params params c.new-desk.result.house c.in-Ok.house (c.new-desk.ensures.params ∙ o.0) c.new-desk.ensures.house (c.serve-ran.ensures.lasts h) o.1 in
     (l.page_limit allotted (ending_of c.serve-ran.result.ending (ending.PageLimit allotted) c.from-2.result (status.PageLimit allotted) c.from-2.ensures so refl)).0
 
 pub returns-clause-enough_pages : goal.returns-clause-enough_pages
 returns-clause-enough_pages g c = λ params h pages allotted held told settles fits.
-    let o = opened g.D.Disk g.X.DomIndex true c.args.disk (disk_in c.in-Ok.house) (params_in c.in-Ok.house) params h c.in-Ok.ensures.holds c.in-Ok.ensures.holds_trees c.in-Ok.ensures.tells held in
+    let o = opened g.D.Disk g.X.DomIndex true c.args.disk (disk_in c.in-Ok.house) (params_in c.in-Ok.house) params h c.in-Ok.ensures.holds c.in-Ok.ensures.holds_trees c.in-Ok.ensures.writes.tells held in
     let e = ends_at _ true (g.K.Sink.tells c.args.sink.now) (g.K.Sink.tells c.serve-ran.new.sink) (g.S.Source.tells c.serve-ran.new.source) (g.S.Source.left c.args.source.now) (g.S.Source.left c.serve-ran.new.source)
     c.serve-ran.result (g.K.Sink.written c.args.sink.now) (g.K.Sink.written c.serve-ran.new.sink) h c.new-desk.result.params params c.new-desk.result.house c.in-Ok.house c.new-desk.result.sessions
     (c.new-desk.ensures.params ∙ o.0) c.new-desk.ensures.house c.new-desk.ensures.sessions (c.serve-ran.ensures.ends told true h) (c.machine_laws.ensures.may params (lines (g.S.Source.left c.args.source.now))) o.1 in
@@ -295,7 +295,7 @@ returns-clause-complete g c = λ params h b told short source sink other limit.
 pub returns-clause-reading_limit : goal.returns-clause-reading_limit
 returns-clause-reading_limit g c = λ params h allotted held told may so.
     let ended = ending_of c.serve-ran.result.ending (ending.PageLimit allotted) c.from-2.result (status.PageLimit allotted) c.from-2.ensures so refl in
-    let o = opened g.D.Disk g.X.DomIndex false c.args.disk (disk_in c.in-Ok.house) (params_in c.in-Ok.house) params h c.in-Ok.ensures.holds c.in-Ok.ensures.holds_trees c.in-Ok.ensures.tells held in
+    let o = opened g.D.Disk g.X.DomIndex false c.args.disk (disk_in c.in-Ok.house) (params_in c.in-Ok.house) params h c.in-Ok.ensures.holds c.in-Ok.ensures.holds_trees c.in-Ok.ensures.writes.tells held in
     let e = ends_at _ false (g.K.Sink.tells c.args.sink.now) (g.K.Sink.tells c.serve-ran.new.sink) (g.S.Source.tells c.serve-ran.new.source) (g.S.Source.left c.args.source.now) (g.S.Source.left c.serve-ran.new.source)
     c.serve-ran.result (g.K.Sink.written c.args.sink.now) (g.K.Sink.written c.serve-ran.new.sink) h c.new-desk.result.params params c.new-desk.result.house c.in-Ok.house c.new-desk.result.sessions
     (c.new-desk.ensures.params ∙ o.0) c.new-desk.ensures.house c.new-desk.ensures.sessions (c.serve-ran.ensures.ends told false h) may o.1 in

@@ -4,7 +4,7 @@ use Rattle.page_space.proofs.space.Space.open_on.Goals as goal
 
 pub returns-in-Ok-clause-holds : goal.returns-in-Ok-clause-holds
 returns-in-Ok-clause-holds g c = opened_holds c.open_settled.result c.settle.new.disk _ _
-    (λ told. c.open_settled.ensures.reads.tells ∙ c.settle.ensures.tells ∙ told) c.open_settled.ensures.reads.image c.in-Ok.ensures.same
+    (λ told. c.open_settled.ensures.reads.tells ∙ c.settle.ensures.writes.tells ∙ told) c.open_settled.ensures.reads.image c.in-Ok.ensures.same
 
 pub returns-in-Ok-clause-settles : goal.returns-in-Ok-clause-settles
 returns-in-Ok-clause-settles g c = opened_settles c.open_settled.result c.settle.new.disk _ _ c.open_settled.ensures.reads.image c.in-Ok.ensures.same
@@ -14,7 +14,7 @@ returns-in-Ok-clause-any_moment g c = λ told pages settles. rw c.open_settled.e
 
 pub returns-in-Ok-clause-no_memory : goal.returns-in-Ok-clause-no_memory
 returns-in-Ok-clause-no_memory g c = opened_whole c.open_settled.result _ (g.D.Disk.image c.settle.new.disk).pages _ _
-    (λ told. c.settle.ensures.tells ∙ told) c.in-Ok.ensures.same c.open_settled.ensures.no_memory
+    (λ told. c.settle.ensures.writes.tells ∙ told) c.in-Ok.ensures.same c.open_settled.ensures.no_memory
 
 pub returns-in-Ok-clause-stands : goal.returns-in-Ok-clause-stands
 returns-in-Ok-clause-stands g c = opened_stands c.open_settled.result c.settle.new.disk _ _ c.settling_laws.ensures.one

@@ -133,5 +133,5 @@ returns-then-not-goes_together-clause-stands g c = λ other told.
 pub returns-clause-here : goal.returns-clause-here
 returns-clause-here g c = λ told. (
   map_of c.in-Ok.space,
-  unordered (g.D.Disk.image (disk_of c.in-Ok.space)) (params_of c.in-Ok.space) (meta_of c.in-Ok.space) (map_of c.in-Ok.space) (IsInOrder c.in-Ok.space) (c.is_held.ensures.held (c.in-Ok.ensures.tells ∙ told)),
+  unordered (g.D.Disk.image (disk_of c.in-Ok.space)) (params_of c.in-Ok.space) (meta_of c.in-Ok.space) (map_of c.in-Ok.space) (IsInOrder c.in-Ok.space) (c.is_held.ensures.held (c.in-Ok.ensures.writes.tells ∙ told)),
 )
