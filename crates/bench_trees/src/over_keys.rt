@@ -56,18 +56,29 @@ fn asked(draws: &mut Draws, keys: Keys, additions: u32) -> Keyed {
     }
 }
 
+// The most gets and the most puts of one addition.
+#[derive(Clone, Copy, Default)]
+struct Most {
+    gets: u64,
+    puts: u64,
+}
+
 fn add_all(
     stage: &mut PutCount<MemStage>,
     tree: &mut Tree,
     keys: Keys,
     additions: u32,
-) -> Result<(), StageFault> {
+) -> Result<Most, StageFault> {
     let mut draws = Draws::new(1);
+    let mut most = Most::default();
     for number in 0..additions {
         let new = drawn(&mut draws, keys, number);
+        let (gets, puts) = (stage.stage.gets(), stage.puts.nodes);
         mv_add(stage, tree, new.key, number / 4, u128::from(new.value))?;
+        most.gets = most.gets.max(stage.stage.gets().saturating_sub(gets));
+        most.puts = most.puts.max(stage.puts.nodes.saturating_sub(puts));
     }
-    Ok(())
+    Ok(most)
 }
 
 fn value_all(
@@ -156,14 +167,18 @@ fn print_additions(
     additions: u32,
 ) -> Result<()> {
     let start = Instant::now(rt)?;
-    let made = add_all(stage, tree, keys, additions).is_ok();
+    let added = add_all(stage, tree, keys, additions);
     let took = start.elapsed(rt)?.as_nanos();
+    let most = added.unwrap_or_default();
     println!(rt;
-        "{additions} additions, {keys:?} keys: all made {made}, {} a second, {} pages, {} gets and {} puts in 100",
+        "{additions} additions, {keys:?} keys: all made {}, {} a second, {} pages, {} gets and {} puts in 100, at most {} and {} in one",
+        added.is_ok(),
         rate(additions, took),
         stage.stage.allotted() - 3,
         hundredths(stage.stage.gets(), u64::from(additions)),
-        hundredths(stage.puts.nodes, u64::from(additions))
+        hundredths(stage.puts.nodes, u64::from(additions)),
+        most.gets,
+        most.puts
     )?;
     Ok(())
 }

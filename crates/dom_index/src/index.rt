@@ -103,7 +103,7 @@ pub trait DomIndex {
             → stands (S.map stage.old) dims tree.old points → IsNewPoint dims points point.now
             → Replaces (footprint (S.map stage.old) dims tree.old) (footprint (S.map stage.new) dims tree.new)
             (S.map stage.old) (S.map stage.new)) }
-        // Whatever the pages hold, those to which the tree does not lead stay as they are.
+        // Whatever the pages hold, those that an addition may not change stay as they are.
         ensures apart { OnOk result (IsTrue (S.tells stage.old) → (page : ℕ) → IsSome (S.map stage.old page)
             → ¬ may_change (S.map stage.old) dims tree.old page → S.map stage.new page ≡ S.map stage.old page) }
         // In two and three dimensions a tree stays one page for as long as its points fit.

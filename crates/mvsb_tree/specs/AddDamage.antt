@@ -36,7 +36,8 @@ IsDamagedFromRootForAdd pages root place damaged =
     ⊎ IsDamagedBelow FitsForAdd LeadsTo NothingBeside pages (root_level pages root) place root damaged
 
 -- Pages are needed, and the chain has no place for them: its last page spells no node, or has the last place that there is; or fewer
--- places are left than are needed, and the page was not in the map, but took the last of them.
+-- places are left than are needed, and the page is one that was not in the map. The page that took the last place is such a page; which
+-- of them it is depends on what the stage gives out.
 abbrev pub IsEndDamaged : ℕ → PageMap → ℕ → ℕ → Type 0
 IsEndDamaged needed pages last damaged =
     (1 ≤ needed)

@@ -30,8 +30,8 @@ use sb_tree::tree_laws;
 /// allows. `Damaged` names the directory's root where the tree has `2^31` additions, where the directory tells no
 /// root at the version, or no number of a page, or where a root of level 16 would have to be split; the first page on the way of the key
 /// and the version that holds no node for its place, or one that may not be changed at the version; the end of the
-/// chain of places, where pages are needed that it has no places for, or where it holds no node; or, where the root
-/// changes, what an addition to the directory calls damaged.
+/// chain of places, where pages are needed that it has no places for, or where it holds no node; where the root
+/// changes, what an addition to the directory calls damaged; or any page where the free pages are not in order.
 pub fn mv_add<S: Stage>(
     stage: &mut S,
     tree: &mut Tree,
@@ -57,8 +57,9 @@ pub fn mv_add<S: Stage>(
         → AreApart (directory_pages (S.map stage.old) tree.old) (node_way (S.map stage.old) tree.old key version)
         → OthersStay (directory_pages (S.map stage.old) tree.old ++ node_way (S.map stage.old) tree.old key version) (S.map stage.old) (S.map stage.new)) }
     ensures count { OnOk result (tree.new.count ≡ tree.old.count + 1) }
-    // The directory is changed only where the root is.
+    // The directory is changed only where the root is, and then by one addition.
     ensures changes { OnOk result (IsTrue (S.tells stage.old) → (tree.new.changes ≡ tree.old.changes) ⊎ ChangesRoot (S.map stage.old) tree.old key version value) }
+    ensures one_change { OnOk result ((tree.old.changes ≤ tree.new.changes) × (tree.new.changes ≤ tree.old.changes + 1)) }
     ensures rules { OnOk result (IsTrue (tree_fits tree.old) → IsTrue (tree_fits tree.new)) }
     ensures typed { IsTreeTyped tree.new }
     ensures unchanged { OnErr result (tree.new ≡ tree.old) }

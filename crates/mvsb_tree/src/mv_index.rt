@@ -17,7 +17,8 @@ use std::alloc::Global;
 
 /// A multiversion tree as an index, over one dimension.
 ///
-/// A sum gets at most one page a level of the directory and of the root; an addition gives out at most 24.
+/// A sum gets at most one page a level of the directory and of the root. An addition to a tree that
+/// stands and is balanced gives out at most 24.
 #[derive(Drop)]
 pub struct MvIndex;
 

@@ -39,7 +39,7 @@ fn page_of(stage: &mut MemStage, node: &MvNode) -> Result<u64, StageFault> {
 }
 
 // A page that holds no node, though its kind is that of one.
-fn noise(stage: &mut MemStage) -> Result<u64, StageFault> {
+pub(crate) fn noise(stage: &mut MemStage) -> Result<u64, StageFault> {
     let page = stage.allot()?;
     let mut bytes = blank_page();
     bytes[0] = 3;
@@ -79,6 +79,25 @@ fn a_node_that_leads_to_itself(rt: HostRuntime) -> Result<(), Fail> {
         Err(StageFault::Damaged(page))
     );
     assert_eq!(rt; tree.count, 1);
+    Ok(())
+}
+
+#[test]
+fn a_directory_that_is_noise(rt: HostRuntime) -> Result<(), Fail> {
+    let mut stage = MemStage::new(rt.alloc(), 10);
+    let page = page_of(&mut stage, &node(1, 1, 0, 0))?;
+    let mut tree = tree_of(&mut stage, page)?;
+    let root = noise(&mut stage)?;
+    tree.root = root;
+    assert_eq!(rt;
+        mv_value(&mut stage, &tree, 5, 1),
+        Err(PageFault::Damaged(root))
+    );
+    assert_eq!(rt;
+        mv_add(&mut stage, &mut tree, 5, 2, 1),
+        Err(StageFault::Damaged(root))
+    );
+    assert_eq!(rt; mv_free(&mut stage, &tree), Err(StageFault::Damaged(root)));
     Ok(())
 }
 

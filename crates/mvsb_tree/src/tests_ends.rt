@@ -3,7 +3,7 @@
 ghost use Rattle.std.specs.Prelude.{◌≤◌};
 
 use crate::mv_add;
-use crate::tests_broken::tree_of;
+use crate::tests_broken::{noise, tree_of};
 use bw_types::Tree;
 use page_ports::{MemStage, Page, Stage, StageFault, blank_page};
 use std::test::Fail;
@@ -90,6 +90,22 @@ fn the_last_place_of_the_chain(rt: HostRuntime) -> Result<(), Fail> {
     assert_eq!(rt;
         mv_add(&mut stage, &mut tree, 7, 3, 1),
         Err(StageFault::Damaged(page))
+    );
+    Ok(())
+}
+
+#[test]
+fn a_chain_that_ends_in_noise(rt: HostRuntime) -> Result<(), Fail> {
+    let mut stage = MemStage::new(rt.alloc(), 10);
+    let page = page_of(&mut stage, &node(1, 1, 0, 0, 95, 10))?;
+    let mut tree = tree_of(&mut stage, page)?;
+    let last = noise(&mut stage)?;
+    tree.last = last;
+    // No page is needed; then one is.
+    assert_eq!(rt; mv_add(&mut stage, &mut tree, 5, 3, 1), Ok(()));
+    assert_eq!(rt;
+        mv_add(&mut stage, &mut tree, 7, 3, 1),
+        Err(StageFault::Damaged(last))
     );
     Ok(())
 }

@@ -8,7 +8,7 @@ ghost use Rattle.page_ports.specs.Calls.{OnlyReads};
 ghost use Rattle.mvsb_tree.specs.Damage.{FitsPlace, IsDamagedForValue, IsDamagedFromRoot, LeadsTo, root_place as spec_root_place};
 ghost use Rattle.mvsb_tree.specs.Stands.{IsBalanced, MvStands, RootStands};
 ghost use Rattle.mvsb_tree.specs.Telling.{ToldIn};
-ghost use Rattle.mvsb_tree.specs.Steps.{root_level, total_below, tree_value};
+ghost use Rattle.mvsb_tree.specs.Steps.{root_at as spec_root_at, root_level, total_below, tree_value};
 
 use crate::directory::root_at;
 use crate::place::{Place, root_place};
@@ -43,8 +43,10 @@ pub fn mv_value<P: Pages>(
         → IsDamagedForValue (P.map pages.old) tree.now key version page → ⊥) }
     ensures sound { (points : List Point) (page : ℕ) → IsTrue (P.tells pages.old)
         → MvStands (P.map pages.old) tree.now points → result ≢ Err (PageFault.Damaged page) }
-    // No root has more than 16 levels; of a balanced tree the count bounds them.
+    // One get a level of the directory and of the root, which has at most 16; of a balanced tree the count bounds them.
     ensures reads { OnlyReads P.Pages (tree.now.levels + 16) pages.old pages.new result }
+    ensures height { IsTrue (P.tells pages.old) → 1 ≤ root_level (P.map pages.old) (spec_root_at (P.map pages.old) tree.now version)
+        → P.gets pages.new ≤ P.gets pages.old + (tree.now.levels + root_level (P.map pages.old) (spec_root_at (P.map pages.old) tree.now version)) }
     ensures cost { (points : List Point) → IsTrue (P.tells pages.old) → MvStands (P.map pages.old) tree.now points → IsBalanced (P.map pages.old) tree.now
         → P.gets pages.new ≤ P.gets pages.old + (digit_count 32 tree.now.count + digit_count 24 tree.now.count) }
 {

@@ -19,8 +19,8 @@ pub trait Pages {
     /// How often the device failed.
     ghost faults: { Self → ℕ };
 
-    /// How many page numbers are given out. Of a stage alone, as the two after it; they stand here
-    /// because a get leaves them as they are.
+    /// How many page numbers are given out. This and the three after it are of a stage; they stand
+    /// here because a get leaves them as they are.
     ghost allotted: { Self → ℕ };
 
     /// At most how many page numbers there may be.

@@ -1,4 +1,4 @@
-use Rattle.std.proofs.Common.{◌≤◌, ℕ, Err, arith, sym, subst, ap, ◌∙◌}
+use Rattle.std.proofs.Common.{◌≡◌, ◌≤◌, ℕ, Err, arith, sym, subst, ap, ◌∙◌}
 use Rattle.std.proofs.lemmas.Result.{err_from_is_err_and}
 use Rattle.bw_types.specs.Heights.{digit_count}
 use Rattle.page_ports.specs.Pages.{PageMap}
@@ -6,7 +6,7 @@ use Rattle.page_ports.specs.declared.page.PageFault.TheVariants.{Damaged}
 use Rattle.mvsb_tree.specs.declared.place.Place.{Place}
 use Rattle.mvsb_tree.specs.Damage.{IsDamagedFromRoot}
 use Rattle.mvsb_tree.specs.Stands.{RootStands}
-use Rattle.mvsb_tree.specs.Steps.{node_pages, root_level}
+use Rattle.mvsb_tree.specs.Steps.{node_pages, root_at, root_level}
 use Rattle.mvsb_tree.proofs.Costs.{directory_cost, root_named, root_place_same}
 use Rattle.mvsb_tree.proofs.Exits.{exit_error, map_ok}
 use Rattle.mvsb_tree.proofs.Sound.{root_has_level}
@@ -55,6 +55,16 @@ returns-clause-cost g c = λ points tells s b.
     let same = ap (λ (n : PageMap). root_level n root) c.root_at.ensures.reads.read.map in
     let cost = c.value_from.ensures.cost (c.root_at.ensures.reads.read.tells ∙ tells) (subst (λ (l : ℕ). 1 ≤ l) (sym same) some) in
     omega (arith, directory, low, same, cost, c.root_at.ensures.reads.read.at_most)
+
+pub returns-clause-height : goal.returns-clause-height
+returns-clause-height g c = λ tells some.
+    let root : ℕ = c.in_ok-root.root in
+    let at_root : root_level (g.P.Pages.map c.args.pages.now) root ≡ root_level (g.P.Pages.map c.args.pages.now) (root_at (g.P.Pages.map c.args.pages.now) c.args.tree.now c.args.version) =
+    ap (root_level (g.P.Pages.map c.args.pages.now)) (c.in_ok-root.ensures.root tells) in
+    let same : root_level (g.P.Pages.map c.root_at.new.pages) root ≡ root_level (g.P.Pages.map c.args.pages.now) root =
+    ap (λ (n : PageMap). root_level n root) c.root_at.ensures.reads.read.map in
+    let cost = c.value_from.ensures.cost (c.root_at.ensures.reads.read.tells ∙ tells) (subst (λ (l : ℕ). 1 ≤ l) (sym (same ∙ at_root)) some) in
+    omega (arith, at_root, same, cost, c.root_at.ensures.reads.read.at_most)
 
 pub returns-clause-whole : goal.returns-clause-whole
 returns-clause-whole g c = map_ok c.value_from.result (λ value none tells.
