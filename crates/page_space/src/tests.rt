@@ -186,7 +186,10 @@ fn a_stop_of_create_leaves_nothing_or_a_space(rt: HostRuntime) -> Result<(), Fai
         for torn in KINDS {
             let (disk, done) = made(rt.alloc(), calls);
             match opened(rt.alloc(), disk.crash(torn)) {
-                Ok(space) => assert_eq!(rt; space.meta().allotted, 3),
+                Ok(space) => {
+                    assert_eq!(rt; space.params(), PARAMS);
+                    assert!(rt; *space.meta() == first_meta());
+                }
                 Err(fault) => assert!(rt; fault == OpenFault::Empty && !done, "after {calls}"),
             }
         }
@@ -230,10 +233,11 @@ fn a_stop_of_a_commit_leaves_all_or_nothing(rt: HostRuntime) -> Result<(), Fail>
 }
 
 #[test]
-fn laws_do_nothing(_: HostRuntime) -> Result<(), Fail> {
+fn laws_do_nothing(rt: HostRuntime) -> Result<(), Fail> {
     created_holds();
     holds_one();
     held_opens();
     chain_is_free();
+    opened(rt.alloc(), made(rt.alloc(), u64::MAX).0)?.is_held();
     Ok(())
 }

@@ -30,14 +30,14 @@ fn stopped(alloc: Global, calls: u64) -> (MemDisk, bool) {
     (disk, done)
 }
 
-// What the gates say, and the first bytes of the two pages behind the creation gate.
-fn found<D: Disk>(disk: &mut D) -> Result<(Gate, u8, u8), Failed> {
+// What the gates say, and the two pages behind the creation gate.
+fn found<D: Disk>(disk: &mut D) -> Result<(Gate, Page, Page), Failed> {
     let gate = ready(disk)?;
     let mut superblock = [0; 4096];
     let mut meta = [0; 4096];
     disk.read(Area::Pages, 1, &mut superblock)?;
     disk.read(Area::Pages, 2, &mut meta)?;
-    Ok((gate, superblock[0], meta[0]))
+    Ok((gate, superblock, meta))
 }
 
 #[test]
@@ -47,7 +47,7 @@ fn a_stop_leaves_nothing_or_all(rt: HostRuntime) -> Result<(), Fail> {
             let (disk, done) = stopped(rt.alloc(), calls);
             assert_eq!(rt; done, calls >= 11, "after {calls}");
             let (gate, superblock, meta) = found(&mut disk.crash(torn))?;
-            let all = gate == Gate::Idle && superblock == 5 && meta == 6;
+            let all = gate == Gate::Idle && superblock == SUPERBLOCK && meta == META;
             assert!(rt; all || (gate == Gate::Blank && !done), "after {calls}");
         }
     }
@@ -90,24 +90,24 @@ fn stopped_commit(alloc: Global, calls: u64) -> (MemDisk, bool) {
     (disk, done)
 }
 
-// The first byte of a page, if the page is there.
-fn first_byte(disk: &mut MemDisk, page: u64) -> Result<Option<u8>, Failed> {
+// The page, if it is there.
+fn page_on(disk: &mut MemDisk, page: u64) -> Result<Option<Page>, Failed> {
     let mut buf = [0; 4096];
     let found = disk.read(Area::Pages, page, &mut buf)?;
-    Ok(found.then_some(buf[0]))
+    Ok(found.then_some(buf))
 }
 
-// Replays where that is due, and then the first bytes of pages 2 and 3.
-fn reopened(disk: &mut MemDisk) -> Result<[Option<u8>; 2], JournalFault> {
+// Replays where that is due, and then pages 2 and 3.
+fn reopened(disk: &mut MemDisk) -> Result<[Option<Page>; 2], JournalFault> {
     if ready(disk)? == Gate::Armed {
         replay(disk)?;
     }
-    Ok([first_byte(disk, 2)?, first_byte(disk, 3)?])
+    Ok([page_on(disk, 2)?, page_on(disk, 3)?])
 }
 
-const BEFORE: [Option<u8>; 2] = [Some(6), None];
+const BEFORE: [Option<Page>; 2] = [Some(META), None];
 
-const AFTER: [Option<u8>; 2] = [Some(9), Some(9)];
+const AFTER: [Option<Page>; 2] = [Some(IMAGE), Some(IMAGE)];
 
 #[test]
 fn a_stopped_commit_leaves_all_images_or_none(rt: HostRuntime) -> Result<(), Fail> {
@@ -134,7 +134,10 @@ fn a_stopped_replay_is_made_again(rt: HostRuntime) -> Result<(), Fail> {
             let mut disk = disk.crash(Torn::Lost);
             disk.stop_after(calls);
             assert_eq!(rt; reopened(&mut disk).is_ok(), calls >= 18, "after {calls}");
-            assert_eq!(rt; reopened(&mut disk.crash(torn)), Ok(AFTER), "after {calls}");
+            assert!(rt;
+                reopened(&mut disk.crash(torn)) == Ok(AFTER),
+                "after {calls}"
+            );
         }
     }
     Ok(())
@@ -166,7 +169,7 @@ fn an_open_gate_without_a_body_is_damaged(rt: HostRuntime) -> Result<(), Fail> {
     let pages = [gate, SUPERBLOCK, META].to_vec(rt.alloc())?;
     let journal = [gate].to_vec(rt.alloc())?;
     let mut disk = MemDisk::holding(rt.alloc(), pages, journal);
-    assert_eq!(rt; reopened(&mut disk), Err(JournalFault::Damaged(1)));
+    assert!(rt; reopened(&mut disk) == Err(JournalFault::Damaged(1)));
     Ok(())
 }
 
