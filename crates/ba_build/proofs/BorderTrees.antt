@@ -1,6 +1,6 @@
 -- The trees of an entry, built one after another.
 use Rattle.std.proofs.Common.{◌≡◌, ℕ, zero, suc, ◌+◌, ◌-◌, ◌*◌, ◌^◌, ◌<◌, ◌≤◌, ◌⊎◌, ◌&&◌, inl, inr, Bool, true, false, cond, nat_eq, IsTrue, List, [], ◌∷◌, ◌++◌, length, slice_index_or, Result, Ok, Err, refl, sym, ap, ◌∙◌, subst, arith}
-use Rattle.std.specs.List.{AllPairs, filter, list_all}
+use Rattle.std.specs.List.{AllPairs, filter}
 use Rattle.std.proofs.lemmas.Bool.{cases_eq, eq-eqb, ne_eqb}
 use Rattle.std.proofs.lemmas.List.{length-map}
 use Rattle.std.proofs.lemmas.List.Elements.{All-cons, All-filter, All-map, All-nil}
@@ -21,10 +21,8 @@ use Rattle.page_ports.specs.Pages.{PageMap}
 use Rattle.page_ports.specs.declared.page.StageFault.{StageFault}
 use Rattle.page_ports.specs.declared.page.StageFault.TheVariants.{Disk, PageLimit}
 use Rattle.page_ports.specs.declared.pages.Pages.{Ghosts}
-use Rattle.page_layout.specs.BaEntry.{IsOutsideTyped, outside_fits}
 use Rattle.page_layout.specs.Footprint.{NamesNoneTwice}
 use Rattle.page_layout.specs.FootprintLaws.{once_join}
-use Rattle.page_layout.specs.TreeValue.{IsTreeTyped, plain_tree_fits, tree_fits}
 use Rattle.dom_index.specs.Points.{keys_differ}
 use Rattle.ba_trees.specs.Kinds.{trees_over, version_trees}
 use Rattle.ba_trees.specs.Laws.{AllKeepLaws}
@@ -343,16 +341,3 @@ module _ (laws : AllKeepLaws) (dims : ℕ) (two : 2 ≤ dims) (three : dims ≤ 
 and_holds : (a b : Bool) → IsTrue a → IsTrue b → IsTrue (a && b)
 and_holds true b p q = q
 and_holds false b p q = absurd cc
-
-pub trees_fit : (subtotal first second third : Tree) → IsTrue (plain_tree_fits subtotal) → IsTrue (tree_fits first) → IsTrue (tree_fits second) → IsTrue (tree_fits third)
-    → IsTrue (outside_fits (Trees subtotal (first ∷ second ∷ third ∷ [])))
-trees_fit subtotal first second third f0 f1 f2 f3 =
-    and_holds (plain_tree_fits subtotal) (list_all tree_fits (first ∷ second ∷ third ∷ [])) f0
-    (and_holds (tree_fits first) (list_all tree_fits (second ∷ third ∷ [])) f1
-    (and_holds (tree_fits second) (list_all tree_fits (third ∷ [])) f2
-    (and_holds (tree_fits third) true f3 refl)))
-
-pub trees_typed : (subtotal first second third : Tree) → IsTreeTyped subtotal → IsTreeTyped first → IsTreeTyped second → IsTreeTyped third
-    → IsOutsideTyped (Trees subtotal (first ∷ second ∷ third ∷ []))
-trees_typed subtotal first second third t0 t1 t2 t3 =
-    (t0, refl, All-cons IsTreeTyped first (second ∷ third ∷ []) t1 (All-cons IsTreeTyped second (third ∷ []) t2 (All-cons IsTreeTyped third [] t3 (All-nil IsTreeTyped))))

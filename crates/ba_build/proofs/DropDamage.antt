@@ -42,7 +42,7 @@ use Rattle.mvsb_tree.proofs.Dropping.{dropped_more}
 use Rattle.mvsb_tree.proofs.Freeing.{last_spelled}
 use Rattle.ba_trees.specs.Kinds.{trees_over, version_trees}
 use Rattle.ba_trees.specs.Laws.{AllKeepLaws, KeepsLaws}
-use Rattle.ba_trees.specs.Nodes.{FitsNode, HoldsNoPoints, Index, Leaf, Node}
+use Rattle.ba_trees.specs.Nodes.{FitsNode, Index, Leaf, Node}
 use Rattle.ba_trees.specs.Pages.{cut_pages, cuts_on, entries_on, entry_on, no_entry, regions_on}
 use Rattle.ba_trees.specs.Stands.{OutsideStands, RootStands, StandsBelow, TreeKind, TreesStand, outside_pages, pages_below, points_below}
 use Rattle.ba_build.specs.Collected.{LeadsToEach}
@@ -88,16 +88,6 @@ less level = omega arith
 no_leaf : (m : PageMap) (page : ℕ) (place : Unit {0}) → SpellsNone point_pages m page → (node : Node) (bytes : List ℕ) → m page ≡ Some bytes → FitsNode 1 place node bytes → ⊥
 no_leaf m page place none (Leaf leaf) bytes there fits = none leaf bytes there fits.spells
 no_leaf m page place none (Index cuts) bytes there fits = fits
-
-none_still : (m n : PageMap) (page : ℕ) → m page ≡ n page → SpellsNone point_pages n page → SpellsNone point_pages m page
-none_still m n page same none = λ leaf bytes there spells. none leaf bytes (sym same ∙ there) spells
-
-pub leaf_damaged : (dims level page p : ℕ) (old : PageMap) → level ≡ 1 → p ≡ page → SpellsNone point_pages old page
-    → WasDamaged (λ m. below dims level m page) (λ m. IsDamagedFrom dims m level page) old p
-leaf_damaged dims level page p old one same none =
-    subst (λ (l : ℕ). WasDamaged (λ m. below dims l m page) (λ m. IsDamagedFrom dims m l page) old p) (sym one)
-    (itself_damaged (λ m. page ∷ []) (λ m. IsDamagedFrom dims m 1 page) old page p same (λ m. names_first page [])
-    (λ before there. inl (same, no_leaf before page tt (none_still before old page there none))))
 
 -- an index page that holds no node of its level
 no_index : (level : ℕ) (m : PageMap) (page : ℕ) (place : Unit {0}) → HoldsNoLevel cut_pages (λ c. c.level) m (suc (suc level)) page
@@ -191,13 +181,6 @@ module _ (dims level page p : ℕ) (cuts : CutPage) (es : List BaEntry) (i : ℕ
       ))
       damaged
 
--- In what an entry keeps outside: the pocket, the subtotal, and a border after those before it.
-pub pocket_damaged : (dims page p count : ℕ) (old : PageMap) → p ≡ page → SpellsNone point_pages old page
-    → WasDamaged (λ m. outside_pages dims version_trees (trees_over (dims - 1)) m (Pocket page count)) (λ m. IsDamagedOutside (IsDamagedForDrop (dims - 1)) m (Pocket page count)) old p
-pocket_damaged dims page p count old same none =
-    itself_damaged (λ m. page ∷ []) (λ m q. (q ≡ page) × HoldsNoPoints m (Some count) page) old page p same (λ m. names_first page [])
-    (λ before there. (same, λ leaf bytes found fits. none_still before old page there none leaf bytes found fits.spells))
-
 pub subtotal_damaged : (dims : ℕ) (subtotal : Tree) (borders : List Tree) (old : PageMap) (p : ℕ) → over_versions.IsDamagedForFree old subtotal p
     → WasDamaged (λ m. outside_pages dims version_trees (trees_over (dims - 1)) m (Trees subtotal borders)) (λ m. IsDamagedOutside (IsDamagedForDrop (dims - 1)) m (Trees subtotal borders)) old p
 subtotal_damaged dims subtotal borders old p d =
@@ -230,12 +213,6 @@ pub over_versions_damaged : (dims : ℕ) (tree : Tree) (old : PageMap) (p : ℕ)
     → WasDamaged (λ m. (trees_over dims).footprint m tree) (λ m. IsDamagedForDrop dims m tree) old p
 over_versions_damaged dims tree old p none d =
     subst (λ (n : ℕ). WasDamaged (λ m. (trees_over n).footprint m tree) (λ m. IsDamagedForDrop n m tree) old p) (sym none) (versions_damaged tree old p d)
-
-pub over_keys_damaged : (dims : ℕ) (tree : Tree) (old : PageMap) (p : ℕ) → dims ≡ 1
-    → WasDamaged (λ m. steps_over_keys.tree_pages m tree) (λ m. over_keys.IsDamagedForFree m tree) old p
-    → WasDamaged (λ m. (trees_over dims).footprint m tree) (λ m. IsDamagedForDrop dims m tree) old p
-over_keys_damaged dims tree old p one d =
-    subst (λ (n : ℕ). WasDamaged (λ m. (trees_over n).footprint m tree) (λ m. IsDamagedForDrop n m tree) old p) (sym one) d
 
 pub over_more_damaged : (dims : ℕ) (tree : Tree) (old : PageMap) (p : ℕ) → 2 ≤ dims
     → WasDamaged (λ m. below dims tree.levels m tree.root) (λ m. IsDamagedFrom dims m tree.levels tree.root) old p

@@ -16,7 +16,7 @@ use Rattle.sb_tree.specs.Steps as over_versions
 use Rattle.mvsb_tree.specs.Gone.{AreDropped}
 use Rattle.mvsb_tree.specs.Steps as over_keys
 use Rattle.mvsb_tree.proofs.Chains.{left_there}
-use Rattle.mvsb_tree.proofs.Dropping.{dropped_as, dropped_more, none_dropped}
+use Rattle.mvsb_tree.proofs.Dropping.{dropped_as, dropped_more}
 use Rattle.ba_trees.specs.Kinds.{trees_over, version_trees}
 use Rattle.ba_trees.specs.Pages.{cut_pages}
 use Rattle.ba_trees.specs.Stands.{outside_pages, pages_below}
@@ -78,17 +78,6 @@ page_dropped dims level page cuts es old new none one found fits same dropped =
     (λ before gone r. pages_spelled dims level before page cuts none one (still_spelled gone before old page (cut_page_page cuts) r found) fits
     ∙ ap (λ (xs : List BaEntry). page ∷ flat_map (own_pages dims (level - 1) before) xs) (sym same)) dropped
 
--- a leaf, and a page without levels
-pub leaf_dropped : (dims level page : ℕ) (old new : PageMap) → level ≡ 1 → IsSome (old page) → new ≡ remove_page old page
-    → AreDropped (λ m. pages_below dims version_trees (trees_over (dims - 1)) level m page) old new
-leaf_dropped dims level page old new one there removed =
-    subst (λ (l : ℕ). AreDropped (λ m. pages_below dims version_trees (trees_over (dims - 1)) l m page) old new) (sym one) (one_dropped page old new there removed)
-
-pub no_level_dropped : (dims level page : ℕ) (old : PageMap) → level ≡ 0 → AreDropped (λ m. pages_below dims version_trees (trees_over (dims - 1)) level m page) old old
-no_level_dropped dims level page old none =
-    none_dropped (λ m. pages_below dims version_trees (trees_over (dims - 1)) level m page) old
-    (λ m. ap (λ (l : ℕ). pages_below dims version_trees (trees_over (dims - 1)) l m page) none)
-
 -- One border more is freed.
 pub border_dropped : (dims : ℕ) (subtotal : Tree) (borders : List Tree) (i : ℕ) (d : Tree) (old mid new : PageMap) → i < length borders
     → AreDropped (λ m. over_versions.tree_pages m subtotal ++ flat_map ((trees_over (dims - 1)).footprint m) (take i borders)) old mid
@@ -113,10 +102,6 @@ subtotal_dropped dims subtotal borders old new dropped =
 pub over_versions_dropped : (dims : ℕ) (tree : Tree) (old new : PageMap) → dims ≡ 0 → AreDropped (λ m. over_versions.tree_pages m tree) old new
     → AreDropped (λ m. (trees_over dims).footprint m tree) old new
 over_versions_dropped dims tree old new none dropped = subst (λ (n : ℕ). AreDropped (λ m. (trees_over n).footprint m tree) old new) (sym none) dropped
-
-pub over_keys_dropped : (dims : ℕ) (tree : Tree) (old new : PageMap) → dims ≡ 1 → AreDropped (λ m. over_keys.tree_pages m tree) old new
-    → AreDropped (λ m. (trees_over dims).footprint m tree) old new
-over_keys_dropped dims tree old new one dropped = subst (λ (n : ℕ). AreDropped (λ m. (trees_over n).footprint m tree) old new) (sym one) dropped
 
 pub over_more_dropped : (dims : ℕ) (tree : Tree) (old new : PageMap) → 2 ≤ dims
     → AreDropped (λ m. pages_below dims version_trees (trees_over (dims - 1)) tree.levels m tree.root) old new

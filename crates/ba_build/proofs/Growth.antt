@@ -79,17 +79,6 @@ grows_then g a b c old mid new r first call le =
       page_limit = λ n e. let limit = call.page_limit n e in let third = limit.2 in (limit.0 ∙ f.limit, limit.1, omega (arith, x, le, third));
     }
 
-pub grows_freely : {P T : Type 0} (g : Ghosts P) (a b : ℕ) (old mid new : P) (r : Result T StageFault) → Grew g a old mid → Grows g b mid new r → Grows g (g.allotted new + 1) old new r
-grows_freely g a b old mid new r first call =
-    let f = first.went_on in
-    let grew = grew_freely g a b old mid new first (grew_by g b mid new r call) in
-    record {
-      went_on = grew.went_on;
-      keeps = grew.keeps;
-      disk = λ e. rose_earlier (g.faults old) (g.faults mid) (g.faults new) f.faults (call.disk e);
-      page_limit = λ n e. let limit = call.page_limit n e in let second = limit.1 in (limit.0 ∙ f.limit, limit.1, omega (arith, second));
-    }
-
 -- more than a call gives out
 pub grows_less : {P T : Type 0} (g : Ghosts P) (a b : ℕ) (old new : P) (r : Result T StageFault) → Grows g a old new r → a ≤ b → Grows g b old new r
 grows_less g a b old new r call le = grows_then g 0 a b old old new r (grew_none g 0 old) call (omega (arith, le))

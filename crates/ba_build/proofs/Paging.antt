@@ -407,8 +407,5 @@ page_grows g n h c rows m s0 s1 s2 s3 r some eight same first second last =
     let both = grew_more g (n * (h * (1 + 8 * c))) (rows * (m * c)) (n * (h * (1 + 8 * c)) + rows * (m * c)) s0 s1 s2 first second (omega arith) in
     grows_then g (n * (h * (1 + 8 * c)) + rows * (m * c)) 1 (n * ((h + 1) * (1 + 8 * c))) s0 s2 s3 r both last (omega (arith, eights, page_number n h c some))
 
-pub leaf_number : (n c : ℕ) → 1 ≤ n → 1 ≤ n * ((0 + 1) * (1 + 8 * c))
-leaf_number n c some = omega (arith, some, whole_number n 0 c)
-
 pub some_points : (height : ℕ) (points : List Point) → FitHeight height 1 points → 1 ≤ length points
 some_points height points fit = omega (arith, fit.some, one-le-pow height 8 (lit< tt))

@@ -12,11 +12,9 @@ use Rattle.page_ports.specs.FrameLaws.{Replaces-put}
 use Rattle.page_ports.specs.Frame.{Replaces}
 use Rattle.page_ports.specs.Pages.{PageMap, put_page}
 use Rattle.page_layout.specs.PointLeaf.{IsPointLeaf, IsPointTyped, IsTyped, point_leaf_page}
-use Rattle.page_layout.specs.Spelled.{Spells}
 use Rattle.page_layout.specs.declared.point_leaf.PointLeaf.{PointLeaf}
-use Rattle.dom_index.specs.Chain.{leaf_on, point_pages}
+use Rattle.dom_index.specs.Chain.{leaf_on}
 use Rattle.ba_trees.specs.Pages.{points_on}
-use Rattle.ba_trees.specs.Stands.{PointsStand}
 use Rattle.ba_build.specs.Built.{MayBeBuilt}
 use Rattle.ba_build.proofs.Found.{leaf_found}
 use Rattle.ba_build.proofs.Paging.{may_in_any_order}
@@ -33,10 +31,6 @@ point_first p xs = IsPermutation-append_comm xs (p ∷ [])
 
 put_here : (m : PageMap) (page : ℕ) (bytes : List ℕ) → put_page m page bytes page ≡ Some bytes
 put_here m page bytes = rw (eq-eqb page page refl) refl
-
--- What is read of a page that stands is what it spells.
-pub leaf_spelled : (m : PageMap) (page : ℕ) → PointsStand m page → Spells point_pages (leaf_on m page) (point_leaf_page (leaf_on m page))
-leaf_spelled m page s = record { spelled = refl; rules = s.rules; typed = s.typed }
 
 -- A leaf with room, with the point put last.
 pub point_took : (dims : ℕ) (region : Region) (p : Point) (m0 m1 : PageMap) (page : ℕ) (leaf new : PointLeaf) → PageMayTake dims 1 m0 region page p

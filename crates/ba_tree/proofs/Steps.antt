@@ -10,7 +10,7 @@ use Rattle.page_ports.specs.Pages.{PageMap}
 use Rattle.page_ports.specs.declared.page.PageFault.{PageFault}
 use Rattle.page_ports.specs.declared.page.PageFault.TheVariants as page_fault
 use Rattle.page_ports.specs.declared.page.StageFault.{StageFault}
-use Rattle.page_ports.specs.declared.page.StageFault.TheVariants.{Damaged, Disk, NoMemory, PageLimit}
+use Rattle.page_ports.specs.declared.page.StageFault.TheVariants.{Damaged, Disk, PageLimit}
 use Rattle.page_ports.specs.declared.pages.Pages.{Ghosts}
 use Rattle.ba_split.specs.Calls.{GoesOn}
 
@@ -34,9 +34,6 @@ map_ok (Err e) f p = tt
 -- What a stage tells, it tells later; and its free pages stay in order.
 pub told_on : {P : Type 0} (g : Ghosts P) (a : ℕ) (old new : P) → WentOn g a old new → IsTrue (g.tells old) → IsTrue (g.tells new)
 told_on g a old new h told = subst IsTrue (sym h.tells) told
-
-pub order_on : {P : Type 0} (g : Ghosts P) (a : ℕ) (old new : P) → WentOn g a old new → IsTrue (g.tells old) → g.free_in_order old → g.free_in_order new
-order_on g a old new h told order = h.free_in_order told order
 
 -- nothing was done
 pub went_none : {P : Type 0} (g : Ghosts P) (most : ℕ) (old : P) → WentOn g most old old
@@ -128,9 +125,6 @@ changes_end g most old new value went = record { went_on = went; disk = λ e. cc
 pub changes_damaged : {P T : Type 0} (g : Ghosts P) (most : ℕ) (old new : P) (page : ℕ) → WentOn g most old new → Changes {T = T} g most old new (Err (Damaged page))
 changes_damaged g most old new page went = record { went_on = went; disk = λ e. cc; page_limit = λ n e. cc }
 
-pub changes_no_memory : {P T : Type 0} (g : Ghosts P) (most : ℕ) (old new : P) → WentOn g most old new → Changes {T = T} g most old new (Err NoMemory)
-changes_no_memory g most old new went = record { went_on = went; disk = λ e. cc; page_limit = λ n e. cc }
-
 -- The refusal of the last call is the refusal of all.
 pub changes_told : {P T U : Type 0} (g : Ghosts P) (most : ℕ) (old new : P) (q : Result U StageFault) (fault : StageFault)
     → ((y : StageFault) × (q ≡ Err y) × (y ≡ fault)) → Changes {T = T} g most old new (Err fault) → Changes g most old new q
@@ -163,18 +157,6 @@ goes_less g a b Premise old new r Done h le = record {
   few = λ premise. changes_less g a b old new r (h.few premise) le;
   sound = h.sound;
 }
-
-pub goes_where : {P T : Type 0} (g : Ghosts P) (most : ℕ) (Premise Other : Type 0) (old new : P) (r : Result T StageFault) (Done : T → Type 0) → GoesOn g most Premise old new r Done
-    → (Other → Premise) → GoesOn g most Other old new r Done
-goes_where g most Premise Other old new r Done h so = record {
-  done = h.done;
-  few = λ other. h.few (so other);
-  sound = λ other. h.sound (so other);
-}
-
-pub goes_as : {P T : Type 0} (g : Ghosts P) (most : ℕ) (Premise : Type 0) (old new : P) (r : Result T StageFault) (Done Other : T → Type 0) → GoesOn g most Premise old new r Done
-    → ((x : T) → Done x → Other x) → GoesOn g most Premise old new r Other
-goes_as g most Premise old new r Done Other h so = record { done = map_ok r so h.done; few = h.few; sound = h.sound }
 
 -- A call after others. They went on so where the premise holds, and what is told is told later.
 pub goes_then : {P T : Type 0} (g : Ghosts P) (a b c : ℕ) (Premise Later : Type 0) (old mid new : P) (r : Result T StageFault) (Done Other : T → Type 0) → IsTrue (g.tells old)
@@ -223,14 +205,6 @@ goes_damaged g most Premise old new page Done before never = record {
   done = tt;
   few = λ premise. changes_damaged g most old new page (before premise);
   sound = λ premise. absurd (never premise);
-}
-
-pub goes_no_memory : {P T : Type 0} (g : Ghosts P) (most : ℕ) (Premise : Type 0) (old new : P) (Done : T → Type 0) → (Premise → WentOn g most old new)
-    → GoesOn g most Premise old new (Err NoMemory) Done
-goes_no_memory g most Premise old new Done before = record {
-  done = tt;
-  few = λ premise. changes_no_memory g most old new (before premise);
-  sound = λ premise order page e. cc;
 }
 
 -- A read that was refused, of a page that holds what is read where the premise holds.

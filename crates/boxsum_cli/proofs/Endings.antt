@@ -88,12 +88,6 @@ input_ending e s is why = elim why [
   | inr w ↦ subst (λ (x : Ending). IsInputEnding x) (sym (ending_of e (ending.InputLimit w.0) s (InputLimit w.0) is w.1 refl)) tt
 ]
 
-pub no_input_fault : (f : OpenFault) (s : Status) → s ≡ status_of_fault f → IsInputStatus s → ⊥
-no_input_fault f s is why = elim why [
-  | inl so ↦ no_fault f s ReadFault is so refl
-  | inr w ↦ no_fault f s (InputLimit w.0) is w.1 refl
-]
-
 pub input_flushes : (e : Ending) → IsInputEnding e → IsFlushed e
 input_flushes ending.ReadFault i = tt
 input_flushes (ending.InputLimit taken) i = tt
@@ -129,16 +123,6 @@ ends_run_so (ending.PageLimit allotted) = refl
 pub run_ends : (e : Ending) (s : Status) → s ≡ status_of e → IsTrue (ends_run s)
 run_ends e s is = subst (λ (x : Status). IsTrue (ends_run x)) (sym is) (ends_run_so e)
 
-ends_refused_so : (f : OpenFault) → IsTrue (ends_run (status_of_fault f))
-ends_refused_so fault.Disk = refl
-ends_refused_so fault.Empty = refl
-ends_refused_so (fault.Damaged page) = refl
-ends_refused_so fault.NoMemory = refl
-ends_refused_so (fault.BadJournal page) = refl
-
-pub refused_ends : (f : OpenFault) (s : Status) → s ≡ status_of_fault f → IsTrue (ends_run s)
-refused_ends f s is = subst (λ (x : Status). IsTrue (ends_run x)) (sym is) (ends_refused_so f)
-
 ends_scratch_so : (e : Ending) → (e ≡ ending.DiskFault → ⊥) → ((page : ℕ) → e ≡ ending.Damaged page → ⊥) → ((allotted : ℕ) → e ≡ ending.PageLimit allotted → ⊥) → IsTrue (ends_scratch (status_of e))
 ends_scratch_so ending.Fine disk damaged limit = refl
 ends_scratch_so ending.ReadFault disk damaged limit = refl
@@ -166,19 +150,6 @@ only_fine NoMemory ends empty read write disk damaged input limit = inr refl
 only_fine (Damaged area page) ends empty read write disk damaged input limit = absurd (damaged area page refl)
 only_fine (InputLimit taken) ends empty read write disk damaged input limit = absurd (input taken refl)
 only_fine (PageLimit allotted) ends empty read write disk damaged input limit = absurd (limit allotted refl)
-
-pub only_fine_scratch : (s : Status) → IsTrue (ends_scratch s) → s ≢ ReadFault → s ≢ WriteFault → ((taken : ℕ) → s ≢ InputLimit taken) → (s ≡ Fine) ⊎ (s ≡ NoMemory)
-only_fine_scratch Fine ends read write input = inl refl
-only_fine_scratch Usage ends read write input = absurd (cc)
-only_fine_scratch NoWarehouse ends read write input = absurd (cc)
-only_fine_scratch AlreadyThere ends read write input = absurd (cc)
-only_fine_scratch ReadFault ends read write input = absurd (read refl)
-only_fine_scratch WriteFault ends read write input = absurd (write refl)
-only_fine_scratch DiskFault ends read write input = absurd (cc)
-only_fine_scratch NoMemory ends read write input = inr refl
-only_fine_scratch (Damaged area page) ends read write input = absurd (cc)
-only_fine_scratch (InputLimit taken) ends read write input = absurd (input taken refl)
-only_fine_scratch (PageLimit allotted) ends read write input = absurd (cc)
 
 -- the count of faults where the device failed
 pub rises : (f : OpenFault) (old new : ℕ) → MatchBool (is_disk f) (Rose old new × (old ≤ new)) (new ≡ old) → f ≡ fault.Disk → Rose old new

@@ -12,11 +12,10 @@ use Rattle.page_disk.specs.Image.{Image}
 use Rattle.page_disk.specs.Moment.{Moment, MayBeLeftSince, clock_of}
 use Rattle.page_disk.specs.Since.{LeavesNow, LeavesOnly}
 use Rattle.page_disk.specs.declared.disk.Disk.{Ghosts}
-use Rattle.redo_journal.specs.Gates.{is_empty, gate_of}
-use Rattle.redo_journal.specs.declared.gate.Gate.TheVariants.{Blank, NoJournal, Armed}
+use Rattle.redo_journal.specs.Gates.{is_empty}
 use Rattle.page_space.specs.Faults.{AtBadJournal, AtDamaged, AtEmpty}
 use Rattle.page_space.specs.Opening.{StandsAlike}
-use Rattle.page_space.specs.Settling.{HasNoReplay, IsBadAt}
+use Rattle.page_space.specs.Settling.{IsBadAt}
 use Rattle.page_space.specs.declared.refusal.OpenFault.{OpenFault}
 use Rattle.page_space.specs.declared.refusal.OpenFault.TheVariants as fault
 use Rattle.dom_index.specs.declared.index.DomIndex.{Ghosts as IndexGhosts}
@@ -35,7 +34,7 @@ use Rattle.boxsum_cli.specs.Runs.{AreReplied, LacksPagesNext, history_by, state_
 use Rattle.boxsum_cli.specs.Statuses.{status_of_fault}
 use Rattle.boxsum_cli.specs.declared.status.Ran.{Ran}
 use Rattle.boxsum_cli.specs.declared.status.Status.{Status}
-use Rattle.boxsum_cli.specs.declared.status.Status.TheVariants.{NoWarehouse, DiskFault, NoMemory, Damaged}
+use Rattle.boxsum_cli.specs.declared.status.Status.TheVariants.{DiskFault, NoMemory, Damaged}
 use Rattle.boxsum_cli.specs.declared.status.Status.TheVariants as status
 
 pub goes_on_same : (h : History) → GoesOnFrom h h
@@ -54,36 +53,6 @@ writes_nothing written text = record { out = []; rest = text; wrote = sym (appen
 pub goes_with : (read taken left other : List ℕ) → read ≡ taken ++ left → read ≡ other ++ left → taken ≡ other
 goes_with read taken left other a b = append_cancel_right taken other left (sym a ∙ b)
 
--- A disk without a warehouse.
-gate_of_empty : (x : Image) → is_empty x ≡ true → gate_of x ≡ Blank
-gate_of_empty x e = rw e refl
-
-pub empty_no_replay : (x : Image) → is_empty x ≡ true → HasNoReplay x
-empty_no_replay x e = λ armed. absurd (let no : Blank ≡ Armed = sym (gate_of_empty x e) ∙ armed in cc)
-
-never_bad : (x : Image) (page : ℕ) → is_empty x ≡ true → IsBadAt x page → ⊥
-never_bad x page e bad = elim bad [
-  | inl w ↦ (let no : Blank ≡ NoJournal = sym (gate_of_empty x e) ∙ w.0 in cc)
-  | inr w ↦ (let no : Blank ≡ Armed = sym (gate_of_empty x e) ∙ w.0 in cc)
-]
-
-never_made : (x : Image) → is_empty x ≡ true → is_empty x ≡ false → ⊥
-never_made x a b = cc
-
-never_damaged : (dims : ℕ) (x : Image) (page : ℕ) → is_empty x ≡ true → IsDamagedToOpen dims x page → ⊥
-never_damaged dims x page e damaged = elim damaged [
-  | inl w ↦ never_made x e w.1.0.made
-  | inr w ↦ never_made x e w.space.settled.made
-]
-
-pub empty_faults : (dims : ℕ) (x : Image) (told : Type 0) → told → is_empty x ≡ true → (f : OpenFault) → AtBadJournal f (λ page. told → IsBadAt x page) → AtDamaged f (λ page. told → IsDamagedToOpen dims x page)
-    → (s : Status) → s ≡ status_of_fault f → (s ≡ NoWarehouse) ⊎ ((s ≡ DiskFault) ⊎ (s ≡ NoMemory))
-empty_faults dims x told t e fault.Disk bad damaged s is = inr (inl is)
-empty_faults dims x told t e fault.Empty bad damaged s is = inl is
-empty_faults dims x told t e (fault.Damaged page) bad damaged s is = absurd (never_damaged dims x page e (damaged t))
-empty_faults dims x told t e fault.NoMemory bad damaged s is = inr (inr is)
-empty_faults dims x told t e (fault.BadJournal page) bad damaged s is = absurd (never_bad x page e (bad t))
-
 -- what an opening answers is a cause to refuse
 refusal : (dims : ℕ) (x : Image) (told : Type 0) → told → (f : OpenFault) → AtEmpty f (told → is_empty x ≡ true) → AtBadJournal f (λ page. told → IsBadAt x page)
     → AtDamaged f (λ page. told → IsDamagedToOpen dims x page) → IsRefusal dims x (status_of_fault f)
@@ -92,9 +61,6 @@ refusal dims x told t fault.Empty empty bad damaged = empty t
 refusal dims x told t (fault.Damaged page) empty bad damaged = damaged t
 refusal dims x told t fault.NoMemory empty bad damaged = tt
 refusal dims x told t (fault.BadJournal page) empty bad damaged = bad t
-
-pub empty_is : (f : OpenFault) (P : Type 0) → AtEmpty f P → f ≡ fault.Empty → P
-empty_is f P at is = subst (λ (x : OpenFault). AtEmpty x P) is at
 
 -- a disk that was not opened is refused
 pub refuses : {D : Type 0} (g : Ghosts D) (dims : ℕ) (old : D) (f : OpenFault) (ran : Ran D) → IsTrue (g.tells old) → ran.status ≡ status_of_fault f

@@ -20,7 +20,6 @@ use Rattle.page_layout.specs.MetaLaws.{meta_in-page}
 use Rattle.page_layout.specs.TreeValue.{IsTreeTyped, tree_fits}
 use Rattle.page_warehouse.specs.Created.{IsNew, new_meta}
 use Rattle.page_warehouse.specs.Needs.{meta_charge}
-use Rattle.row_machine.specs.Runs.{WritesPart}
 use Rattle.sample_rows.specs.Summary.{WritesSummary, sample_params, summary_with}
 use Rattle.boxsum_cli.specs.Held.{HoldsBetween, IsEmptyOrPart, charge_in}
 use Rattle.boxsum_cli.specs.Statuses.{status_amid}
@@ -210,9 +209,6 @@ new_charge x pages new settles =
 -- where nothing was written, a part of any summary was
 pub no_summary : (count : ℕ) (written : List ℕ) → WritesSummary count written written
 no_summary count written = record { total = pos 0; out = []; rest = summary_with count (pos 0); wrote = sym (append-nil written); part = refl }
-
-pub some_summary : (count : ℕ) (total : ℤ) (written written' : List ℕ) → WritesPart written written' (summary_with count total) → WritesSummary count written written'
-some_summary count total written written' p = record { total = total; out = p.out; rest = p.rest; wrote = p.wrote; part = p.part }
 
 module _ {X : Type 0} (i : IndexGhosts X) where
   -- a part of the history is one where a warehouse may be missing

@@ -1,13 +1,9 @@
 -- Laws of tests and products over the numbers below n.
-use Rattle.std.proofs.Common.{◌≡◌, ℕ, zero, suc, ◌+◌, ◌^◌, ◌<◌, ◌≤◌, Bool, true, false, ◌&&◌, ◌⊎◌, inl, inr, refl, arith, lit<, nat_le}
+use Rattle.std.proofs.Common.{◌≡◌, ℕ, zero, suc, ◌^◌, ◌<◌, ◌≤◌, Bool, false, ◌&&◌, ◌⊎◌, inl, inr, refl, arith, lit<, nat_le}
 use Rattle.std.proofs.Math.Bool.{and-false}
 use Rattle.std.proofs.Math.Nat.{pow-le-pow_left, pow-le-pow_right}
 use Rattle.std.proofs.lemmas.Bool.{cases_lt, lt-leb}
 use Rattle.bw_types.specs.Tally.{each_below}
-
--- one number more
-pub each_below-suc : (n m : ℕ) (p : ℕ → Bool) → m ≡ n + 1 → each_below n p ≡ true → p n ≡ true → each_below m p ≡ true
-each_below-suc n m p e h g = let k : m ≡ suc n = omega arith in rw k (rw (h, g) refl)
 
 -- one number at which the test fails
 pub each_below-false : (n i : ℕ) (p : ℕ → Bool) → i < n → p i ≡ false → each_below n p ≡ false

@@ -14,7 +14,6 @@ pub mod Worked
 pub mod Residues
 pub mod ResidueLaws
 pub mod Keys
-pub mod KeyLaws
 pub mod Heights
 pub mod HeightLaws
 pub mod Regions

@@ -1,11 +1,11 @@
 -- The laws of residues.
 use Rattle.std.specs.Prelude.{◌≡◌, ℕ, ◌+◌, ◌-◌, ◌*◌, ◌%◌, ◌^◌, ◌<◌, ℤ, pos, negsuc, ◌+ℤ◌, ◌*ℤ◌, neg_ℤ, ◌≤ℤ◌, ◌<ℤ◌, FitsSigned, refl}
 use Rattle.std.specs.Int.{w128, cast_signed, cast_unsigned, int_wrap}
-use Rattle.std.proofs.Common.{sym, ◌∙◌, ap, arith, lit<, inl, inr, add_assoc, add-zero}
-use Rattle.std.proofs.Math.Nat.{mod-lt, mod-eq_of_lt, mod-add-mod, add-mod-mod, mod_self, add_comm}
+use Rattle.std.proofs.Common.{sym, ◌∙◌, ap, arith, lit<, inl, inr}
+use Rattle.std.proofs.Math.Nat.{mod-lt, mod-eq_of_lt}
 use Rattle.std.proofs.lemmas.Bool.{cases_lt, lt-ltb, le-ltb}
 use Rattle.std.proofs.lemmas.Int.{ints, of_z-to_z, int_wrap-add_left, int_wrap-add_right, int_wrap-mul_left, int_wrap-mul_right, wrapping_add-bits, wrapping_mul-bits, int_wrap_fits, SFits-int_wrap}
-use Rattle.bw_types.specs.Residues.{residue, signed_of, opposite_residue, ResidueOfSum, ResidueOfProduct, ResidueOfOpposite, ResidueOfNatural, ResidueOfSmall, ResidueIsBelow, SignedOfResidue, ResidueOfSigned, ResiduesCommute, ResiduesAssociate, ZeroAddsNothing, OppositesCancel}
+use Rattle.bw_types.specs.Residues.{residue, signed_of, opposite_residue, ResidueOfSum, ResidueOfProduct, ResidueOfOpposite, ResidueOfNatural, ResidueOfSmall, ResidueIsBelow, SignedOfResidue, ResidueOfSigned}
 
 pub residue_is_below : ResidueIsBelow
 unfolding residue
@@ -47,21 +47,6 @@ residue_of_product x y =
     let e : int_wrap w128 (x *ℤ y) ≡ cast_signed w128 ((residue x * residue y) % 2 ^ 128) =
     sym right ∙ ap (λ z. int_wrap w128 (x *ℤ z)) (wrapped_residue y) ∙ sym left ∙ ap (λ z. int_wrap w128 (z *ℤ cast_signed w128 (residue y))) (wrapped_residue x) ∙ sym wrapped in
     sym (residue_of_wrapped (x *ℤ y)) ∙ ap (cast_unsigned w128) e ∙ bits
-
-pub residues_associate : ResiduesAssociate
-residues_associate a b c =
-    mod-add-mod (a + b) (2 ^ 128) c ∙ ap (λ s. s % 2 ^ 128) (add_assoc a b c) ∙ sym (add-mod-mod a (b + c) (2 ^ 128))
-
-pub residues_commute : ResiduesCommute
-residues_commute a b = ap (λ s. s % 2 ^ 128) (add_comm a b)
-
-pub zero_adds_nothing : ZeroAddsNothing
-zero_adds_nothing a h = ap (λ s. s % 2 ^ 128) (add-zero a) ∙ mod-eq_of_lt h
-
-pub opposites_cancel : OppositesCancel
-opposites_cancel a h =
-    let whole : a + (2 ^ 128 - a) ≡ 2 ^ 128 = omega arith in
-    add-mod-mod a (2 ^ 128 - a) (2 ^ 128) ∙ ap (λ s. s % 2 ^ 128) whole ∙ mod_self (2 ^ 128)
 
 -- a residue is determined by what it adds to another to make 0
 only_opposite : (a b : ℕ) → a < 2 ^ 128 → b < 2 ^ 128 → (a + b) % 2 ^ 128 ≡ 0 → b ≡ opposite_residue a

@@ -1,5 +1,5 @@
 -- The points of an entry added to a tree one after another.
-use Rattle.std.proofs.Common.{◌≡◌, ℕ, suc, ◌+◌, ◌-◌, ◌*◌, ◌<◌, ◌≤◌, ◌&&◌, nat_le, nat_lt, inl, inr, List, ◌∷◌, ◌++◌, length, refl, sym, ap, ◌∙◌, subst, arith, length-append}
+use Rattle.std.proofs.Common.{◌≡◌, ℕ, suc, ◌+◌, ◌-◌, ◌*◌, ◌<◌, ◌≤◌, ◌&&◌, nat_le, nat_lt, inl, inr, List, ◌∷◌, ◌++◌, length, sym, ap, ◌∙◌, subst, arith, length-append}
 use Rattle.std.proofs.Math.Nat.{mul-le-mul_right}
 use Rattle.std.proofs.lemmas.Bool.{and_parts, cases_Bool, cases_eq, cases_lt, eq-eqb, leb-true, ltb-true, ne_eqb}
 use Rattle.std.proofs.lemmas.List.{length-map}
@@ -23,9 +23,6 @@ use Rattle.corner_forest.specs.Enters.{AreNewPoints, TreeEnters, points_from, st
 pub record IsNear (dims levels earlier : ℕ) (tree : Tree) : Type 0 where
   pub first : earlier ≡ 0 → levels ≡ tree.levels
   pub one : 2 ≤ dims → tree.levels ≤ 1 → tree.count + earlier ≤ 64 → (levels ≤ 1) × (1 ≤ earlier → levels ≡ 1)
-
-pub near_first : (dims : ℕ) (tree : Tree) → IsNear dims tree.levels 0 tree
-near_first dims tree = record { first = λ none. refl; one = λ two low few. (low, λ some. absurd (omega (arith, some))) }
 
 -- one point more, before those of the later corners
 pub next_points : (params : Params) (e : Entered) (root n i corner : ℕ) → i < n → corner ≡ n - 1 - i

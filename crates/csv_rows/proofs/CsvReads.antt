@@ -41,9 +41,6 @@ at-end after _ fields field content h = elim h [ ]
 plain-step : (s : State) (b : ℕ) → (s ≡ st.StartField) ⊎ (s ≡ st.InField) → eqb b 44 ≡ false → eqb b 34 ≡ false → eqb b 10 ≡ false → eqb b 13 ≡ false → step default_config s b ≡ (st.InField, act.Copy)
 plain-step s b h comma quote feed return = elim h [ inl e ↦ rw (e, quote, comma, return, feed) refl | inr e ↦ rw (e, comma, return, feed) refl ]
 
-quote-step : step default_config st.StartField 34 ≡ (st.InQuoted, act.Skip)
-quote-step = refl
-
 inner-step : (b : ℕ) → eqb b 34 ≡ false → step default_config st.InQuoted b ≡ (st.InQuoted, act.Copy)
 inner-step b quote = rw quote refl
 

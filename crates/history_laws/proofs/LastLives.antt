@@ -43,10 +43,6 @@ unfolding Among
 none_of p [] h = refl
 none_of p (x ∷ xs) h = or_from (p x) (list_any p xs) (h x (inl refl)) (none_of p xs (λ d a. h d (inr a)))
 
--- a life among those that begin with these changes has a number above all earlier adds of its id
-adds_of : ℕ → Numbered → Bool
-adds_of id m = adds id m.change
-
 count_push : (id : ℕ) (earlier : List Numbered) (n : Numbered) → count_by (λ (m : Numbered). adds id m.change) earlier ≤ count_by (λ (m : Numbered). adds id m.change) (earlier ++ n ∷ [])
 count_push id earlier n = let more = sum_by-append (λ (m : Numbered). mathlib.Core.Bool.cond (adds id m.change) 1 0) earlier (n ∷ []) in omega (arith, more)
 

@@ -53,9 +53,6 @@ with_withdrawal earlier n o found = record (life_of earlier n o []) {
   withdraw_event = option_map_or (λ (w : Numbered). w.event) found 0;
 }
 
-life_by : (earlier : List Numbered) (n : Numbered) (o : Object) (later : List Numbered) → life_of earlier n o later ≡ with_withdrawal earlier n o (found_in o.id later)
-life_by earlier n o later = refl
-
 life_more_add : (earlier : List Numbered) (n : Numbered) (o p : Object) (later : List Numbered) (m : Numbered) → m.change ≡ change.Add p → life_of earlier n o (later ++ m ∷ []) ≡ life_of earlier n o later
 life_more_add earlier n o p later m is = ap (with_withdrawal earlier n o) (same (found_in o.id later) refl)
   where

@@ -59,10 +59,6 @@ none_live v w earlier (n ∷ ns) lt f =
       | change.Withdraw id ↦ rest
     ]
 
-not_if : {X : Type 0} (b : Bool) (x y : X) → (if not b then x else y) ≡ (if b then y else x)
-not_if true x y = refl
-not_if false x y = refl
-
 pub live_told : (v : ℕ) (earlier ns : List Numbered) → Rises ns → live_of (changed (seen v ns)) ≡ objects_at v (lives_after earlier ns)
 live_told v earlier [] r = refl
 live_told v earlier (n ∷ ns) r = elim (cases_lt v n.version) [

@@ -1,11 +1,11 @@
 -- What an answer says, by cases.
-use Rattle.std.proofs.Common.{◌≡◌, ℕ, ◌+◌, ◌<◌, ◌≤◌, Bool, List, [], ◌++◌, Option, None, Some, length, take, drop, arith, refl, subst, ap, sym, ◌∙◌, length-take}
+use Rattle.std.proofs.Common.{◌≡◌, ℕ, ◌+◌, ◌<◌, ◌≤◌, List, [], ◌++◌, Option, None, Some, length, take, drop, arith, refl, subst, ap, sym, ◌∙◌, length-take}
 use Rattle.std.proofs.lemmas.List.{take_all}
 use Rattle.std.specs.Str.Lines.{strip_carriage_return}
 use Rattle.line_reader.specs.Intake.{IsLineEnd}
 use Rattle.line_reader.specs.Lines.{HasNoLineFeed, TakesLine}
 use Rattle.line_reader.proofs.LinesLemmas.{takes_at, takes_last}
-use Rattle.line_reader.specs.Reader.{Cuts, IsLine, EndsOrLine, IsCalm, LeavesSource, SeesEnd, unless_stopped}
+use Rattle.line_reader.specs.Reader.{Cuts, IsLine, unless_stopped}
 use Rattle.line_reader.specs.declared.lines.Line.{Line}
 use Rattle.line_reader.specs.declared.lines.Line.TheVariants.{Text, Long, End, Fault, Limit}
 
@@ -15,20 +15,6 @@ Cuts-line most Long before line text after stopped is long same takes = record {
 Cuts-line most End before line text after stopped is long same takes = absurd is
 Cuts-line most Fault before line text after stopped is long same takes = absurd is
 Cuts-line most Limit before line text after stopped is long same takes = absurd is
-
-pub LeavesSource-calm : (answer : Line) (t u : Bool) (a b : ℕ) → EndsOrLine answer → IsCalm t u a b → LeavesSource answer t u a b
-LeavesSource-calm Text t u a b seen calm = calm
-LeavesSource-calm Long t u a b seen calm = calm
-LeavesSource-calm End t u a b seen calm = calm
-LeavesSource-calm Fault t u a b seen calm = absurd seen
-LeavesSource-calm Limit t u a b seen calm = absurd seen
-
-pub SeesEnd-below : (answer : Line) (taken limit : ℕ) → taken < limit → SeesEnd answer taken limit
-SeesEnd-below Text taken limit below = below
-SeesEnd-below Long taken limit below = below
-SeesEnd-below End taken limit below = below
-SeesEnd-below Fault taken limit below = tt
-SeesEnd-below Limit taken limit below = tt
 
 -- a line that is held with its line feed
 pub Cuts-ended : (most : ℕ) (answer : Line) (before held left shown : List ℕ) (at text_len used : ℕ) (stopped : Option Line) → before ≡ held ++ left → shown ≡ held → IsLineEnd held at → IsLine answer → (answer ≡ Long → most < text_len) → take text_len shown ≡ strip_carriage_return (take at shown) → text_len ≤ at → used ≡ at + 1 → stopped ≡ None → Cuts most answer before (take text_len held) (unless_stopped stopped (drop used held ++ left)) stopped

@@ -4,7 +4,7 @@ use Rattle.std.proofs.lemmas.List.{append-nil, drop_at, take_at}
 use Rattle.std.proofs.lemmas.List.Elements.{All-append, All-same, All-drop, All-take, All-get_or}
 use Rattle.std.proofs.lemmas.Bool.{both_ways}
 use Rattle.std.specs.Str.Lines.{strip_carriage_return}
-use Rattle.line_reader.specs.Lines.{is_line_feed, HasNoLineFeed, TakesLine, PassesNoLineFeed}
+use Rattle.line_reader.specs.Lines.{is_line_feed, HasNoLineFeed, TakesLine}
 use Rattle.line_reader.specs.Intake.{IsLineEnd, IntakeState, LosesNothing}
 use Rattle.line_reader.specs.Reader.{TakesLongLine}
 use Rattle.line_reader.specs.Skip.{SkipsTo}
@@ -66,9 +66,6 @@ skips_all stopped before left holds skips none =
       long = omega (arith, length-strip skips.passed, skips.long);
       takes = subst (λ (b : List ℕ). TakesLine b (strip_carriage_return skips.passed) [] stopped) (sym whole) (takes_last stopped skips.passed holds skips.in_line (omega (arith, skips.long)));
     }
-
-pub skips_in_line : (most : ℕ) (before left : List ℕ) → SkipsTo most before left → PassesNoLineFeed before left
-skips_in_line most before left skips = record { passed = skips.passed; cut = skips.cut; in_line = skips.in_line }
 
 left_from_empty : (old new : IntakeState) (left left' : List ℕ) → old.held ≡ [] → LosesNothing old new left left' → left ≡ new.held ++ left'
 left_from_empty old new left left' empty none_lost = ap (λ (l : List ℕ). l ++ left) (sym empty) ∙ none_lost.bytes

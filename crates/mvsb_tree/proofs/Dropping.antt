@@ -92,6 +92,3 @@ tree_dropped tree node old mid new some found typed rules first there freed =
 pub no_pages : (tree : Tree) (m : PageMap) → tree.levels ≡ 0 → tree_pages m tree ≡ []
 no_pages tree m none =
     ap (λ (l : ℕ). over_versions.pages_below l m tree.root ++ chain_from (if l == 0 then 0 else (node_on m tree.last).place) m tree.last) none
-
-pub empty_dropped : (tree : Tree) (old : PageMap) → tree.levels ≡ 0 → AreDropped (λ m. tree_pages m tree) old old
-empty_dropped tree old none = none_dropped (λ m. tree_pages m tree) old (λ m. no_pages tree m none)

@@ -7,7 +7,7 @@ use Rattle.page_ports.specs.FrameLaws.{names_page-append, Replaces-then}
 use Rattle.page_layout.specs.Footprint.{NamesNoneTwice}
 use Rattle.page_layout.specs.MvNode.{IsMvNode, IsTyped, mv_node_page}
 use Rattle.page_layout.specs.declared.mv_node.MvNode.{MvNode}
-use Rattle.mvsb_tree.specs.Grown.{EntriesHold, Grown, HasGrown, NodesHold, PastStays}
+use Rattle.mvsb_tree.specs.Grown.{EntriesHold, Grown, NodesHold, PastStays}
 use Rattle.mvsb_tree.specs.Stands.{ChainStands}
 use Rattle.mvsb_tree.specs.Steps.{chain_from, node_on}
 use Rattle.mvsb_tree.proofs.Chains.{chain_stands, chain_there, names_first, same_chain, same_node}
@@ -84,27 +84,6 @@ module _ (version : ℕ) (test : ℕ → Bool) (m0 m1 m2 : PageMap) (places0 las
         (g.past p (named_second f.new (chain_from places0 m0 last0) (chain_from places1 m1 last1) p f.chain named));
     replaces = Replaces-then (chain_from places0 m0 last0) (chain_from places1 m1 last1) (chain_from places2 m2 last2) m0 m1 m2 f.replaces g.replaces;
   }
-
-pub grown_twice : (version : ℕ) (m0 m1 m2 : PageMap) (last0 last1 last2 : ℕ) → HasGrown version m0 m1 last0 last1 → HasGrown version m1 m2 last1 last2 → HasGrown version m0 m2 last0 last2
-grown_twice version m0 m1 m2 last0 last1 last2 f g test places s h =
-    let first = f test places s h in
-    let second = g test first.0 first.1.stands first.1.hold in
-    (second.0, grown_then version test m0 m1 m2 places last0 first.0 last1 second.0 last2 first.1 second.1)
-
-pub grown_same : (version : ℕ) (m : PageMap) (last : ℕ) → HasGrown version m m last last
-grown_same version m last test places s h = (
-  places,
-  record {
-    stands = s;
-    hold = h;
-    new = [];
-    chain = refl;
-    once = tt;
-    fresh = λ p named. absurd (true≢false (sym named));
-    past = λ p named. past_same version (node_on m p);
-    replaces = record { others = λ p a b. refl; fresh = λ p a b. absurd (true≢false (sym b ∙ a)); gone = λ p a b. absurd (true≢false (sym a ∙ b)) };
-  },
-)
 
 -- A chain of which one node is changed, and keeps its place.
 

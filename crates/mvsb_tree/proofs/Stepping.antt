@@ -1,14 +1,13 @@
 -- Where a node leads on.
-use Rattle.std.proofs.Common.{◌≡◌, ℕ, ◌<◌, ◌≤◌, ◌==◌, inl, inr, true, false, Bool, IsTrue, nat_lt, List, [], ◌∷◌, Option, Some, None, cond, refl, sym, ap, ◌∙◌, subst, arith}
+use Rattle.std.proofs.Common.{◌≡◌, ℕ, ◌≤◌, ◌==◌, inl, inr, true, false, Bool, IsTrue, nat_lt, List, [], ◌∷◌, Option, Some, None, cond, refl, sym, ap, ◌∙◌, subst, arith}
 use Rattle.std.specs.List.{All}
-use Rattle.std.proofs.lemmas.Bool.{and_parts, cases_Bool, cond-false, eqb-true, leb-true, lt-ltb}
+use Rattle.std.proofs.lemmas.Bool.{and_parts, cases_Bool, cond-false, eqb-true, leb-true}
 use Rattle.std.proofs.lemmas.List.Elements.{All-head, All-tail}
 use Rattle.page_layout.specs.Children.{child_fits}
 use Rattle.page_layout.specs.MvNode.{IsMvNode, mv_keeps}
 use Rattle.page_layout.specs.declared.mv_node.MvNode.{MvNode}
 use Rattle.page_layout.specs.declared.mv_node.MvEntry.{MvEntry}
 use Rattle.mv_pages.specs.Alive.{child_of, or_later, path_child, reaches}
-use Rattle.mvsb_tree.specs.Stands.{ends_after}
 use Rattle.mvsb_tree.proofs.Nodes.{some_same}
 use Rattle.mvsb_tree.proofs.Values.{index_leads}
 
@@ -41,10 +40,6 @@ child_number node key v c rules leads =
   where
     number : (level n : ℕ) → 2 ≤ level → IsTrue (child_fits level n) → 3 ≤ n
     number level n low kept = grind (arith, leb-true)
-
-pub key_inside : (lows_next place_high : Option ℕ) (key : ℕ) → ((n : ℕ) → lows_next ≡ Some n → key < n) → IsTrue (ends_after place_high key) → IsTrue (ends_after (or_later place_high lows_next) key)
-key_inside None high key over before = before
-key_inside (Some n) high key over before = lt-ltb key n (over n refl)
 
 pub same_leads : (node : MvNode) (q key v : ℕ) → path_child node.entries.items q v ≡ path_child node.entries.items key v → child_of node q v ≡ child_of node key v
 same_leads node q key v e = ap (λ (o : Option ℕ). cond (node.level == 1) None o) e

@@ -39,9 +39,3 @@ pub record Grown (version : ℕ) (test : ℕ → Bool) (before after : PageMap) 
   pub fresh : (page : ℕ) → names_page new page ≡ true → before page ≡ None
   pub past : (page : ℕ) → names_page (chain_from places before last) page ≡ true → PastStays version (node_on before page) (node_on after page)
   pub replaces : Replaces (chain_from places before last) (chain_from new_places after new_last) before after
-
--- The chain has grown, where it stood and its nodes held, to some new count of places.
-abbrev pub HasGrown : ℕ → PageMap → PageMap → ℕ → ℕ → Type 0
-HasGrown version before after last new_last =
-    (test : ℕ → Bool) (places : ℕ) → ChainStands places before last → NodesHold version test before (chain_from places before last)
-    → (new_places : ℕ) × Grown version test before after places last new_places new_last

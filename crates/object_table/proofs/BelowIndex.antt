@@ -1,6 +1,6 @@
 -- The entries of an index node after an object was entered below one of them.
 use Rattle.std.proofs.Common.{◌≡◌, ℕ, suc, ◌+◌, ◌<◌, ◌≤◌, inl, inr, List, [], ◌∷◌, ◌++◌, length, take, drop, Option, Some, None, refl, sym, ap, ◌∙◌, subst, arith, append_assoc, length-append, length-drop}
-use Rattle.std.specs.List.{All, flat_map}
+use Rattle.std.specs.List.{All}
 use Rattle.std.proofs.lemmas.List.{take-append-drop, append-nil, length-take-le}
 use Rattle.std.proofs.lemmas.List.Elements.{All-cons, All-nil}
 use Rattle.std.proofs.lemmas.List.Concat.{flat_map-append}
@@ -64,12 +64,6 @@ parts_each : (level : ℕ) (m : PageMap) (at : LifeEntry) (o : Option LifeEntry)
     → EachStands (Child level m) after high → EachStands (Child level m) (at ∷ (second_entries o ++ after)) high
 parts_each level m at None after high s keeps rest = ((s, keeps), rest)
 parts_each level m at (Some second) after high s keeps rest = ((s.0, keeps), ((s.1, s.2), rest))
-
-list_cut : (own : LifeEntry → List ℕ) (before : List LifeEntry) (at : LifeEntry) (after : List LifeEntry) → flat_map own (before ++ (at ∷ after)) ≡ flat_map own before ++ (own at ++ flat_map own after)
-list_cut own before at after = flat_map-append own before (at ∷ after)
-
-above_each : (own : LifeEntry → List Dated) (d : Dated) (low high : ℕ) (ds : List Dated) → All (λ e. low ≤ key e) ds → key d < low → All (λ e. key d < key e) ds
-above_each own d low high ds from less = λ k e h. omega (arith, from k e h, less)
 
 pub entered_below : (level : ℕ) (m0 m1 : PageMap) (page low high least : ℕ) (d : Dated) (before : List LifeEntry) (at : LifeEntry) (after : List LifeEntry) (o : Option LifeEntry)
     → StandsBelow ByLives (suc (suc level)) m0 page low high least → GoesBy (entries_on ByLives m0 page) before at after (key d) → key d < high

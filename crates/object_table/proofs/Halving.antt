@@ -11,7 +11,6 @@ use Rattle.page_layout.specs.Entries.{AreInOrder}
 use Rattle.page_layout.specs.LifeNode.{IsLifeLeaf, IsLifeIndex}
 use Rattle.page_layout.specs.declared.life_node.LifeNode.TheVariants.{Leaf, Index}
 use Rattle.page_layout.specs.declared.life_node.LifeEntry.{LifeEntry}
-use Rattle.object_table.specs.Damage.{HaveNot}
 use Rattle.object_table.specs.Edits.{IsPutIn}
 use Rattle.object_table.specs.Keys.{key, AscendBy}
 use Rattle.object_table.specs.Stored.{AreHalves, leaf_of, index_of}
@@ -101,10 +100,6 @@ put_new xs new shown k dated d same adj bound begun later other made =
     let later1 = subst (λ (l : List Dated). All (λ (e : Dated). key dated < key e) (drop k l)) same later in
     let other1 = subst (λ (l : List Dated). 1 ≤ k → key (get_or l (k - 1) d) ≢ key dated) same other in
     record { before = take k xs; after = drop k xs; was = sym (take-append-drop k xs); is = made; less = all_before xs k (key dated) d a bound1 begun1 other1; more = later1 }
-
-pub has_it : (xs shown : List Dated) (i k : ℕ) (d : Dated) → shown ≡ xs → i < length shown → key (get_or shown i d) ≡ k → HaveNot k xs → ⊥
-has_it xs shown i k d same h here none =
-    none i d (subst (λ (l : List Dated). i < length l) same h) (ap (λ (l : List Dated). key (get_or l i d)) (sym same) ∙ here)
 
 pub named_leaves : (first last : ArrayVec Dated) (xs shown : List Dated) (m0 m1 : PageMap) (page second : ℕ) → shown ≡ xs → first.items ≡ take 7 shown → last.items ≡ take (length shown - 7) (drop 7 shown)
     → AreHalves (Leaf first) (Leaf last) m0 m1 page second → AreHalves (leaf_of (take 7 xs)) (leaf_of (drop 7 xs)) m0 m1 page second

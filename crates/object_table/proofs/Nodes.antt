@@ -1,15 +1,15 @@
 -- What a page that spells a node tells.
-use Rattle.std.proofs.Common.{◌≡◌, ℕ, suc, ◌+◌, ◌*◌, ◌^◌, ◌<◌, ◌≤◌, ◌==◌, ◌&&◌, nat_le, nat_lt, IsTrue, inl, inr, List, [], length, get_or, Option, Some, map, refl, sym, ap, ◌∙◌, subst, arith}
+use Rattle.std.proofs.Common.{◌≡◌, ℕ, suc, ◌+◌, ◌*◌, ◌^◌, ◌<◌, ◌≤◌, ◌==◌, ◌&&◌, nat_lt, IsTrue, inl, inr, List, [], length, get_or, Option, Some, map, refl, sym, ap, ◌∙◌, subst, arith}
 use Rattle.std.specs.List.{All, AllAdjacentBelow}
 use Rattle.std.specs.Option.{option_map_or}
-use Rattle.std.proofs.lemmas.Bool.{or_cases, and_parts, and_from, ltb-true, le-leb, eqb-true}
+use Rattle.std.proofs.lemmas.Bool.{or_cases, and_parts, ltb-true, eqb-true}
 use Rattle.std.proofs.Math.ListN.{get_or-map}
 use Rattle.std.proofs.lemmas.List.{length-map, get_or_default}
 use Rattle.std.proofs.lemmas.List.Elements.{All-nil}
 use Rattle.bw_types.specs.declared.dated.Dated.{Dated}
 use Rattle.arrayvec.specs.ArrayVec.{ArrayVec}
 use Rattle.page_ports.specs.Pages.{PageMap}
-use Rattle.page_layout.specs.Dated.{life_precedes, dated_fits, by_id_fits, by_life_fits}
+use Rattle.page_layout.specs.Dated.{life_precedes}
 use Rattle.page_layout.specs.LifeNodeLaws.{life_node_in-page}
 use Rattle.page_layout.specs.TableNodeLaws.{table_node_in-page}
 use Rattle.page_layout.specs.LifeNode as by_lives
@@ -127,21 +127,6 @@ lives_typed ByIds level node bytes f =
       told_typed : (told : TableNode) → by_ids.IsTyped told → All (λ (d : Dated). d.life < 2 ^ 32) (objects_in (life_node told))
       told_typed (table_node.Leaf objects) typed = λ k d h. (typed k d h).life
       told_typed (table_node.Index l entries) typed = All-nil (λ (d : Dated). d.life < 2 ^ 32)
-
-first_life_fits : (d : Dated) → IsTrue (by_id_fits d) → IsTrue (by_life_fits d)
-first_life_fits d fits =
-    let parts = and_parts (dated_fits d) (d.life == 1) fits in
-    and_from (dated_fits d) (nat_le 1 d.life) parts.0 (le-leb 1 d.life (omega (arith, eqb-true d.life 1 parts.1)))
-
--- In either form, a leaf by lives can spell the objects of a node.
-pub objects_keep : (form : Form) (level : ℕ) (node : LifeNode) (bytes : List ℕ) → FitsLevel form level node bytes → All (λ d. IsTrue (by_life_fits d)) (objects_in node)
-objects_keep ByLives level (Leaf objects) bytes f = f.rules.in_order.each
-objects_keep ByLives level (Index l entries) bytes f = All-nil (λ (d : Dated). IsTrue (by_life_fits d))
-objects_keep ByIds level node bytes f =
-    subst (λ (n : LifeNode). All (λ (d : Dated). IsTrue (by_life_fits d)) (objects_in n)) (sym f.2) (told_keep f.0 f.1.rules) where
-      told_keep : (told : TableNode) → by_ids.IsTableNode told → All (λ (d : Dated). IsTrue (by_life_fits d)) (objects_in (life_node told))
-      told_keep (table_node.Leaf objects) rules = λ k d h. first_life_fits (get_or objects.items k d) (rules.in_order.each k d h)
-      told_keep (table_node.Index l entries) rules = All-nil (λ (d : Dated). IsTrue (by_life_fits d))
 
 -- An index node has a level of at least 2.
 pub index_level : (form : Form) (level : ℕ) (node : LifeNode) (bytes : List ℕ) (l : ℕ) (entries : ArrayVec LifeEntry) → FitsLevel form level node bytes → node ≡ Index l entries → 2 ≤ level

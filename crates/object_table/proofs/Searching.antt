@@ -47,10 +47,6 @@ last_life-none id (d ∷ ds) all =
     ∙ ap (λ (o : Option Dated). option_or o (last_life id (d ∷ []))) (last_life-none id ds (All-tail (λ (d : Dated). (d.object.id == id) ≡ false) d ds all))
     ∙ last_life-other id d (All-head (λ (d : Dated). (d.object.id == id) ≡ false) d ds all)
 
-pub last_life-more : (id : ℕ) (ds : List Dated) (i : ℕ) (e : Dated) → i < length ds
-    → last_life id (take (i + 1) ds) ≡ option_or (last_life id (get_or ds i e ∷ [])) (last_life id (take i ds))
-last_life-more id ds i e h = ap (last_life id) (take_more ds i e h) ∙ last_life-append id (take i ds) (get_or ds i e ∷ [])
-
 pub first_from-append : (least : ℕ) (xs ys : List Dated) → first_from least (xs ++ ys) ≡ option_or (first_from least xs) (first_from least ys)
 first_from-append least xs ys = find-append (λ (d : Dated). nat_le least (key d)) xs ys
 

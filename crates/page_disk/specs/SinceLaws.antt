@@ -1,6 +1,6 @@
 -- The laws of `LeavesOnly`, and of a disk with nothing pending. They are public for the proofs of the crates
 -- above: they speak of any fact about images, which no clause can, and a lemma cites no contract.
-use Rattle.std.specs.Prelude.{◌≡◌, ◌⊎◌, ◌≤◌, List, [], ◌∷◌, length, refl}
+use Rattle.std.specs.Prelude.{◌≡◌, ◌≤◌, List, [], ◌∷◌, length, refl}
 use Rattle.std.proofs.Common.{◌∙◌, ap, inl, inr, arith}
 use Rattle.std.proofs.lemmas.List.{ext_get_or}
 use Rattle.page_disk.specs.Image.{PageList, Image}
@@ -45,15 +45,6 @@ since_now (m ∷ earlier) x left = elim left [
   | inl now ↦ now
   | inr before ↦ let le : clock_of (m ∷ earlier) ≤ clock_of earlier = before.0 in absurd (omega arith)
 ]
-
--- Where nothing is pending, a stretch whose every moment has P leaves only images that are as at its start or have P.
-pub since_start : (P : Image → Type 0) (old new : List Moment) (image : Image) → LeavesNow old image → LeavesOnly P old new
-    → (x : Image) → MayBeLeftSince new (clock_of old) x → (x ≡ image) ⊎ P x
-since_start P old new image only f x left =
-    elim (f.each (clock_of old) x (omega arith) left) [
-      | inl before ↦ inl (only x (since_now old x before))
-      | inr has ↦ inr has
-    ]
 
 pub area_left_settled : (pages x : PageList) → AreaMayBeLeft (area_settled pages) x → x ≡ pages
 area_left_settled pages x h =

@@ -1,11 +1,10 @@
 -- Cuts and their nodes in pre-order.
-use Rattle.std.proofs.Common.{◌≡◌, ◌⊎◌, inl, inr, ℕ, zero, suc, ◌+◌, ◌*◌, ◌<◌, ◌≤◌, ◌-◌, List, [], ◌∷◌, ◌++◌, length, drop, get_or, Bool, true, false, refl, sym, ap, ◌∙◌, subst, append_assoc, append-nil, length-append, arith}
+use Rattle.std.proofs.Common.{◌≡◌, ◌⊎◌, inl, inr, ℕ, zero, suc, ◌+◌, ◌*◌, ◌<◌, ◌-◌, List, [], ◌∷◌, ◌++◌, length, drop, get_or, Bool, true, false, refl, sym, ap, ◌∙◌, subst, append_assoc, append-nil, length-append, arith}
 use Rattle.std.specs.Prelude.{◌&&◌, ◌==◌, nat_le, IsTrue, ◌↔◌, if◌then◌else◌}
 use Rattle.std.specs.List.{All, flat_map}
 use Rattle.std.proofs.Math.Seq.{drop-cons}
 use Rattle.std.proofs.Math.Dec.{eqb-suc-zero}
 use Rattle.std.proofs.lemmas.Bool.{eqb-true, eq-eqb, ne_eqb}
-use Rattle.std.proofs.lemmas.List.{drop_all}
 use Rattle.std.proofs.lemmas.List.Elements.{All-append, All-cons}
 use Rattle.page_layout.specs.declared.cut_node.CutNode.{CutNode}
 use Rattle.page_layout.specs.Cuts.{Cuts, Entry, Cut, entry_count, in_dimensions, entry_node, cut_node, pre_order, SpellCuts, node_fits, fills, join_sides, cuts_from, first_of_all, cuts_in, CutsAreTested, CutsAreRead, CutsHaveOneSpelling, NodesAreCounted}
@@ -181,12 +180,6 @@ fill_cut nodes d (suc places) i total lt some tag h =
     ∙ ap (λ (n : ℕ). fills (suc (suc places)) (drop n nodes)) next
     ∙ ap (λ (b : Bool). if b then fills places rest else fills (suc (suc places)) rest) (sym test)
     ∙ ap (λ (xs : List CutNode). fills (suc places) xs) (sym at) ∙ h
-
--- with no node left, as many places are to be filled as the test says
-pub all_filled : (nodes : List CutNode) (places i : ℕ) (total : Bool) → length nodes ≤ i → fills places (drop i nodes) ≡ total → (places == 0) ≡ total
-all_filled nodes places i total le h =
-    let none : drop i nodes ≡ [] = drop_all i nodes le in
-    at_end places ∙ ap (λ (xs : List CutNode). fills places xs) (sym none) ∙ h
 
 pub wrong_count : (nodes : List CutNode) (count : ℕ) → (length nodes + 1 ≡ 2 * count → ⊥) → IsTrue (length nodes + 1 == 2 * count) ↔ SpellCuts nodes count
 wrong_count nodes count wrong = (

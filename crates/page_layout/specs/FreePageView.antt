@@ -2,11 +2,8 @@
 use Rattle.std.specs.Prelude.{◌≡◌, ℕ, min, List, [], drop}
 use Rattle.std.proofs.Common.{ap, ◌∙◌, append-nil, arith}
 use Rattle.page_layout.specs.Numbers.{spelled, number_in, padded}
-use Rattle.page_layout.specs.Bytes.{AreBytes, bytes-drop}
 use Rattle.page_layout.specs.Entries.{entries_at}
 use Rattle.page_layout.specs.Counted.{front, counted_page, body_of, entries_of}
-use Rattle.page_layout.specs.Respelled.{number_in-lt}
-use Rattle.page_layout.specs.FreePage.{IsTyped, free_page_in}
 
 no_entries : (page : List ℕ) → entries_of (number_in 8) 8 0 page ≡ []
 unfolding entries_at
@@ -20,6 +17,3 @@ pub front_alone : (kind level word double : ℕ) (page : List ℕ)
 front_alone kind level word double page =
     ap (λ (xs : List ℕ). counted_page (spelled 8) kind level word double xs) (no_entries page)
     ∙ ap padded (append-nil (front kind level 0 word double))
-
-pub free_page_in-typed : (page : List ℕ) → AreBytes page → IsTyped (free_page_in page)
-free_page_in-typed page h = number_in-lt 8 (drop 8 page) (bytes-drop 8 page h)

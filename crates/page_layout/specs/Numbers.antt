@@ -1,8 +1,7 @@
 -- Numbers as bytes, the highest first, and fronts of pages filled up with zeros.
-use Rattle.std.specs.Prelude.{◌≡◌, ℕ, ◌-◌, ◌+◌, ◌<◌, ◌^◌, List, ◌++◌, length, drop, replicate, refl}
+use Rattle.std.specs.Prelude.{◌≡◌, ℕ, ◌-◌, ◌+◌, ◌<◌, ◌^◌, List, ◌++◌, length, drop, replicate}
 use Rattle.std.proofs.Common.{ap, sym, ◌∙◌}
 use Rattle.std.proofs.lemmas.List.{drop_at, drop-drop, drop-replicate, length-replicate}
-use Rattle.page_ports.specs.Pages.{blank_bytes}
 use Rattle.byteorder.specs.Endian.{big_bytes, big_number}
 use Rattle.byteorder.specs.Numbers.{length-bytes_high_first, big_number-reads_back}
 
@@ -60,7 +59,3 @@ length-zeros n = length-replicate n 0
 pub drop-zeros : (m n : ℕ) → drop m (zeros n) ≡ zeros (n - m)
 unfolding zeros
 drop-zeros m n = drop-replicate m n 0
-
-pub blank-zeros : blank_bytes ≡ zeros 4096
-unfolding zeros blank_bytes
-blank-zeros = refl

@@ -1,7 +1,7 @@
 -- The laws of `Replaces`: changes compose, stand beside one another, and leave apart pages alone.
 use Rattle.std.specs.Prelude.{◌≡◌, ℕ, ◌==◌, true, false, ◌||◌, List, [], ◌∷◌, ◌++◌, Some, None, Option, IsSome, refl}
-use Rattle.std.proofs.Common.{sym, ◌∙◌, subst, inl, inr, ◌⊎◌}
-use Rattle.std.proofs.lemmas.Bool.{cases_Bool, or_cases, or_parts, eqb-true, cond_both}
+use Rattle.std.proofs.Common.{sym, ◌∙◌, inl, inr, ◌⊎◌}
+use Rattle.std.proofs.lemmas.Bool.{cases_Bool, or_cases, or_parts}
 use Rattle.page_ports.specs.Pages.{PageMap, put_page, remove_page}
 use Rattle.page_ports.specs.Frame.{names_page, AreApart, AreInMap, AgreeOn, Replaces, KeepsPages}
 
@@ -104,14 +104,6 @@ one_named page p h = elim (or_cases (page == p) false h) [ inl named ↦ named |
 none_named : (page p : ℕ) → names_page (page ∷ []) p ≡ false → (page == p) ≡ false
 none_named page p h = (or_parts (page == p) false h).0
 
--- The changes that one call makes.
-pub Replaces-allot : (map : PageMap) (page : ℕ) (bytes : List ℕ) → map page ≡ None → Replaces [] (page ∷ []) map (put_page map page bytes)
-Replaces-allot map page bytes none = record {
-  others = λ p a b. let other = none_named page p b in rw other refl;
-  fresh = λ p a b. subst (λ q. map q ≡ None) (eqb-true page p (one_named page p b)) none;
-  gone = λ p a b. cc;
-}
-
 pub Replaces-put : (map : PageMap) (page : ℕ) (bytes : List ℕ) → Replaces (page ∷ []) (page ∷ []) map (put_page map page bytes)
 Replaces-put map page bytes = record {
   others = λ p a b. let other = none_named page p b in rw other refl;
@@ -126,11 +118,5 @@ Replaces-free map page = record {
   gone = λ p a b. let named = one_named page p a in rw named refl;
 }
 
-pub KeepsPages-same : (map : PageMap) → KeepsPages map map
-KeepsPages-same map = λ page h. h
-
 pub KeepsPages-then : (first second third : PageMap) → KeepsPages first second → KeepsPages second third → KeepsPages first third
 KeepsPages-then first second third f g = λ page h. g page (f page h)
-
-pub KeepsPages-put : (map : PageMap) (page : ℕ) (bytes : List ℕ) → KeepsPages map (put_page map page bytes)
-KeepsPages-put map page bytes = λ p h. cond_both (page == p) (Some bytes) (map p) (λ o. IsSome o) (λ e. refl) (λ e. h)

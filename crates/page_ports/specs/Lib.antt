@@ -1,6 +1,5 @@
 pub mod Calls
 pub mod Chain
-pub mod ChainLaws
 pub mod Faults
 pub mod Frame
 pub mod FrameLaws

@@ -1,12 +1,12 @@
 -- What a change of the bytes makes of the chain of free pages.
 use Rattle.std.specs.Prelude.{◌≡◌, ◌≢◌, ℕ, ◌<◌, ◌≤◌, ◌==◌, true, false, List, [], ◌∷◌, slice_index, refl}
 use Rattle.std.proofs.Common.{sym, ◌∙◌, ap, subst, inl, inr, arith}
-use Rattle.std.proofs.lemmas.Bool.{both_ways, or_cases, or_left, or_right, eqb-true, eq-eqb, false_from_ne_true}
+use Rattle.std.proofs.lemmas.Bool.{both_ways, or_cases, or_left, or_right, eqb-true, eq-eqb}
 use Rattle.page_ports.specs.Frame.{names_page}
 use Rattle.page_layout.specs.Footprint.{NamesNoneTwice}
 use Rattle.page_layout.specs.declared.free_page.FreePage.{FreePage}
 use Rattle.page_space.specs.Bytes.{PageBytes, bytes_with}
-use Rattle.page_space.specs.InUseLaws.{bytes_at, bytes_beside}
+use Rattle.page_space.specs.InUseLaws.{bytes_beside}
 use Rattle.page_space.specs.Chain.{SpellsFree, LeadsOn, IsChain, FreeInOrder}
 
 pub free_kind : (bytes : List ℕ) (free : FreePage) → SpellsFree bytes free → slice_index bytes 0 ≡ 9
@@ -77,31 +77,3 @@ order_taken b image m first some h =
         },
       ),
     )
-
--- A page that does not lead on yet is put before the chain.
-pub order_given : (b : PageBytes) (page : ℕ) (image : List ℕ) (m : ℕ) (free : FreePage) → 3 ≤ page → page < m → SpellsFree image free
-    → ((f : FreePage) → LeadsOn b m page f → ⊥) → FreeInOrder b m free.next → FreeInOrder (bytes_with b page image) m page
-order_given b page image m free low high spells apart h =
-    let unnamed : names_page h.chain page ≡ false = false_from_ne_true _
-    (λ named. let l = chain_leads b m free.next h.chain page h.leads named in apart l.0 l.1) in
-    let kept : IsChain (bytes_with b page image) m free.next h.chain =
-    chain_kept b (bytes_with b page image) m m free.next h.chain (omega arith)
-    (λ p named. bytes_beside b page image p (λ e. both_ways _ unnamed (subst (λ q. names_page h.chain q ≡ true) (sym e) named))) h.leads in
-    record {
-      chain = page ∷ h.chain;
-      leads = (
-        refl,
-        (
-          free,
-          (
-            record {
-              low = low;
-              high = high;
-              is_free = record { rules = spells.rules; typed = spells.typed; spelled = bytes_at b page image ∙ spells.spelled };
-            },
-            kept,
-          ),
-        ),
-      );
-      once = (unnamed, h.once);
-    }

@@ -1,5 +1,5 @@
 -- The powers of a box's ends at its corners.
-use Rattle.std.proofs.Common.{◌≡◌, ℕ, zero, suc, ◌<◌, ◌≤◌, true, false, List, [], ◌∷◌, slice_index, slice_index_or, refl, sym, ap, ◌∙◌, arith}
+use Rattle.std.proofs.Common.{◌≡◌, ℕ, zero, suc, ◌<◌, ◌≤◌, true, false, [], ◌∷◌, slice_index, slice_index_or, refl, sym, ap, ◌∙◌, arith}
 use Rattle.bw_types.specs.Fits.{coordinate}
 use Rattle.bw_types.specs.Residues.{residue}
 use Rattle.bw_types.specs.declared.object.Object.{Object}
@@ -16,13 +16,6 @@ three P a b c p q r zero h = p
 three P a b c p q r (suc zero) h = q
 three P a b c p q r (suc (suc zero)) h = r
 three P a b c p q r (suc (suc (suc i))) h = absurd (omega arith)
-
--- one of three lists
-pub three_lists : (P : ℕ → List ℕ → Type 0) (a b c : List ℕ) → P 0 a → P 1 b → P 2 c → (i : ℕ) → i < 3 → P i (slice_index_or (a ∷ b ∷ c ∷ []) i [])
-three_lists P a b c p q r zero h = p
-three_lists P a b c p q r (suc zero) h = q
-three_lists P a b c p q r (suc (suc zero)) h = r
-three_lists P a b c p q r (suc (suc (suc i))) h = absurd (omega arith)
 
 -- a corner's coordinate is an end's
 corner_is : (o : Object) (subset i : ℕ) → i < 3 → slice_index (object_corner o subset) i ≡ object_end o subset i

@@ -45,9 +45,6 @@ coefficient-constant e f c h = rw h refl
 pub coefficient-highest : (e f : ℕ) (c : ℤ) → f ≡ e + 1 → coefficient e f c ≡ pos (6 / (e + 1))
 coefficient-highest e f c h = let ne : f ≡ 0 → ⊥ = λ z. omega arith in rw (ne_eqb f 0 ne, eq-eqb f (e + 1) h) refl
 
-pub coefficient-other : (e f : ℕ) (c : ℤ) → (f ≡ 0 → ⊥) → (f ≡ e + 1 → ⊥) → coefficient e f c ≡ pos 0
-coefficient-other e f c low high = rw (ne_eqb f 0 low, ne_eqb f (e + 1) high) refl
-
 pub constant_is : (e f : ℕ) (c : ℤ) (at_corner result : ℕ) → f ≡ 0 → at_corner ≡ residue (primitive e c) → result ≡ opposite_residue at_corner
     → result ≡ residue (coefficient e f c)
 constant_is e f c at_corner result low is_there now =

@@ -11,10 +11,6 @@ writes_front written written' text h = record { out = take h.0 text; rest = drop
 pub nothing_more : (written written' : List ℕ) → written' ≡ written → WritesMore written written'
 nothing_more written written' e = record { more = []; wrote = e ∙ sym (append-nil written) }
 
--- a text was written
-pub text_more : (written written' text : List ℕ) → written' ≡ written ++ text → WritesMore written written'
-text_more written written' text e = record { more = text; wrote = e }
-
 pub more_twice : (a b c : List ℕ) → WritesMore a b → WritesMore b c → WritesMore a c
 more_twice a b c f g = record {
   more = f.more ++ g.more;

@@ -1,15 +1,12 @@
 -- The rows of a batch in turn.
-use Rattle.std.proofs.Common.{◌≡◌, ℕ, suc, ◌+◌, ◌^◌, ◌<◌, ◌≤◌, min, Bool, true, false, List, [], ◌∷◌, ◌++◌, length, get_or, take, drop, if◌then◌else◌, Option, Some, None, refl, sym, ◌∙◌, ap, subst, inl, inr, add-one, arith, length-append, pos}
-use Rattle.std.specs.List.{list_all}
+use Rattle.std.proofs.Common.{◌≡◌, ℕ, suc, ◌+◌, ◌^◌, ◌<◌, ◌≤◌, List, [], ◌∷◌, ◌++◌, length, get_or, take, drop, if◌then◌else◌, Option, Some, None, sym, ◌∙◌, ap, subst, add-one, arith, pos}
 use Rattle.std.specs.Option.{option_or, option_map}
 use Rattle.std.proofs.Math.Seq.{drop-cons}
-use Rattle.std.proofs.lemmas.Bool.{cases_Bool}
 use Rattle.std.proofs.lemmas.Grind.{flat_map-append}
-use Rattle.std.proofs.lemmas.List.{get_or_default, take_more, append-nil, drop_all}
-use Rattle.std.proofs.lemmas.List.Folds.{list_all_at}
+use Rattle.std.proofs.lemmas.List.{get_or_default, take_more, append-nil}
 use Rattle.std.proofs.lemmas.List.Sums.{sum_by-append}
 use Rattle.bw_types.specs.History.{flat, flat_row}
-use Rattle.bw_types.specs.Refusals.{added_mass, is_live, was_added, total_mass, row_refusal, first_refused_row, refused_at}
+use Rattle.bw_types.specs.Refusals.{added_mass, total_mass, row_refusal, first_refused_row, refused_at}
 use Rattle.bw_types.specs.declared.params.Params.{Params}
 use Rattle.bw_types.specs.declared.change.Change.{Change}
 use Rattle.bw_types.specs.declared.row.Row.{Row}
@@ -18,19 +15,10 @@ use Rattle.bw_types.specs.declared.refusal.Reason.{Reason}
 use Rattle.session_book.specs.declared.seen.Life.{Life}
 use Rattle.session_book.specs.declared.seen.Life.TheVariants as life
 use Rattle.session_book.specs.declared.batch.Batch.{Batch}
-use Rattle.session_book.specs.Standing.{standing_of, standing_after, standing_by, standing_in_past}
+use Rattle.session_book.specs.Standing.{standing_after, standing_by}
 use Rattle.session_book.specs.declared.standing.Standing.{Standing}
 use Rattle.session_book.specs.Batch.{row_id, own, IsAfter}
 use Rattle.session_book.proofs.Judged.{IsJudged}
-use Rattle.session_book.specs.Told.{TellsLives}
-
--- what holds of each holds of one
-pub list_all-one : {X : Type 0} (p : X → Bool) (xs : List X) (i : ℕ) (d : X) → i < length xs → list_all p xs ≡ true → p (get_or xs i d) ≡ true
-list_all-one p xs i d within all =
-    elim (cases_Bool (p (get_or xs i d))) [
-      | inl passes ↦ passes
-      | inr fails ↦ let none : list_all p xs ≡ false = list_all_at p xs i d within fails in let clash : true ≡ false = sym all ∙ none in cc
-    ]
 
 -- one row more
 pub flat-more : (rows : List Row) (i : ℕ) (d : Row) → i < length rows → flat (take (i + 1) rows) ≡ flat (take i rows) ++ flat_row (get_or rows i d)
@@ -47,13 +35,6 @@ mass-more params rows i row d before now next within at so_far is =
     ∙ ap (λ r. total_mass params (flat (take i rows)) + total_mass params (flat_row r)) (sym at) in
     omega arith
 
-pub flat_len-more : (rows : List Row) (i : ℕ) (row : Row) (len part next cap : ℕ) → i < length rows → row ≡ get_or rows i row → len ≡ min (length (flat (take i rows))) cap → part ≡ length (flat_row row) → next ≡ min (len + part) cap → next ≡ min (length (flat (take (i + 1) rows))) cap
-flat_len-more rows i row len part next cap within at so_far is now =
-    let longer : length (flat (take (i + 1) rows)) ≡ length (flat (take i rows)) + length (flat_row row) =
-    ap length (flat-more rows i row within) ∙ length-append (flat (take i rows)) (flat_row (get_or rows i row))
-    ∙ ap (λ r. length (flat (take i rows)) + length (flat_row r)) (sym at) in
-    omega arith
-
 -- a row is at least one change
 pub length-flat : (rows : List Row) → length rows ≤ length (flat rows)
 length-flat [] = omega arith
@@ -61,30 +42,10 @@ length-flat (row.Add o ∷ rows) = omega (arith, length-flat rows)
 length-flat (row.Withdraw id ∷ rows) = omega (arith, length-flat rows)
 length-flat (row.Move o ∷ rows) = omega (arith, length-flat rows)
 
--- before the first row
-standing_by_life : (live added : Bool) → standing_of live false added ≡ standing_in_past (if live then life.Live else (if added then life.Withdrawn else life.Never))
-standing_by_life true true = refl
-standing_by_life true false = refl
-standing_by_life false true = refl
-standing_by_life false false = refl
-
-pub IsAfter-nothing : (params : Params) (told : ℕ → Life) (past : List Change) (mass : ℕ) (batch : Batch) → TellsLives told past → mass ≡ total_mass params past → ((id : ℕ) → own batch id ≡ None) → batch.mass ≡ mass → IsAfter params told past [] batch
-IsAfter-nothing params told past mass batch lives total empty is = record {
-  standings = λ id fits.
-      rw (append-nil past)
-      (standing_by_life (is_live id past) (was_added id past)
-      ∙ ap standing_in_past (sym (lives id fits))
-      ∙ ap (λ mark. standing_by mark (told id)) (sym (empty id)));
-  total = is ∙ total ∙ ap (total_mass params) (sym (append-nil past));
-}
-
 -- the first i rows are accepted, and the batch is what is kept of them
 pub record IsSoFar (params : Params) (told : ℕ → Life) (past : List Change) (rows : List Row) (i : ℕ) (batch : Batch) : Type 0 where
   pub after : IsAfter params told past (flat (take i rows)) batch
   pub rest : first_refused_row params past [] 1 rows ≡ first_refused_row params past (flat (take i rows)) (i + 1) (drop i rows)
-
-pub IsSoFar-none : (params : Params) (told : ℕ → Life) (past : List Change) (rows : List Row) (batch : Batch) → IsAfter params told past [] batch → IsSoFar params told past rows 0 batch
-IsSoFar-none params told past rows batch after = record { after = after; rest = refl }
 
 front : (rows : List Row) (i : ℕ) (row : Row) → i < length rows → row ≡ get_or rows i row → drop i rows ≡ row ∷ drop (i + 1) rows
 front rows i row within at = drop-cons rows i row within ∙ rw (add-one i) (ap (λ r. r ∷ drop (suc i) rows) (sym at))
@@ -105,10 +66,6 @@ pub first_refused_row-at : (params : Params) (told : ℕ → Life) (past : List 
 first_refused_row-at params told past rows i row batch why within at so_far refused =
     so_far.rest ∙ ap (λ rs. first_refused_row params past (flat (take i rows)) (i + 1) rs) (front rows i row within at)
     ∙ ap (λ why. option_or (option_map (refused_at (i + 1)) why) (first_refused_row params past (flat (take i rows) ++ flat_row row) (i + 1 + 1) (drop (i + 1) rows))) (sym refused)
-
-pub first_refused_row-none : (params : Params) (told : ℕ → Life) (past : List Change) (rows : List Row) (i : ℕ) (batch : Batch) → length rows ≤ i → IsSoFar params told past rows i batch → first_refused_row params past [] 1 rows ≡ None
-first_refused_row-none params told past rows i batch all so_far =
-    so_far.rest ∙ ap (λ rs. first_refused_row params past (flat (take i rows)) (i + 1) rs) (drop_all i rows all)
 
 -- one row: how its id stands, and what `judge` made of it
 module _ (params : Params) (told now : ℕ → Life) (past : List Change) (rows : List Row) (i : ℕ) (d : Row) (old new : Batch) (id : ℕ) (standing : Standing) (why : Option Reason)
