@@ -14,7 +14,7 @@ use Rattle.mvsb_tree.specs.Changed.{CutFits, IsAbove, IsFrom, LowsPut, ReplacedF
 use Rattle.mvsb_tree.specs.Grown.{EntriesHold, NodesHold, PastStays}
 use Rattle.mvsb_tree.specs.Stands.{ChainStands, NodeStands, ends_after, inner_high, inner_low}
 use Rattle.mvsb_tree.specs.Steps.{chain_from, node_on, total_below}
-use Rattle.mvsb_tree.specs.Stored.{AreTwoStored, IsFirstStored, IsNext, IsStorable, IsStored, all_start_at}
+use Rattle.mvsb_tree.specs.Stored.{IsFirstStored, IsStorable, IsStored, all_start_at}
 use Rattle.mvsb_tree.specs.Ways.{IsAdded, IsKeyIn, LowsCut, NodeWays, PartsStand, WaysStand, added_at, way_pages}
 use Rattle.mvsb_tree.proofs.Adding.{index_ways, leaf_ways}
 use Rattle.mvsb_tree.proofs.Descending as descending

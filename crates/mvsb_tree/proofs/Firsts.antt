@@ -2,7 +2,7 @@
 use Rattle.std.proofs.Common.{◌≡◌, ◌≢◌, ℕ, ◌+◌, ◌%◌, ◌^◌, ◌<◌, ◌≤◌, ◌==◌, ◌||◌, ◌&&◌, inl, inr, true, false, Bool, IsTrue, nat_le, nat_lt, List, [], ◌∷◌, Some, None, cond, refl, sym, ap, ◌∙◌, subst, arith}
 use Rattle.std.specs.List.{All}
 use Rattle.std.proofs.Math.Bool.{and-true}
-use Rattle.std.proofs.lemmas.Bool.{and_from, cases_Bool, cond-false, eqb-true, le-leb, le-ltb, lt-ltb, ltb-false, ltb-true, or_right, ne_eqb}
+use Rattle.std.proofs.lemmas.Bool.{and_from, cases_Bool, cond-false, le-leb, lt-ltb, ltb-false, ltb-true, or_right, ne_eqb}
 use Rattle.std.proofs.lemmas.List.Elements.{All-cons, All-nil}
 use Rattle.std.proofs.lemmas.List.Sums.{sum_by-cons}
 use Rattle.page_ports.specs.Pages.{PageMap}

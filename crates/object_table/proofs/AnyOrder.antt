@@ -1,10 +1,8 @@
 -- A table's objects listed in another order, as a history tells them.
-use Rattle.std.proofs.Common.{◌≡◌, ◌≢◌, ℕ, zero, suc, ◌<◌, ◌≤◌, ◌==◌, ◌^◌, if◌then◌else◌, inl, inr, false, List, [], ◌∷◌, get_or, length, map, Option, Some, None, refl, sym, ap, ◌∙◌, subst, arith}
+use Rattle.std.proofs.Common.{◌≡◌, ◌≢◌, ℕ, zero, suc, ◌<◌, ◌≤◌, ◌==◌, ◌^◌, if◌then◌else◌, false, List, [], ◌∷◌, get_or, length, map, Option, Some, None, refl, sym, ap, ◌∙◌, subst, arith}
 use Rattle.std.specs.List.{All}
 use Rattle.std.specs.List.Sorted.{IsPermutation}
 use Rattle.std.specs.Option.{option_map_or}
-use Rattle.std.proofs.lemmas.Bool.{ne_eqb}
-use Rattle.std.proofs.lemmas.List.Elements.{All-cons, All-nil}
 use Rattle.std.proofs.lemmas.List.Sorted.{All-permutation, IsPermutation-sym, IsPermutation-map}
 use Rattle.bw_types.specs.declared.dated.Dated.{Dated}
 use Rattle.bw_types.specs.declared.tree.Tree.{Tree}
@@ -17,7 +15,6 @@ use Rattle.object_table.specs.Edits.{withdrawn_at, with_withdrawal}
 use Rattle.object_table.specs.Stands.{TableStands}
 use Rattle.object_table.proofs.LastAfter.{table_asc, table_typed, last_is_greatest, no_last_no_life}
 use Rattle.object_table.proofs.LastOnes.{found_in}
-use Rattle.object_table.proofs.Searching.{All-head, All-tail, last_life-none}
 
 -- in a list that ascends one key is of one object
 one_key : (lives : List Dated) (b : Dated) (i : ℕ) (d : Dated) → AscendBy key lives → i < length lives → key (get_or lives i d) ≡ key b
