@@ -11,11 +11,13 @@ use std::rt::Files;
 /// A file that is opened, and made where absent, at the first call.
 #[derive(Drop)]
 pub(crate) struct AreaFile<R: Files> {
+    /// Its name in the working folder.
     pub name: &'static str,
+    /// The file, once it is opened.
     pub file: Option<R::File>,
-    // How many whole pages the file has, if that is known.
+    /// How many whole pages the file has, if that is known.
     pub len: Option<u64>,
-    // Whether writes may be pending: since the last sync, or of a program that stopped before.
+    /// Whether writes may be pending: since the last sync, or of a program that stopped before.
     pub pending: bool,
 }
 

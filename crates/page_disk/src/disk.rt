@@ -10,7 +10,9 @@ use page_ports::Page;
 /// The two areas of a disk.
 #[derive(Clone, Copy, Debug, PartialEq, Eq)]
 pub enum Area {
+    /// The pages themselves, each under its number.
     Pages,
+    /// New images of pages on their way home, so that a change that was cut off can be finished.
     Journal,
 }
 

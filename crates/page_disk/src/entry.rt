@@ -6,7 +6,9 @@ use page_ports::Page;
 pub(crate) enum Entry {
     /// Nothing: the moment was the other area's.
     Still,
+    /// A sync that succeeded.
     Synced,
+    /// A page more at the end.
     Appended,
     /// This page was written over, which held these bytes.
     Overwrote(u64, Box<Page>),

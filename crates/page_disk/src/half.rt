@@ -15,7 +15,9 @@ use std::alloc::Global;
 /// The pages of an area, and one entry for each moment of the disk but the first.
 #[derive(Drop)]
 pub(crate) struct Half {
+    /// The pages, the page 0 first.
     pub pages: Vec<Page>,
+    /// What each moment did, the oldest first.
     pub log: Vec<Entry>,
     ghost whole: { AreWhole pages.items },
 }
@@ -59,6 +61,7 @@ impl Half {
         let _ = self.log.pop();
     }
 
+    /// A sync, before which nothing is to be undone.
     pub fn sync(&mut self) -> Result<(), Failed>
         ensures pages { self.new.pages ≡ self.old.pages }
         ensures log { OnOk result (take (length self.new.log.items - 1) self.new.log.items ≡ self.old.log.items) }

@@ -1,7 +1,8 @@
 //! A disk in memory that tells its image and its counts, and keeps no record.
-ghost use Rattle.std.specs.Prelude.{◌≡◌, ◌≤◌, [], length, true, OnOk, OnErr};
-ghost use Rattle.counts.specs.Count.{Rose};
-ghost use Rattle.page_disk.specs.Image.{Image, area_of, written_at};
+ghost use Rattle.std.specs.Prelude.{◌≡◌, ◌≤◌, ◌+◌, ◌-◌, ◌^◌, ◌==◌, [], length, min, true, false, Ok, IfOk, OnOk, OnErr, is_err};
+ghost use Rattle.counts.specs.Count.{CountsFault, Rose};
+ghost use Rattle.page_disk.specs.Disk.{IsRead};
+ghost use Rattle.page_disk.specs.Image.{Image, area_of, with_area, written_at};
 
 use crate::{Area, Disk, Failed};
 use counts::raised;
@@ -82,7 +83,7 @@ impl PlainDisk {
 }
 
 impl Disk for PlainDisk {
-    ghost use Rattle.page_disk.specs.PlainDisk.{image_of};
+    ghost use Rattle.page_disk.specs.PlainDisk.{image_of, read_count, fault_count};
 
     ghost tells = { λ _. true };
 
@@ -96,11 +97,22 @@ impl Disk for PlainDisk {
 
     ghost tells_image = { λ _. tt };
 
-    fn len(&mut self, area: Area) -> Result<u64, Failed> {
+    fn len(&mut self, area: Area) -> Result<u64, Failed>
+        ensures answers { result ≡ Ok (length (area_of area (image_of self.old))) }
+        ensures stays { self.new ≡ self.old }
+    {
         Ok(self.area(area).len() as u64)
     }
 
-    fn read(&mut self, area: Area, page: u64, buf: &mut Page) -> Result<bool, Failed> {
+    fn read(&mut self, area: Area, page: u64, buf: &mut Page) -> Result<bool, Failed>
+        ensures fails { is_err result ≡ (read_count self.old == 2 ^ 64 - 1) }
+        ensures ok { IfOk result (λ found. IsRead (area_of area (image_of self.old)) page found buf.new) }
+        ensures absent { result ≡ Ok false → buf.new ≡ buf.old }
+        ensures faults { CountsFault result (fault_count self.old) (fault_count self.new) }
+        ensures reads { read_count self.new ≡ min (read_count self.old + 1) (2 ^ 64 - 1) }
+        ensures reads_stay_or_rise { read_count self.old ≤ read_count self.new }
+        ensures image { image_of self.new ≡ image_of self.old }
+    {
         if self.reads == u64::MAX {
             return Err(self.failed());
         }
@@ -114,7 +126,15 @@ impl Disk for PlainDisk {
         }
     }
 
-    fn write(&mut self, area: Area, page: u64, buf: &Page) -> Result<(), Failed> {
+    // A write that fails, for want of memory alone, leaves the pages as before.
+    fn write(&mut self, area: Area, page: u64, buf: &Page) -> Result<(), Failed>
+        requires { page ≤ length (area_of area (image_of self.old)) }
+        ensures ok { OnOk result (image_of self.new
+            ≡ with_area area (written_at (area_of area (image_of self.old)) page buf.now) (image_of self.old)) }
+        ensures err { OnErr result (image_of self.new ≡ image_of self.old) }
+        ensures faults { CountsFault result (fault_count self.old) (fault_count self.new) }
+        ensures reads { read_count self.new ≡ read_count self.old }
+    {
         let answer = match area {
             Area::Pages => write_page(&mut self.pages, page, buf),
             Area::Journal => write_page(&mut self.journal, page, buf),
@@ -125,7 +145,10 @@ impl Disk for PlainDisk {
         }
     }
 
-    fn sync(&mut self) -> Result<(), Failed> {
+    fn sync(&mut self) -> Result<(), Failed>
+        ensures answers { result ≡ Ok record {} }
+        ensures stays { self.new ≡ self.old }
+    {
         Ok(())
     }
 }

@@ -8,9 +8,13 @@ use std::alloc::Global;
 /// The calls of some numbers fail, and all after the last. Both count from 1, after so many calls.
 #[derive(Drop)]
 pub(crate) struct Plan {
+    /// The numbers of the calls that fail.
     pub failing: Vec<u64>,
+    /// How many calls came before the first that these numbers count.
     pub failing_from: u64,
+    /// The number of the last call that may succeed.
     pub last: Option<u64>,
+    /// How many calls came before the first that this number counts.
     pub last_from: u64,
 }
 
