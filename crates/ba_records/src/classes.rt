@@ -1,3 +1,4 @@
+//! The class of a point beside a region.
 ghost use Rattle.std.specs.Prelude.{◌≡◌, ◌<◌, ◌≤◌, ℕ, length};
 ghost use Rattle.bw_types.specs.declared.class.Class.{Class};
 ghost use Rattle.bw_types.specs.Classes.{class_of, keys_before, first_below as first_key_below};

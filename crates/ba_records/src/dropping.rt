@@ -1,3 +1,4 @@
+//! Keys and points without one dimension.
 ghost use Rattle.std.specs.Prelude.{◌≡◌, ◌<◌};
 ghost use Rattle.bw_types.specs.Classes.{keys_without, without_dimension};
 
