@@ -11,7 +11,7 @@ use Rattle.lru.specs.LruCache.{LruCache, lru_cache, promoted, put_entries}
 use Rattle.lru.proofs.CallerLemmas.{Contains-lookup_entry}
 use Rattle.page_ports.specs.Frame.{names_page}
 use Rattle.page_ports.specs.Pages.{PageMap}
-use Rattle.page_cache.specs.Cache.{KeepsAtMost, KeepsAtMostAlso, renewed}
+use Rattle.page_cache.specs.Cache.{KeepsAtMost, KeepsNoOther, renewed}
 
 -- the room of a page
 abbrev pub Room : Type 0
@@ -53,7 +53,7 @@ kept-promoted k p es = grind (arith, nat_tests, at-moved, at-entry)
 -- after a put, which may have found no memory
 pub kept-put : {T E : Type 0} (r : Result T E) (before old new : LruCache ℕ Room) (k : ℕ) (v : Room) (bytes : List ℕ) → old ≡ before → box_value v ≡ bytes
     → OnOk r (new ≡ lru_cache (put_entries nat_eq old k v) old.cap) → OnErr r (new ≡ old)
-    → KeepsAtMostAlso (kept before.entries) (kept new.entries) k bytes
+    → KeepsNoOther (kept before.entries) (kept new.entries) k bytes
 kept-put (Ok t) before old new k v bytes was same put err p b h = grind (arith, nat_tests, at-moved, at-take (old.cap - 1) p old.entries)
 kept-put (Err e) before old new k v bytes was same ok stays p b h = grind arith
 

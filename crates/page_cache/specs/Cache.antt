@@ -28,8 +28,8 @@ abbrev pub Agrees : PageMap → PageList → Type 0
 Agrees kept area = (page : ℕ) (bytes : List ℕ) → kept page ≡ Some bytes → (page < length area) × (page_at area page ≡ bytes)
 
 -- Each page that is kept was kept before with the same bytes, or is this one with these.
-abbrev pub KeepsAtMostAlso : PageMap → PageMap → ℕ → List ℕ → Type 0
-KeepsAtMostAlso old new page bytes = (p : ℕ) (b : List ℕ) → new p ≡ Some b → (old p ≡ Some b) ⊎ ((p ≡ page) × (b ≡ bytes))
+abbrev pub KeepsNoOther : PageMap → PageMap → ℕ → List ℕ → Type 0
+KeepsNoOther old new page bytes = (p : ℕ) (b : List ℕ) → new p ≡ Some b → (old p ≡ Some b) ⊎ ((p ≡ page) × (b ≡ bytes))
 
 -- the same pages, this one with these bytes where it is kept
 abbrev pub renewed : PageMap → ℕ → List ℕ → PageMap

@@ -3,7 +3,7 @@ ghost use Rattle.std.specs.Prelude.{◌≡◌, ◌≢◌, ◌⊎◌, ◌+◌, �
 ghost use Rattle.std.specs.Box.{box_value};
 ghost use Rattle.page_disk.specs.Calls.{OnlyReads};
 ghost use Rattle.page_disk.specs.Image.{PageList, page_at, written_at};
-ghost use Rattle.page_cache.specs.Cache.{Agrees, KeepsAtMost, KeepsAtMostAlso, capacity, is_disk, kept_pages, renewed};
+ghost use Rattle.page_cache.specs.Cache.{Agrees, KeepsAtMost, KeepsNoOther, capacity, is_disk, kept_pages, renewed};
 
 use lru::LruCache;
 use page_disk::{Area, Disk};
@@ -77,7 +77,7 @@ impl Cache {
 
     // Keeps the page where there is memory for it.
     fn keep(&mut self, page: u64, buf: &Page)
-        ensures also { KeepsAtMostAlso (kept_pages self.old) (kept_pages self.new) page buf.now }
+        ensures also { KeepsNoOther (kept_pages self.old) (kept_pages self.new) page buf.now }
         ensures capacity { capacity self.new ≡ capacity self.old }
     {
         let Some(copy) = self.copied(buf) else {
@@ -91,7 +91,7 @@ impl Cache {
     }
 
     /// Proves that no more pages are kept than the capacity says; it does nothing when it runs.
-    pub fn is_few(&self)
+    pub fn few_law(&self)
         ensures { KeepsAtMost (kept_pages self.now) (capacity self.now) }
     {
         let _len = self.pages.len();
@@ -115,7 +115,7 @@ impl Cache {
             → (result ≡ Ok record {}) × (buf.new ≡ bytes)
             × (D.reads disk.new ≡ D.reads disk.old)
             × ((p : ℕ) → kept_pages self.new p ≡ kept_pages self.old p) }
-        ensures keeps { OnOk result (KeepsAtMostAlso (kept_pages self.old) (kept_pages self.new) page buf.new) }
+        ensures keeps { OnOk result (KeepsNoOther (kept_pages self.old) (kept_pages self.new) page buf.new) }
         ensures keeps_err { OnErr result ((p : ℕ) → kept_pages self.new p ≡ kept_pages self.old p) }
         ensures capacity { capacity self.new ≡ capacity self.old }
         ensures few { KeepsAtMost (kept_pages self.new) (capacity self.new) }
@@ -124,14 +124,14 @@ impl Cache {
         ensures reads { OnlyReads D.Disk is_disk 1 disk.old disk.new result }
     {
         if self.recall(page, buf) {
-            self.is_few();
+            self.few_law();
             return Ok(());
         }
-        self.is_few();
+        self.few_law();
         match disk.read(Area::Pages, page, buf) {
             Ok(true) => {
                 self.keep(page, buf);
-                self.is_few();
+                self.few_law();
                 Ok(())
             }
             Ok(false) => Err(PageFault::Damaged(page)),
@@ -160,6 +160,6 @@ impl Cache {
         ensures few { KeepsAtMost (kept_pages self.new) (capacity self.new) }
     {
         self.rewrite(page, buf);
-        self.is_few();
+        self.few_law();
     }
 }

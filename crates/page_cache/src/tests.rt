@@ -56,7 +56,7 @@ fn a_kept_page_is_not_read_again(rt: HostRuntime) -> Result<(), Fail> {
     assert_eq!(rt; got(&mut cache, &mut disk, 2), (Ok(3), 3));
     assert_eq!(rt; got(&mut cache, &mut disk, 0), (Ok(1), 3));
     assert_eq!(rt; got(&mut cache, &mut disk, 1), (Ok(2), 4));
-    cache.is_few();
+    cache.few_law();
     Ok(())
 }
 

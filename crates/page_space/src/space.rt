@@ -94,7 +94,7 @@ impl<D: Disk> Space<D> {
         ensures roots { AreRoots (params_of self.now) (meta_of self.now) }
         ensures cached { KeepsAtMost (cached_pages self.now) 1024 }
     {
-        self.cache.is_few();
+        self.cache.few_law();
     }
 
     /// Reads a page as the disk has it, in use or not, at most once from the disk.
