@@ -4,7 +4,7 @@
 use crate::draws::Draws;
 use crate::measured::{hundredths, rate};
 use crate::put_count::{ByKind, PutCount};
-use anyhow::Result;
+use anyhow::{Result, bail};
 use bw_types::Tree;
 use mvsb_tree::{mv_add, mv_value};
 use page_ports::{MemStage, PageFault, StageFault};
@@ -180,6 +180,9 @@ fn print_additions(
         most.gets,
         most.puts
     )?;
+    if added.is_err() {
+        bail!("an addition was refused");
+    }
     Ok(())
 }
 
@@ -195,14 +198,18 @@ fn print_values(
     let read = value_all(stage, tree, keys, additions).is_ok();
     let took = start.elapsed(rt)?.as_nanos();
     let gets = stage.gets().saturating_sub(before);
+    let levels = height(stage, tree, additions);
     println!(rt;
         "{QUERIES} values: all read {read}, {} a second, {} gets in 100, {} nanoseconds a get; {} levels, {} of them the directory's",
         rate(QUERIES, took),
         hundredths(gets, u64::from(QUERIES)),
         took / u128::from(gets.max(1)),
-        height(stage, tree, additions).unwrap_or(0),
+        levels.unwrap_or(0),
         tree.levels
     )?;
+    if !read || levels.is_err() {
+        bail!("a value was refused");
+    }
     Ok(())
 }
 
@@ -220,16 +227,25 @@ fn print_scans(
         values = scanned(points.as_slice(), keys, additions);
     }
     let took = start.elapsed(rt)?.as_nanos();
-    let same = first_values(stage, tree, keys, additions) == Ok(values);
+    let Ok(read) = first_values(stage, tree, keys, additions) else {
+        bail!("a value was refused");
+    };
+    let same = read == values;
+    // The tree's values add up to this, so that other programs are compared with the tree.
     println!(rt;
         "scans of a sorted array: {} a second; the first {SCANNED} add up to {}, the same values {same}",
         rate(SCANNED as u32 * ROUNDS, took),
-        total_of(&values)
+        total_of(&read)
     )?;
+    if !same {
+        bail!("the tree's values are not those of the scans");
+    }
     Ok(())
 }
 
 /// Prints what so many additions and 100,000 values cost, and what the same values cost by a scan.
+///
+/// Fails where the tree refused an addition or a value, or where its first values are not those of the scans.
 pub fn measure_keys(rt: &HostRuntime, keys: Keys, additions: u32) -> Result<()> {
     let mut stage = PutCount {
         stage: MemStage::new(rt.alloc(), 4294967295),
