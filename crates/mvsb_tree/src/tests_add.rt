@@ -1,4 +1,7 @@
 //! Trees in memory: additions against plain sums.
+use crate::directory::root_at;
+use crate::tests_broken::tree_of;
+use crate::tests_ends::{node, page_of};
 use crate::{mv_add, mv_free, mv_value};
 use bw_types::Tree;
 use failing_stage::FailingStage;
@@ -78,6 +81,158 @@ fn a_root_that_splits_in_one_version(rt: HostRuntime) -> Result<(), Fail> {
     Ok(())
 }
 
+// The level of the node on the page, its place, the page before it and how many entries it has.
+fn shape_on(stage: &mut MemStage, page: u64) -> Result<(u8, u32, u64, usize), PageFault> {
+    let node: MvNode = read_page(stage, page)?;
+    Ok((node.level, node.place, node.before, node.entries.len()))
+}
+
+// Whether the node on the page has this first entry, and the others follow: their lows so far apart, each with its start and its
+// child, and of value 1.
+fn follow_on(
+    stage: &mut MemStage,
+    page: u64,
+    first: MvEntry,
+    apart: u64,
+) -> Result<bool, PageFault> {
+    let node: MvNode = read_page(stage, page)?;
+    let mut expected = first;
+    for e in node.entries.as_slice() {
+        if *e != expected {
+            return Ok(false);
+        }
+        expected = open_entry(e.low.wrapping_add(apart), first.start, 1, first.child);
+    }
+    Ok(true)
+}
+
+// A leaf that version 1 filled, which is closed at version 2: two new leaves and a root over them take its part.
+fn split_at_2(stage: &mut MemStage, tree: &mut Tree) -> Result<(), StageFault> {
+    for key in 1..96u64 {
+        mv_add(stage, tree, key, 1, 1)?;
+    }
+    mv_add(stage, tree, 96, 2, 1)
+}
+
+#[test]
+fn a_root_that_splits_at_a_later_version_stays_for_the_past(rt: HostRuntime) -> Result<(), Fail> {
+    let mut stage = MemStage::new(rt.alloc(), 20);
+    let mut tree = Tree::default();
+    split_at_2(&mut stage, &mut tree)?;
+    // The closed leaf and the directory; the two leaves and the root.
+    assert_eq!(rt; stage.allotted(), 8);
+    assert_eq!(rt; tree.changes, 2);
+    assert_eq!(rt; tree.last, 7);
+    // The closed leaf is as version 1 left it, its entries still open: no way of version 2 leads to it.
+    assert_eq!(rt; shape_on(&mut stage, 3), Ok((1, 1, 0, 96)));
+    assert_eq!(rt;
+        follow_on(&mut stage, 3, open_entry(0, 1, 0, 0), 1),
+        Ok(true)
+    );
+    // The first half is on a new page too; the first entry of the second has the sum of the first half, 47, on top of its 1.
+    assert_eq!(rt; shape_on(&mut stage, 5), Ok((1, 2, 3, 48)));
+    assert_eq!(rt;
+        follow_on(&mut stage, 5, open_entry(0, 2, 0, 0), 1),
+        Ok(true)
+    );
+    assert_eq!(rt; shape_on(&mut stage, 6), Ok((1, 3, 5, 49)));
+    assert_eq!(rt;
+        follow_on(&mut stage, 6, open_entry(48, 2, 48, 0), 1),
+        Ok(true)
+    );
+    assert_eq!(rt; shape_on(&mut stage, 7), Ok((2, 4, 6, 2)));
+    let root = [open_entry(0, 2, 0, 5), open_entry(48, 2, 0, 6)];
+    assert_eq!(rt; two_on(&mut stage, 7), Ok(Some(root)));
+    assert_eq!(rt; mv_value(&mut stage, &tree, 96, 1), Ok(95));
+    assert_eq!(rt; mv_value(&mut stage, &tree, 96, 2), Ok(96));
+    mv_free(&mut stage, &tree)?;
+    assert!(rt; holds_no_pages(&mut stage));
+    Ok(())
+}
+
+// The four entries of the node on the page, if it has four.
+fn four_on(stage: &mut MemStage, page: u64) -> Result<Option<[MvEntry; 4]>, PageFault> {
+    let node: MvNode = read_page(stage, page)?;
+    match node.entries.as_slice() {
+        [first, second, third, fourth] => Ok(Some([*first, *second, *third, *fourth])),
+        _ => Ok(None),
+    }
+}
+
+#[test]
+fn a_leaf_that_splits_closes_the_entry_that_led_to_it(rt: HostRuntime) -> Result<(), Fail> {
+    let mut stage = MemStage::new(rt.alloc(), 20);
+    let mut tree = Tree::default();
+    split_at_2(&mut stage, &mut tree)?;
+    for key in 97..145u64 {
+        mv_add(&mut stage, &mut tree, key, 3, 1)?;
+    }
+    // Two leaves more, below the same root.
+    assert_eq!(rt; stage.allotted(), 10);
+    assert_eq!(rt; tree.changes, 2);
+    assert_eq!(rt; shape_on(&mut stage, 8), Ok((1, 5, 7, 48)));
+    assert_eq!(rt;
+        follow_on(&mut stage, 8, open_entry(48, 3, 48, 0), 1),
+        Ok(true)
+    );
+    assert_eq!(rt; shape_on(&mut stage, 9), Ok((1, 6, 8, 49)));
+    assert_eq!(rt;
+        follow_on(&mut stage, 9, open_entry(96, 3, 96, 0), 1),
+        Ok(true)
+    );
+    // The closed leaf has the keys of version 3 as well, but for the last.
+    assert_eq!(rt; shape_on(&mut stage, 6), Ok((1, 3, 5, 96)));
+    let mut closed = open_entry(48, 2, 0, 6);
+    closed.end = 3;
+    let root = [
+        open_entry(0, 2, 0, 5),
+        closed,
+        open_entry(48, 3, 0, 8),
+        open_entry(96, 3, 0, 9),
+    ];
+    assert_eq!(rt; four_on(&mut stage, 7), Ok(Some(root)));
+    assert_eq!(rt; mv_value(&mut stage, &tree, 144, 2), Ok(96));
+    assert_eq!(rt; mv_value(&mut stage, &tree, 144, 3), Ok(144));
+    Ok(())
+}
+
+#[test]
+fn an_index_root_that_splits_stays_for_the_past(rt: HostRuntime) -> Result<(), Fail> {
+    let mut stage = MemStage::new(rt.alloc(), 20);
+    // A leaf of one entry, and above it a root of 96 entries, 10 keys apart, which all lead to it from version 1 on.
+    let leaf = page_of(&mut stage, &node(1, 1, 0, 0, 1, 1))?;
+    let page = page_of(&mut stage, &node(2, 2, leaf, leaf, 96, 96))?;
+    assert_eq!(rt; [leaf, page], [3, 4]);
+    let mut tree = tree_of(&mut stage, page)?;
+    // From key 10 on the root itself takes the value, and has one entry too many.
+    mv_add(&mut stage, &mut tree, 5, 3, 1)?;
+    assert_eq!(rt; shape_on(&mut stage, 4), Ok((2, 2, 3, 96)));
+    assert_eq!(rt;
+        follow_on(&mut stage, 4, open_entry(0, 1, 1, 3), 10),
+        Ok(true)
+    );
+    // The first half has 48 entries of value 1, and the second of them the value that was added.
+    let first: MvNode = read_page(&mut stage, 6)?;
+    assert_eq!(rt; shape_on(&mut stage, 6), Ok((2, 3, 4, 48)));
+    assert_eq!(rt;
+        first.entries.as_slice().first().copied(),
+        Some(open_entry(0, 3, 1, 3))
+    );
+    assert_eq!(rt;
+        first.entries.as_slice().get(1).copied(),
+        Some(open_entry(10, 3, 2, 3))
+    );
+    assert_eq!(rt; shape_on(&mut stage, 7), Ok((2, 4, 6, 48)));
+    assert_eq!(rt;
+        follow_on(&mut stage, 7, open_entry(480, 3, 50, 3), 10),
+        Ok(true)
+    );
+    let root = [open_entry(0, 3, 0, 6), open_entry(480, 3, 0, 7)];
+    assert_eq!(rt; shape_on(&mut stage, 8), Ok((3, 5, 7, 2)));
+    assert_eq!(rt; two_on(&mut stage, 8), Ok(Some(root)));
+    Ok(())
+}
+
 #[test]
 fn one_key_at_many_versions(rt: HostRuntime) -> Result<(), Fail> {
     let mut stage = MemStage::new(rt.alloc(), 20);
@@ -93,6 +248,27 @@ fn one_key_at_many_versions(rt: HostRuntime) -> Result<(), Fail> {
     assert_eq!(rt; stage.allotted(), 6);
     let copies = [open_entry(0, 96, 0, 0), open_entry(5, 96, 96, 0)];
     assert_eq!(rt; two_on(&mut stage, 5), Ok(Some(copies)));
+    Ok(())
+}
+
+// The caller has to keep the order of versions. An addition at a version before the newest one may be taken, and then the tree
+// stands for nothing: the leaf of the versions before 96 takes it, and the one from 96 on knows nothing of it.
+#[test]
+fn an_addition_out_of_order_is_not_always_found(rt: HostRuntime) -> Result<(), Fail> {
+    let mut stage = MemStage::new(rt.alloc(), 20);
+    let mut tree = Tree::default();
+    for version in 1..97u32 {
+        mv_add(&mut stage, &mut tree, 5, version, 1)?;
+    }
+    assert_eq!(rt; mv_add(&mut stage, &mut tree, 5, 95, 1000), Ok(()));
+    assert_eq!(rt; tree.count, 97);
+    assert_eq!(rt; mv_value(&mut stage, &tree, 5, 95), Ok(1095));
+    assert_eq!(rt; mv_value(&mut stage, &tree, 5, 96), Ok(96));
+    // One that comes before an entry of its leaf starts is found.
+    assert_eq!(rt;
+        mv_add(&mut stage, &mut tree, 5, 94, 1000),
+        Err(StageFault::Damaged(3))
+    );
     Ok(())
 }
 
@@ -183,6 +359,13 @@ fn has_plain_sums(stage: &mut MemStage, tree: &Tree, additions: &[Addition]) -> 
     true
 }
 
+// The level of the newest root.
+fn root_level(stage: &mut MemStage, tree: &Tree) -> Result<u8, PageFault> {
+    let root = root_at(stage, tree, u32::MAX)?;
+    let node: MvNode = read_page(stage, root)?;
+    Ok(node.level)
+}
+
 #[test]
 fn many_additions(rt: HostRuntime) -> Result<(), Fail> {
     for kind in 0..20u32 {
@@ -200,9 +383,45 @@ fn many_additions(rt: HostRuntime) -> Result<(), Fail> {
             )?;
         }
         assert_eq!(rt; tree.count, 30000);
+        // Of keys that differ there are index nodes that split, and not leaves alone.
+        let level = root_level(&mut stage, &tree)?;
+        assert!(rt;
+            level == 3 || kind % 5 == 2 || kind % 5 == 4,
+            "level {level} of kind {kind}"
+        );
         assert!(rt; has_plain_sums(&mut stage, &tree, &additions));
         mv_free(&mut stage, &tree)?;
         assert!(rt; holds_no_pages(&mut stage));
+    }
+    Ok(())
+}
+
+// The numbers are this program's: no contract tells them. A change by which trees need more pages should be noticed.
+#[test]
+fn so_many_additions_take_so_many_pages(rt: HostRuntime) -> Result<(), Fail> {
+    // So many at random keys, at keys that ascend, at random keys in one version, and at one key; the numbers of pages that are given
+    // out then, with the three that always are; and the level of the root.
+    for (kind, count, allotted, level) in [
+        (0u32, 4000u32, 176u64, 3u8),
+        (1, 3000, 131, 3),
+        (15, 7000, 119, 3),
+        (9, 2000, 26, 1),
+    ] {
+        let additions = some_additions(rt.alloc(), kind, count)?;
+        let mut stage = MemStage::new(rt.alloc(), 1000);
+        let mut tree = Tree::default();
+        for addition in additions.as_slice() {
+            assert!(rt; addition.version < u32::MAX);
+            mv_add(
+                &mut stage,
+                &mut tree,
+                addition.key,
+                addition.version,
+                addition.value,
+            )?;
+        }
+        assert_eq!(rt; stage.allotted(), allotted, "kind {kind}");
+        assert_eq!(rt; root_level(&mut stage, &tree), Ok(level));
     }
     Ok(())
 }

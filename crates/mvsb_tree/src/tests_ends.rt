@@ -20,7 +20,14 @@ fn put_number(bytes: &mut Page, at: usize, size: usize, number: u64)
 }
 
 // A node with entries 10 keys apart that start at version 1, of which so many are alive; the others were closed at version 2.
-fn node(level: u8, place: u32, before: u64, child: u64, entries: usize, alive: usize) -> Page
+pub(crate) fn node(
+    level: u8,
+    place: u32,
+    before: u64,
+    child: u64,
+    entries: usize,
+    alive: usize,
+) -> Page
     requires { entries ≤ 96 }
 {
     let mut bytes = blank_page();
@@ -41,7 +48,7 @@ fn node(level: u8, place: u32, before: u64, child: u64, entries: usize, alive: u
 }
 
 // A page of its own for these bytes, which is one of a multiversion tree.
-fn page_of(stage: &mut MemStage, bytes: &Page) -> Result<u64, StageFault> {
+pub(crate) fn page_of(stage: &mut MemStage, bytes: &Page) -> Result<u64, StageFault> {
     let page = stage.allot()?;
     let mut bytes = *bytes;
     bytes[0] = 3;
