@@ -169,6 +169,41 @@ fn a_place_that_is_not_one_less(rt: HostRuntime) -> Result<(), Fail> {
 }
 
 #[test]
+fn a_chain_with_noise_in_its_middle(rt: HostRuntime) -> Result<(), Fail> {
+    let mut stage = MemStage::new(rt.alloc(), 10);
+    page_of(&mut stage, &node(1, 1, 0, 0))?;
+    let middle = noise(&mut stage)?;
+    let last = page_of(&mut stage, &node(1, 3, middle, 0))?;
+    let tree = tree_of(&mut stage, last)?;
+    assert_eq!(rt;
+        mv_free(&mut stage, &tree),
+        Err(StageFault::Damaged(middle))
+    );
+    Ok(())
+}
+
+#[test]
+fn a_page_of_the_directory_and_of_the_chain(rt: HostRuntime) -> Result<(), Fail> {
+    // The chain leads to the directory's page, which is gone when the chain comes to it.
+    let mut stage = MemStage::new(rt.alloc(), 10);
+    let last = page_of(&mut stage, &node(1, 2, 4, 0))?;
+    let tree = tree_of(&mut stage, last)?;
+    assert_eq!(rt; [last, tree.root], [3, 4]);
+    assert_eq!(rt; mv_free(&mut stage, &tree), Err(StageFault::Damaged(4)));
+    // One page is the directory's root and the last one of the chain: it can hold a node of one of the two only.
+    for page in [3, 4] {
+        let mut stage = MemStage::new(rt.alloc(), 10);
+        let last = page_of(&mut stage, &node(1, 1, 0, 0))?;
+        let mut tree = tree_of(&mut stage, last)?;
+        assert_eq!(rt; [last, tree.root], [3, 4]);
+        tree.root = page;
+        tree.last = page;
+        assert_eq!(rt; mv_free(&mut stage, &tree), Err(StageFault::Damaged(page)));
+    }
+    Ok(())
+}
+
+#[test]
 fn a_root_that_is_noise(rt: HostRuntime) -> Result<(), Fail> {
     let mut stage = MemStage::new(rt.alloc(), 10);
     let page = noise(&mut stage)?;
@@ -231,6 +266,97 @@ fn an_entry_that_starts_or_ends_later(rt: HostRuntime) -> Result<(), Fail> {
         );
         mv_add(&mut stage, &mut tree, 5, case.3, 1)?;
         assert_eq!(rt; mv_value(&mut stage, &tree, 7, case.3), Ok(case.4));
+    }
+    Ok(())
+}
+
+// A node that is the first of a chain.
+fn first_node(level: u8, entries: ArrayVec<MvEntry, 100>) -> MvNode {
+    MvNode {
+        level,
+        place: 1,
+        before: 0,
+        entries,
+    }
+}
+
+// A node of level 2 over two leaves, whose second entry begins, starts and ends so: the root, or below a root of level 3.
+fn over_two_leaves(
+    stage: &mut MemStage,
+    low: u64,
+    start: u32,
+    end: u32,
+    is_root: bool,
+) -> Result<(u64, Tree), StageFault> {
+    let first = page_of(stage, &node(1, 1, 0, 0))?;
+    let mut entries = ArrayVec::new();
+    entries.push(entry(low, 1, 0));
+    let second = page_of(stage, &first_node(1, entries))?;
+    let mut entries = ArrayVec::new();
+    entries.push(entry(0, 1, first));
+    let mut later = entry(low, start, second);
+    later.end = end;
+    entries.push(later);
+    let page = page_of(stage, &first_node(2, entries))?;
+    let root = if is_root {
+        page
+    } else {
+        page_of(stage, &node(3, 1, 0, page))?
+    };
+    let tree = tree_of(stage, root)?;
+    Ok((page, tree))
+}
+
+// The value of such a tree, whose root of level 3 adds the 3 of its entry.
+fn above(is_root: bool, value: u128) -> u128 {
+    if is_root {
+        value
+    } else {
+        value.wrapping_add(3)
+    }
+}
+
+#[test]
+fn an_index_entry_that_starts_or_ends_later(rt: HostRuntime) -> Result<(), Fail> {
+    // The start and the end of an entry at 7; a version before one of them, and the value at 7 there, which is told all the same;
+    // the later one, and the value at 7 after an addition of 1 at it.
+    for case in [
+        (9u32, u32::MAX, 2u32, 6u128, 9u32, 10u128),
+        (1, 2, 1, 9, 2, 7),
+    ] {
+        for is_root in [true, false] {
+            let mut stage = MemStage::new(rt.alloc(), 10);
+            let (page, mut tree) = over_two_leaves(&mut stage, 7, case.0, case.1, is_root)?;
+            assert!(rt; case.2 < u32::MAX && case.4 < u32::MAX);
+            let told = above(is_root, case.3);
+            assert_eq!(rt; mv_value(&mut stage, &tree, 7, case.2), Ok(told));
+            assert_eq!(rt;
+                mv_add(&mut stage, &mut tree, 5, case.2, 1),
+                Err(StageFault::Damaged(page))
+            );
+            mv_add(&mut stage, &mut tree, 5, case.4, 1)?;
+            let told = above(is_root, case.5);
+            assert_eq!(rt; mv_value(&mut stage, &tree, 7, case.4), Ok(told));
+        }
+    }
+    Ok(())
+}
+
+#[test]
+fn two_index_entries_of_one_low(rt: HostRuntime) -> Result<(), Fail> {
+    for is_root in [true, false] {
+        let mut stage = MemStage::new(rt.alloc(), 10);
+        // Both begin at 0, from versions 1 and 2 on.
+        let (page, mut tree) = over_two_leaves(&mut stage, 0, 2, u32::MAX, is_root)?;
+        for version in 1..3u32 {
+            assert_eq!(rt;
+                mv_add(&mut stage, &mut tree, 5, version, 1),
+                Err(StageFault::Damaged(page))
+            );
+        }
+        // A value is told: the entries that are alive add up, and the last one has the child.
+        assert_eq!(rt; mv_value(&mut stage, &tree, 5, 1), Ok(above(is_root, 6)));
+        assert_eq!(rt; mv_value(&mut stage, &tree, 5, 2), Ok(above(is_root, 9)));
     }
     Ok(())
 }
