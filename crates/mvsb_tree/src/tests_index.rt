@@ -3,9 +3,10 @@ ghost use Rattle.std.specs.Prelude.{◌<◌, ◌^◌, ◌-◌};
 ghost use Rattle.dom_index.specs.Points.{AreKeysBelow};
 
 use crate::MvIndex;
+use crate::tests_broken::{noise, tree_of};
 use bw_types::{Point, Tree};
 use dom_index::DomIndex;
-use page_ports::{MemStage, PageFault};
+use page_ports::{MemStage, PageFault, StageFault};
 use std::test::Fail;
 
 fn point_at(key: u16, version: u16, weight: u128) -> Point
@@ -38,6 +39,33 @@ fn three_points(rt: HostRuntime) -> Result<(), Fail> {
     assert_eq!(rt; sum_at(&mut stage, &tree, 4, 2), Ok(0));
     assert_eq!(rt; sum_at(&mut stage, &tree, 5, 2), Ok(1));
     assert_eq!(rt; sum_at(&mut stage, &tree, 25, 2), Ok(13));
+    Ok(())
+}
+
+#[test]
+fn a_root_that_is_noise(rt: HostRuntime) -> Result<(), Fail> {
+    let mut stage = MemStage::new(rt.alloc(), 10);
+    let page = noise(&mut stage)?;
+    let mut tree = tree_of(&mut stage, page)?;
+    let before = tree;
+    assert_eq!(rt;
+        sum_at(&mut stage, &tree, 5, 1),
+        Err(PageFault::Damaged(page))
+    );
+    let added = MvIndex::add(rt.alloc(), &mut stage, 1, &mut tree, &point_at(5, 1, 1));
+    assert_eq!(rt; added, Err(StageFault::Damaged(page)));
+    assert_eq!(rt; tree, before);
+    Ok(())
+}
+
+// The leaf gets a page, and the directory none.
+#[test]
+fn a_first_point_that_meets_the_limit(rt: HostRuntime) -> Result<(), Fail> {
+    let mut stage = MemStage::new(rt.alloc(), 4);
+    let mut tree = Tree::default();
+    let added = MvIndex::add(rt.alloc(), &mut stage, 1, &mut tree, &point_at(5, 1, 1));
+    assert_eq!(rt; added, Err(StageFault::PageLimit(4)));
+    assert_eq!(rt; tree, Tree::default());
     Ok(())
 }
 
