@@ -54,7 +54,8 @@ pub trait DomIndex {
     /// The sum of the weights of the points whose version and first `dims` keys are at or below those given,
     /// modulo `2^128`. It takes no memory.
     ///
-    /// `Disk` comes only where the count of faults rose. `Damaged` never comes where the tree stands.
+    /// `Disk` comes only where the count of faults rose. `Damaged` carries a page of which
+    /// `damaged_for_sum` holds; it never comes where the tree stands.
     fn sum<P: Pages>(
         pages: &mut P,
         dims: u8,
@@ -80,8 +81,10 @@ pub trait DomIndex {
     /// What holds only for a point that is new to the tree says so: its keys differ in each dimension from
     /// those of all points, its version is at least theirs, and they are fewer than `2^31`. After a refusal
     /// the tree value is as it was, and the stage is to be abandoned. `Disk` comes only where the count of
-    /// faults rose, `PageLimit` only where as many pages are given out as the limit allows. `Damaged` never
-    /// comes where the tree stands and is balanced, the point is new and the free pages are in order.
+    /// faults rose, `PageLimit` only where as many pages are given out as the limit allows; `NoMemory` is
+    /// the stage's. `Damaged` carries a page of which `damaged_for_add` holds, or any page where the free
+    /// pages are not in order; it never comes where the tree stands and is balanced, the point is new and
+    /// the free pages are in order. A point that is not new may break the tree, and is not always found.
     fn add<S: Stage>(
         alloc: Global,
         stage: &mut S,

@@ -97,6 +97,19 @@ damaged_back m0 left next page p node some less there rules typed place below =
     laws.damaged_further FitsChain LeadsBack NothingBeside m0 left tt page p node (mv_node_page node) node.before tt some there (record { spelled = refl; rules = rules; typed = typed }, place) refl
     (subst (λ (l : ℕ). IsDamagedInChain m0 l node.before p) fewer below)
 
+-- Where the node of the page has its place, a page is damaged only further back in the chain.
+pub damaged_only_back : (m0 : PageMap) (left next page p : ℕ) (node : MvNode) → next + 1 ≡ left → m0 page ≡ Some (mv_node_page node) → IsMvNode node → IsTyped node → node.place ≡ left
+    → IsDamagedInChain m0 left page p → IsDamagedInChain m0 next node.before p
+damaged_only_back m0 zero next page p node less there rules typed place d = absurd d
+damaged_only_back m0 (suc left) next page p node less there rules typed place (inl d) =
+    absurd (d.1 node (mv_node_page node) there (record { spelled = refl; rules = rules; typed = typed }, place))
+damaged_only_back m0 (suc left) next page p node less there rules typed place (inr (inl d)) = absurd d.4
+damaged_only_back m0 (suc left) next page p node less there rules typed place (inr (inr d)) =
+    let same : node ≡ d.0 = same_spelled m0 page node d.0 d.1 typed rules there d.5.0.typed d.5.0.rules d.5.0.spelled d.4 in
+    let on : d.2 ≡ node.before = d.6 ∙ ap (λ (n : MvNode). n.before) (sym same) in
+    let fewer : left ≡ next = omega (arith, less) in
+    subst (λ (l : ℕ). IsDamagedInChain m0 l node.before p) fewer (subst (λ (q : ℕ). IsDamagedInChain m0 left q p) on d.7)
+
 -- A chain that stands is not damaged.
 pub chain_undamaged : (places : ℕ) (pages : PageMap) (page p : ℕ) → ChainStands places pages page → IsDamagedInChain pages places page p → ⊥
 chain_undamaged zero pages page p s d = d
@@ -123,6 +136,20 @@ same_chain (suc places) a b page h =
     let node : node_on b page ≡ node_on a page = same_node a b page (h page (names_first page (chain_from places a (node_on a page).before))) in
     let rest = same_chain places a b (node_on a page).before (agree_rest page (chain_from places a (node_on a page).before) a b h) in
     ap (λ (n : MvNode). page ∷ chain_from places b n.before) node ∙ ap (λ (ps : List ℕ). page ∷ ps) rest
+
+-- So does what is damaged in it.
+pub chain_damage : (places : ℕ) (a b : PageMap) (page p : ℕ) → AgreeOn (chain_from places a page) a b → IsDamagedInChain b places page p → IsDamagedInChain a places page p
+chain_damage zero a b page p h d = d
+chain_damage (suc places) a b page p h (inl d) =
+    let e : b page ≡ a page = h page (names_first page (chain_from places a (node_on a page).before)) in
+    inl (d.0, λ node bytes here. d.1 node bytes (e ∙ here))
+chain_damage (suc places) a b page p h (inr (inl d)) = absurd d.4
+chain_damage (suc places) a b page p h (inr (inr d)) =
+    let there : a page ≡ Some d.1 = sym (h page (names_first page (chain_from places a (node_on a page).before))) ∙ d.4 in
+    let is : node_on a page ≡ d.0 = node_on-spelled a page d.0 d.5.0.typed d.5.0.rules (there ∙ ap (λ (bytes : List ℕ). Some bytes) d.5.0.spelled) in
+    let on : (node_on a page).before ≡ d.2 = ap (λ (n : MvNode). n.before) is ∙ sym d.6 in
+    let rest = subst (λ (q : ℕ). AgreeOn (chain_from places a q) a b) on (agree_rest page (chain_from places a (node_on a page).before) a b h) in
+    inr (inr (d.0, d.1, d.2, d.3, there, d.5, d.6, chain_damage places a b d.2 p rest d.7))
 
 pub chain_stands : (places : ℕ) (a b : PageMap) (page : ℕ) → AgreeOn (chain_from places a page) a b → ChainStands places a page → ChainStands places b page
 chain_stands zero a b page h s = s

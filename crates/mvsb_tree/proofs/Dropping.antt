@@ -89,6 +89,9 @@ tree_dropped tree node old mid new some found typed rules first there freed =
     dropped_as (λ m. over_versions.tree_pages m (directory tree) ++ chain_from node.place m tree.last) (λ m. tree_pages m tree) old new
     (λ before gone r. ap (λ (n : ℕ). over_versions.tree_pages before (directory tree) ++ chain_from n before tree.last) (places_before tree node old before gone some found typed rules r)) both
 
+pub no_places : (tree : Tree) (m : PageMap) → tree.levels ≡ 0 → place_count m tree ≡ 0
+no_places tree m none = ap (λ (l : ℕ). if l == 0 then 0 else (node_on m tree.last).place) none
+
 pub no_pages : (tree : Tree) (m : PageMap) → tree.levels ≡ 0 → tree_pages m tree ≡ []
 no_pages tree m none =
     ap (λ (l : ℕ). over_versions.pages_below l m tree.root ++ chain_from (if l == 0 then 0 else (node_on m tree.last).place) m tree.last) none

@@ -23,7 +23,7 @@ count_is pages tree some = elim (cases_Bool (tree.levels == 0)) [
 ]
 
 -- Pages that are left are as they were.
-left_agree : (pages d : List ℕ) (m0 m1 : PageMap) → Replaces d [] m0 m1 → AreInMap m1 pages → AgreeOn pages m1 m0
+pub left_agree : (pages d : List ℕ) (m0 m1 : PageMap) → Replaces d [] m0 m1 → AreInMap m1 pages → AgreeOn pages m1 m0
 left_agree pages d m0 m1 r there = λ p named. elim (cases_Bool (names_page d p)) [
   | inl gone ↦ absurd (none_is_some (m1 p) (r.gone p gone refl) (there p named))
   | inr left ↦ sym (r.others p left refl)

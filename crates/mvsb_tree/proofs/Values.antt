@@ -11,11 +11,10 @@ use Rattle.page_layout.specs.declared.mv_node.MvNode.{MvNode}
 use Rattle.page_layout.specs.MvNode.{IsMvNode, IsTyped, mv_node_page}
 use Rattle.mv_pages.specs.Alive.{child_of, node_value, value_of, or_later, path_child}
 use Rattle.mv_pages.specs.Lows.{alive_lows, low_above, low_at}
-use Rattle.sb_tree.specs.Damage as over_versions
 use Rattle.sb_tree.proofs.Whole as on_ways
 use Rattle.mvsb_tree.specs.declared.place.Place.{Place}
-use Rattle.mvsb_tree.specs.Damage.{FitsPlace, LeadsTo, IsDamagedForValue, IsDamagedFromRoot, IsInPlace, root_place}
-use Rattle.mvsb_tree.specs.Steps.{directory, node_on, node_total, root_at, root_level, total_below}
+use Rattle.mvsb_tree.specs.Damage.{FitsPlace, LeadsTo, IsDamagedForValue, IsDamagedFromRoot, IsInPlace, IsWholeToRoot, root_place}
+use Rattle.mvsb_tree.specs.Steps.{node_on, node_total, root_at, root_level, total_below}
 use Rattle.mvsb_tree.proofs.Nodes.{node_on-spelled, same_spelled, some_same}
 
 -- The total of a page is that of the node that it spells.
@@ -192,9 +191,8 @@ module _ (pages : PageMap) (root : ℕ) (place : Place) (node : MvNode) (some : 
 
 -- Nothing is damaged for a value, where nothing is on the way to the root of the version, nor from that root on.
 pub whole_from : (pages : PageMap) (tree : Tree) (key version root : ℕ) → root ≡ root_at pages tree version
-    → ((page : ℕ) → over_versions.IsDamagedOnPath pages (directory tree) version page ⊎ ((page ≡ tree.root) × (2 ^ 64 ≤ root_at pages tree version)) → ⊥)
+    → IsWholeToRoot pages tree version
     → ((page : ℕ) → IsDamagedFromRoot pages root (root_place key version) page → ⊥) → (page : ℕ) → IsDamagedForValue pages tree key version page → ⊥
-whole_from pages tree key version root is_root way below page (inl d) = way page (inl d)
-whole_from pages tree key version root is_root way below page (inr (inl d)) = way page (inr d)
-whole_from pages tree key version root is_root way below page (inr (inr d)) =
-    below page (subst (λ (r : ℕ). IsDamagedFromRoot pages r (root_place key version) page) (sym is_root) d.1)
+whole_from pages tree key version root is_root way below page (inl d) = way page d
+whole_from pages tree key version root is_root way below page (inr d) =
+    below page (subst (λ (r : ℕ). IsDamagedFromRoot pages r (root_place key version) page) (sym is_root) d.2)

@@ -11,7 +11,7 @@ use Rattle.mvsb_tree.specs.declared.replaced.Replaced.{Replaced}
 use Rattle.sb_tree.specs.Damage as over_versions
 use Rattle.sb_tree.specs.Steps as steps_over_versions
 use Rattle.mvsb_tree.specs.Becoming.{Becomes, TakesPart, new_pages}
-use Rattle.mvsb_tree.specs.Damage.{FitsPlace, LeadsTo, mv_pages, root_place}
+use Rattle.mvsb_tree.specs.Damage.{FitsPlace, IsDamagedToRoot, IsWholeToRoot, LeadsTo, mv_pages, root_place}
 use Rattle.mvsb_tree.specs.Steps.{directory, node_on, root_at, root_level}
 use Rattle.mvsb_tree.specs.Ways.{way_pages}
 
@@ -131,12 +131,12 @@ IsDamagedAtRoot pages root key version value last directory damaged =
     ⊎ EndsAtTop pages root key version value last damaged
     ⊎ ((damaged ≡ directory) × IsSplitAtTop pages root key version value)))
 
--- What looking for the root of the version may find damaged: a page on the way through the directory, or the directory's root, where
--- it tells no root, or no number of a page.
+-- What an addition may find damaged on the way to the root of the version: what looking for that root does; and where that finds
+-- nothing, the directory's root, where it tells no root.
 abbrev pub IsDamagedForRoot : PageMap → Tree → ℕ → ℕ → Type 0
 IsDamagedForRoot pages tree version damaged =
-    over_versions.IsDamagedOnPath pages (directory tree) version damaged
-    ⊎ ((damaged ≡ tree.root) × ((root_at pages tree version ≡ 0) ⊎ (2 ^ 64 ≤ root_at pages tree version)))
+    IsDamagedToRoot pages tree version damaged
+    ⊎ (IsWholeToRoot pages tree version × (damaged ≡ tree.root) × (root_at pages tree version ≡ 0))
 
 -- What an addition may find damaged in the nodes of a tree that has some: what looking for the root of the version does; and where
 -- that finds nothing, what the addition finds from that root down.
@@ -145,6 +145,11 @@ IsDamagedInNodes pages tree key version value damaged =
     IsDamagedForRoot pages tree version damaged
     ⊎ (((page : ℕ) → IsDamagedForRoot pages tree version page → ⊥)
     × IsDamagedAtRoot pages (root_at pages tree version) key version value tree.last tree.root damaged)
+
+-- No page on the way of an addition is damaged: to the root of the version, and from that root down.
+pub record IsWholeForAdd (pages : PageMap) (tree : Tree) (key version : ℕ) : Type 0 where
+  pub to_root : (page : ℕ) → IsDamagedForRoot pages tree version page → ⊥
+  pub nodes : IsWholeFromRoot pages (root_at pages tree version) key version
 
 -- An addition changes the root of the version: the first one does, and one that closes it.
 abbrev pub ChangesRoot : PageMap → Tree → ℕ → ℕ → ℕ → Type 0

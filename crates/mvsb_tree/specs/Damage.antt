@@ -62,13 +62,25 @@ IsDamagedFromRoot pages root place damaged =
     ((damaged ≡ root) × SpellsNone mv_pages pages root)
     ⊎ IsDamagedBelow FitsPlace LeadsTo NothingBeside pages (root_level pages root) place root damaged
 
--- What reading a value may call damaged: a page on the way of the version through the directory; the root of
--- the directory, where what it tells is no number of a page; a page on the way from the root of the version down.
+-- What looking for the root of a version may find damaged: a page on the way of the version through the directory; and where
+-- there is none, the directory's root, where what it tells is no number of a page.
+abbrev pub IsDamagedToRoot : PageMap → Tree → ℕ → ℕ → Type 0
+IsDamagedToRoot pages tree version damaged =
+    over_versions.IsDamagedOnPath pages (directory tree) version damaged
+    ⊎ (((page : ℕ) → over_versions.IsDamagedOnPath pages (directory tree) version page → ⊥)
+    × (damaged ≡ tree.root) × (2 ^ 64 ≤ root_at pages tree version))
+
+-- No page on the way of the version to its root is damaged.
+abbrev pub IsWholeToRoot : PageMap → Tree → ℕ → Type 0
+IsWholeToRoot pages tree version = (page : ℕ) → IsDamagedToRoot pages tree version page → ⊥
+
+-- What reading a value may call damaged: what looking for the root of the version does; and where that finds nothing, a page on
+-- the way from that root down.
 abbrev pub IsDamagedForValue : PageMap → Tree → ℕ → ℕ → ℕ → Type 0
 IsDamagedForValue pages tree key version damaged =
-    over_versions.IsDamagedOnPath pages (directory tree) version damaged
-    ⊎ ((damaged ≡ tree.root) × (2 ^ 64 ≤ root_at pages tree version))
-    ⊎ ((root_at pages tree version ≢ 0) × IsDamagedFromRoot pages (root_at pages tree version) (root_place key version) damaged)
+    IsDamagedToRoot pages tree version damaged
+    ⊎ (IsWholeToRoot pages tree version
+    × (root_at pages tree version ≢ 0) × IsDamagedFromRoot pages (root_at pages tree version) (root_place key version) damaged)
 
 -- The bytes spell a node of this place in the chain.
 abbrev pub FitsChain : ℕ → Unit {0} → MvNode → List ℕ → Type 0

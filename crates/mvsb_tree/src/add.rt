@@ -6,7 +6,7 @@ ghost use Rattle.page_ports.specs.Calls.{Grows};
 ghost use Rattle.page_ports.specs.Frame.{AreApart, AreInMap, Replaces};
 ghost use Rattle.page_layout.specs.TreeValue.{IsTreeTyped, tree_fits};
 ghost use Rattle.sb_tree.specs.Stored.{OthersStay};
-ghost use Rattle.mvsb_tree.specs.AddDamage.{ChangesRoot, IsDamagedForAdd, IsDamagedInNodes, KeepsDirectories, directory_pages, node_way};
+ghost use Rattle.mvsb_tree.specs.AddDamage.{ChangesRoot, IsDamagedForAdd, IsDamagedInNodes, IsWholeForAdd, KeepsDirectories, directory_pages, node_way};
 ghost use Rattle.mvsb_tree.specs.Stands.{IsBalanced, MvStands, is_marked, key_of};
 ghost use Rattle.mvsb_tree.specs.Steps.{place_count, root_at as spec_root_at, root_level, tree_pages};
 ghost use Rattle.mvsb_tree.specs.Tops.{RootAdded};
@@ -21,17 +21,23 @@ use page_ports::{Stage, StageFault};
 use sb_tree::tree_laws;
 
 /// Adds a value, a residue modulo `2^128`, from a key and a version on. The version is to be at least
-/// that of every addition so far.
+/// that of every addition so far. An addition out of order is found only where it meets no root, or an
+/// entry that starts or was closed later; else it is made, and the tree stands for no list of points.
 ///
 /// Where the tree stood, it stands for one point more, past versions included, and stays balanced; at
 /// most 24 pages are given out then, and no page is found damaged where the free pages are in order.
 /// After a refusal the tree value is as it was, and the stage is to be abandoned. `Disk` comes only
 /// where the count of faults rose, and `PageLimit` only where as many pages are given out as the limit
-/// allows. `Damaged` names the directory's root where the tree has `2^31` additions, where the directory tells no
-/// root at the version, or no number of a page, or where a root of level 16 would have to be split; the first page on the way of the key
-/// and the version that holds no node for its place, or one that may not be changed at the version; the end of the
-/// chain of places, where pages are needed that it has no places for, or where it holds no node; where the root
-/// changes, what an addition to the directory calls damaged; or any page where the free pages are not in order.
+/// allows; `NoMemory` is the stage's. `Damaged` names
+///
+/// - the directory's root, where the tree has `2^31` additions, where the directory tells no root at the
+///   version, or no number of a page, or where a root of level 16 would have to be split;
+/// - the first page on the way of the key and the version that holds no node for its place, or one that
+///   may not be changed at the version;
+/// - where more pages are needed than the chain of places has places for, its last page, or the new page
+///   that took the last place; where the last page holds no node, that page;
+/// - what an addition to the directory calls damaged, where the root changes;
+/// - any page, where the free pages are not in order.
 pub fn mv_add<S: Stage>(
     stage: &mut S,
     tree: &mut Tree,
@@ -56,6 +62,8 @@ pub fn mv_add<S: Stage>(
     ensures apart { OnOk result (IsTrue (S.tells stage.old) → AreInMap (S.map stage.old) (directory_pages (S.map stage.old) tree.old)
         → AreApart (directory_pages (S.map stage.old) tree.old) (node_way (S.map stage.old) tree.old key version)
         → OthersStay (directory_pages (S.map stage.old) tree.old ++ node_way (S.map stage.old) tree.old key version) (S.map stage.old) (S.map stage.new)) }
+    // Where it answers, no page on its way was damaged; the first addition has no way.
+    ensures whole { OnOk result (IsTrue (S.tells stage.old) → tree.old.levels ≢ 0 → IsWholeForAdd (S.map stage.old) tree.old key version) }
     ensures count { OnOk result (tree.new.count ≡ tree.old.count + 1) }
     // The directory is changed only where the root is, and then by one addition.
     ensures changes { OnOk result (IsTrue (S.tells stage.old) → (tree.new.changes ≡ tree.old.changes) ⊎ ChangesRoot (S.map stage.old) tree.old key version value) }
@@ -111,6 +119,7 @@ fn add_to_nodes<S: Stage>(
         → MvStands (S.map stage.old) tree.now points → All (λ q. q.version ≤ version) points → key_of p ≡ key
         → RootAdded (is_marked (p ∷ points)) (S.map stage.old) (S.map stage.new) ends.root ends.top version key value (place_count (S.map stage.old) tree.now) last.old last.new) }
     ensures apart { IfOk result (λ ends. IsTrue (S.tells stage.old) → OthersStay (node_way (S.map stage.old) tree.now key version) (S.map stage.old) (S.map stage.new)) }
+    ensures whole { IfOk result (λ ends. IsTrue (S.tells stage.old) → tree.now.levels ≢ 0 → IsWholeForAdd (S.map stage.old) tree.now key version) }
     ensures closed { IfOk result (λ ends. IsTrue (S.tells stage.old) → (ends.top ≡ ends.root) ⊎ ChangesRoot (S.map stage.old) tree.now key version value) }
     ensures directories { IfOk result (λ ends. IsTrue (S.tells stage.old) → KeepsDirectories (S.map stage.old) (S.map stage.new)) }
     ensures damaged { (page : ℕ) → result ≡ Err (StageFault.Damaged page) → IsTrue (S.tells stage.old)

@@ -2,8 +2,8 @@
 ghost use Rattle.std.specs.Prelude.{◌≡◌, ◌≢◌, ◌⊎◌, ◌<◌, ◌≤◌, ◌^◌, ℕ, List, Err, IsTrue, IfOk};
 ghost use Rattle.bw_types.specs.declared.point.Point.{Point};
 ghost use Rattle.page_ports.specs.Calls.{OnlyReads};
-ghost use Rattle.sb_tree.specs.Damage.{IsDamagedOnPath};
 ghost use Rattle.sb_tree.specs.Stands.{SbStands};
+ghost use Rattle.mvsb_tree.specs.Damage.{IsDamagedToRoot, IsWholeToRoot};
 ghost use Rattle.mvsb_tree.specs.Steps.{directory as spec_directory, root_at as spec_root_at};
 
 use bw_types::Tree;
@@ -30,12 +30,9 @@ pub fn directory(tree: &Tree) -> Tree
 pub fn root_at<P: Pages>(pages: &mut P, tree: &Tree, version: u32) -> Result<u64, PageFault>
     ensures root { IfOk result (λ root. IsTrue (P.tells pages.old) → root ≡ spec_root_at (P.map pages.old) tree.now version) }
     ensures damaged { (page : ℕ) → result ≡ Err (PageFault.Damaged page) → IsTrue (P.tells pages.old)
-        → IsDamagedOnPath (P.map pages.old) (spec_directory tree.now) version page
-        ⊎ ((page ≡ tree.now.root) × (2 ^ 64 ≤ spec_root_at (P.map pages.old) tree.now version)) }
+        → IsDamagedToRoot (P.map pages.old) tree.now version page }
     // Where it answers, no page on its way is damaged.
-    ensures whole { IfOk result (λ root. IsTrue (P.tells pages.old) → (page : ℕ)
-        → IsDamagedOnPath (P.map pages.old) (spec_directory tree.now) version page
-        ⊎ ((page ≡ tree.now.root) × (2 ^ 64 ≤ spec_root_at (P.map pages.old) tree.now version)) → ⊥) }
+    ensures whole { IfOk result (λ root. IsTrue (P.tells pages.old) → IsWholeToRoot (P.map pages.old) tree.now version) }
     ensures sound { (changes : List Point) (page : ℕ) → IsTrue (P.tells pages.old)
         → SbStands (P.map pages.old) (spec_directory tree.now) changes → spec_root_at (P.map pages.old) tree.now version < 2 ^ 64
         → result ≢ Err (PageFault.Damaged page) }

@@ -7,8 +7,8 @@
 //! Maintenance of Temporal Aggregates", 2001; Zhang, Markowetz, Tsotras, Gunopulos and Seeger,
 //! "Efficient Computation of Temporal Aggregates with Range Predicates", 2001.)
 //!
-//! The calls work over any `Pages` and `Stage`, on any content: what they find broken they name. As an
-//! index over one dimension a tree is `MvIndex`.
+//! The calls work over any `Pages` and `Stage`, on any content: where they come to a page that is damaged
+//! they name it. As an index over one dimension a tree is `MvIndex`.
 #![tactic(auto)]
 
 mod add;

@@ -2,7 +2,7 @@
 ghost use Rattle.std.specs.Prelude.{◌≡◌, ◌≢◌, ◌⊎◌, ◌+◌, ◌^◌, ◌<◌, ◌≤◌, ℕ, Bool, List, Err, IsTrue, IfOk, None};
 ghost use Rattle.page_ports.specs.Calls.{Grows};
 ghost use Rattle.sb_tree.specs.Stored.{OthersStay};
-ghost use Rattle.mvsb_tree.specs.AddDamage.{IsDamagedAtRoot, IsRootClosed, KeepsDirectories};
+ghost use Rattle.mvsb_tree.specs.AddDamage.{IsDamagedAtRoot, IsRootClosed, IsWholeFromRoot, KeepsDirectories};
 ghost use Rattle.mvsb_tree.specs.Grown.{NodesHold};
 ghost use Rattle.mvsb_tree.specs.Stands.{ChainStands, StandsOnWay};
 ghost use Rattle.mvsb_tree.specs.Steps.{chain_from, root_level};
@@ -42,6 +42,8 @@ pub fn add_at_root<S: Stage>(
         → OthersStay (way_pages (root_level (S.map stage.old) root) (S.map stage.old) root key version) (S.map stage.old) (S.map stage.new)) }
     // The root stays, where its page has room for what it becomes.
     ensures closed { IfOk result (λ top. IsTrue (S.tells stage.old) → (top ≡ root) ⊎ IsRootClosed (S.map stage.old) root key version value) }
+    // Where it answers, no page on the way of the key was damaged.
+    ensures whole { IfOk result (λ top. IsTrue (S.tells stage.old) → IsWholeFromRoot (S.map stage.old) root key version) }
     ensures directories { IfOk result (λ top. IsTrue (S.tells stage.old) → KeepsDirectories (S.map stage.old) (S.map stage.new)) }
     ensures damaged { (p : ℕ) → result ≡ Err (StageFault.Damaged p) → IsTrue (S.tells stage.old)
         → IsDamagedAtRoot (S.map stage.old) root key version value last.old directory p ⊎ (¬ S.free_in_order stage.old) }

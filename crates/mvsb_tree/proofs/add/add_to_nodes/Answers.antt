@@ -2,13 +2,13 @@ use Rattle.std.proofs.Common.{◌≡◌, ◌⊎◌, ◌^◌, ◌<◌, ◌≤◌,
 use Rattle.std.proofs.lemmas.Result.{err_from_is_err_and}
 use Rattle.bw_types.specs.declared.point.Point.{Point}
 use Rattle.bw_types.specs.declared.tree.Tree.{Tree}
-use Rattle.sb_tree.specs.Damage as over_versions
 use Rattle.page_ports.specs.Pages.{PageMap}
 use Rattle.page_ports.specs.declared.page.StageFault.TheVariants.{Damaged}
-use Rattle.mvsb_tree.specs.AddDamage.{IsDamagedAtRoot, IsDamagedForRoot, IsRootClosed, KeepsDirectories}
+use Rattle.mvsb_tree.specs.AddDamage.{IsDamagedAtRoot, IsDamagedForRoot, IsRootClosed, IsWholeFromRoot, KeepsDirectories}
+use Rattle.mvsb_tree.specs.Damage.{IsWholeToRoot}
 use Rattle.mvsb_tree.specs.Grown.{NodesHold}
 use Rattle.mvsb_tree.specs.Stands.{ChainStands, StandsOnWay, is_marked}
-use Rattle.mvsb_tree.specs.Steps.{chain_from, directory, place_count, root_at, root_level}
+use Rattle.mvsb_tree.specs.Steps.{chain_from, place_count, root_at, root_level}
 use Rattle.mvsb_tree.specs.Tops.{RootAdded}
 use Rattle.mvsb_tree.proofs.Beginning.{begun_root, first_of_tree, root_ways}
 use Rattle.mvsb_tree.proofs.Whole.{marked_own, nodes_hold}
@@ -94,13 +94,10 @@ returns-in_err-top-2-clause-sound g c = λ points page tells s few past b ordere
 
 -- Looking for the root finds nothing damaged, where reading it does not, and there is one.
 root_found : (tree : Tree) (m : PageMap) (v : ℕ)
-    → ((page : ℕ) → over_versions.IsDamagedOnPath m (directory tree) v page ⊎ ((page ≡ tree.root) × (2 ^ 64 ≤ root_at m tree v)) → ⊥) → (root_at m tree v ≡ 0 → ⊥)
+    → IsWholeToRoot m tree v → (root_at m tree v ≡ 0 → ⊥)
     → (page : ℕ) → IsDamagedForRoot m tree v page → ⊥
-root_found tree m v whole some page (inl path) = whole page (inl path)
-root_found tree m v whole some page (inr here) = elim here.1 [
-  | inl none ↦ some none
-  | inr high ↦ whole page (inr (here.0, high))
-]
+root_found tree m v whole some page (inl way) = whole page way
+root_found tree m v whole some page (inr none) = some none.2
 
 pub returns-in_err-root-clause-damaged : goal.returns-in_err-root-clause-damaged
 returns-in_err-root-clause-damaged g c = λ page e tells. (
@@ -108,15 +105,12 @@ returns-in_err-root-clause-damaged g c = λ page e tells. (
     let same = read_damaged c.from_residual-in_err-root.result c.in_err-root.field-0.0 page told e in
     inl (
       c.if-tree-eq0.false,
-      inl (elim (c.in_err-root.ensures.damaged page (ap Err same) tells) [
-        | inl path ↦ inl path
-        | inr high ↦ inr (high.0, inr high.1)
-      ]),
+      inl (inl (c.in_err-root.ensures.damaged page (ap Err same) tells)),
     ))
 
 pub returns-then-root-eq0-clause-damaged : goal.returns-then-root-eq0-clause-damaged
 returns-then-root-eq0-clause-damaged g c = λ page e tells.
-    inl (c.if-tree-eq0.false, inl (inr (sym (err_same_staged c.args.tree.now.root page e), inl (sym (c.in_ok-root.ensures.root tells) ∙ c.if-root-eq0.true))))
+    inl (c.if-tree-eq0.false, inl (inr (c.in_ok-root.ensures.whole tells, sym (err_same_staged c.args.tree.now.root page e), sym (c.in_ok-root.ensures.root tells) ∙ c.if-root-eq0.true)))
 
 pub returns-then-root-eq0-clause-sound : goal.returns-then-root-eq0-clause-sound
 returns-then-root-eq0-clause-sound g c = λ points page tells s few past b ordered e. (
@@ -150,6 +144,21 @@ pub returns-then-tree-eq0-clause-directories : goal.returns-then-tree-eq0-clause
 returns-then-tree-eq0-clause-directories g c = λ tells.
     let made = c.in_ok-top.ensures.made tells in
     made_keeps (g.S.Pages.map c.args.stage.now) (g.S.Pages.map c.first_leaf.new.stage) c.in_ok-top.top _ made.0 made.1 made.2
+
+pub returns-clause-whole : goal.returns-clause-whole
+returns-clause-whole g c = λ tells some.
+    let m0 : PageMap = g.S.Pages.map c.args.stage.now in
+    let tree = c.args.tree.now in
+    let v = c.args.version in
+    let key = c.args.key in
+    let root = c.in_ok-root.root in
+    let read = c.root_at.ensures.reads.read in
+    let root_is : root ≡ root_at m0 tree v = c.in_ok-root.ensures.root tells in
+    let w0 = subst (λ (m : PageMap). IsWholeFromRoot m root key v) read.map (c.in_ok-top-2.ensures.whole (read.tells ∙ tells)) in
+    record {
+      to_root = root_found tree m0 v (c.in_ok-root.ensures.whole tells) (λ none. c.if-root-eq0.false (root_is ∙ none));
+      nodes = subst (λ (r : ℕ). IsWholeFromRoot m0 r key v) root_is w0;
+    }
 
 pub returns-clause-closed : goal.returns-clause-closed
 returns-clause-closed g c = λ tells.

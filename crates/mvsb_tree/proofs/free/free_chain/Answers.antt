@@ -1,10 +1,11 @@
-use Rattle.std.proofs.Common.{◌+◌, ◌-◌, ◌<◌, ℕ, IsSome, Err, rules, arith, sym, subst, refl, ap, ◌∙◌}
+use Rattle.std.proofs.Common.{◌≡◌, ◌+◌, ◌-◌, ◌<◌, ℕ, IsSome, Err, rules, arith, sym, subst, refl, ap, ◌∙◌}
 use Rattle.std.proofs.lemmas.Result.{err_from_is_err_and}
 use Rattle.page_ports.specs.Pages.{PageMap}
 use Rattle.page_layout.specs.MvNode.{mv_node_page}
 use Rattle.page_layout.specs.declared.mv_node.MvNode.{MvNode}
+use Rattle.mvsb_tree.specs.Damage.{IsDamagedInChain}
 use Rattle.mvsb_tree.specs.Steps.{chain_from, node_on}
-use Rattle.mvsb_tree.proofs.Chains.{back_more, chain_all, chain_undamaged, damaged_back, damaged_misplaced, damaged_missing, free_step, left_there}
+use Rattle.mvsb_tree.proofs.Chains.{back_more, chain_all, chain_undamaged, damaged_back, damaged_misplaced, damaged_missing, damaged_only_back, free_step, left_there}
 use Rattle.mvsb_tree.proofs.Exits.{err_same_staged, read_damaged}
 use Rattle.mvsb_tree.proofs.Nodes.{node_on-spelled}
 use Rattle.mvsb_tree.proofs.free.free_chain.Goals as goal
@@ -64,5 +65,14 @@ loop-passed-preserved g c =
           let there = left_there (chain_from i m0 last) m0 mi page (mv_node_page node) (c.loop-passed.invariant.freed tells) (c.in_ok-node.ensures.found (search rules)) in
           c.loop-passed.invariant.damage tells p (damaged_back m0 (c.args.places - i) (c.args.places - (i + 1)) page p node
           (omega (arith, c.loop-passed-test.true)) (omega (arith, c.loop-passed-test.true)) there.1 spells.rules spells.typed c.if-node-places.false d);
+      whole = λ tells p d.
+          let there = left_there (chain_from i m0 last) m0 mi page (mv_node_page node) (c.loop-passed.invariant.freed tells) (c.in_ok-node.ensures.found (search rules)) in
+          damaged_only_back m0 (c.args.places - i) (c.args.places - (i + 1)) page p node
+          (omega (arith, c.loop-passed-test.true)) there.1 spells.rules spells.typed c.if-node-places.false (c.loop-passed.invariant.whole tells p d);
       went_on = search rules;
     }
+
+pub returns-clause-whole : goal.returns-clause-whole
+returns-clause-whole g c = λ tells p d.
+    let none : c.args.places - c.loop-passed.passed ≡ 0 = omega (arith, c.loop-passed-test.false) in
+    subst (λ (l : ℕ). IsDamagedInChain (g.S.Pages.map c.args.stage.now) l c.loop-passed.page p) none (c.loop-passed.invariant.whole tells p d)

@@ -15,5 +15,7 @@ invariant-loop-passed g l = record {
       → l.places - l.passed < (node_on (g.S.Pages.map l.fn.stage) q).place;
   damage : IsTrue (g.S.Pages.tells l.fn.stage) → (p : ℕ) → IsDamagedInChain (g.S.Pages.map l.fn.stage) (l.places - l.passed) l.page p
       → IsDamagedInChain (g.S.Pages.map l.fn.stage) l.places l.last p;
+  whole : IsTrue (g.S.Pages.tells l.fn.stage) → (p : ℕ) → IsDamagedInChain (g.S.Pages.map l.fn.stage) l.places l.last p
+      → IsDamagedInChain (g.S.Pages.map l.fn.stage) (l.places - l.passed) l.page p;
   went_on : WentOn g.S.Pages 0 l.fn.stage l.stage;
 }

@@ -220,6 +220,24 @@ returns-clause-directories g c = IfOk-weaker c.top_of.result _ _ (λ top is_top 
     directories.keeps_both m0 m1 (g.S.Pages.map c.top_of.new.stage) first
     (directories.top_keeps m1 (g.S.Pages.map c.top_of.new.stage) c.args.root c.read_node.new.node.level c.args.version c.in_ok-replaced.replaced c.add_on.new.last c.top_of.new.last top (is_top (search rules)))) c.top_of.ensures.top
 
+pub returns-clause-whole : goal.returns-clause-whole
+returns-clause-whole g c = IfOk-weaker c.top_of.result _ _ (λ top is_top tells.
+    let m0 : PageMap = g.S.Pages.map c.args.stage.now in
+    let root = c.args.root in
+    let v = c.args.version in
+    let key = c.args.key in
+    let node = c.read_node.new.node in
+    let spells = (spells_as _ _ c.read_node.ensures c.in_ok-view.ensures.spells) in
+    let there = found_as m0 root _ _ c.read_node.ensures (c.in_ok-view.ensures.found tells) in
+    let some : root ≢ 0 = λ none. omega (arith, none, c.if-root-lt3.false) in
+    let place = c.root_place-place.result in
+    let read = c.view_page.ensures.reads.read in
+    let inside : IsInPlace node.level (root_place key v) node = subst (λ (q : Place). IsInPlace node.level q node) c.root_place-place.ensures (c.admits.ensures.0 c.if-not-admits.false) in
+    let can : IsChangeable v node.entries.items = c.is_changeable.ensures.0 c.if-not-is_changeable.false in
+    let w0 : IsWholePast (g.S.Pages.map c.view_page.new.pages) place node = c.in_ok-replaced.ensures.whole (read.tells ∙ tells) in
+    let below = subst (λ (q : Place). IsWholePast m0 q node) c.root_place-place.ensures (subst (λ (m : PageMap). IsWholePast m place node) read.map w0) in
+    whole_root m0 root key v node some spells.typed spells.rules there inside can below) c.top_of.ensures.top
+
 pub returns-clause-damaged : goal.returns-clause-damaged
 returns-clause-damaged g c = λ p e tells. (
     let m0 : PageMap = g.S.Pages.map c.args.stage.now in

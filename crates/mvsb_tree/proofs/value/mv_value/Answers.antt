@@ -1,10 +1,10 @@
-use Rattle.std.proofs.Common.{◌≡◌, ◌≤◌, ℕ, Err, arith, sym, subst, ap, ◌∙◌}
+use Rattle.std.proofs.Common.{◌≡◌, ◌≤◌, ℕ, Err, inr, arith, sym, subst, ap, ◌∙◌}
 use Rattle.std.proofs.lemmas.Result.{err_from_is_err_and}
 use Rattle.bw_types.specs.Heights.{digit_count}
 use Rattle.page_ports.specs.Pages.{PageMap}
 use Rattle.page_ports.specs.declared.page.PageFault.TheVariants.{Damaged}
 use Rattle.mvsb_tree.specs.declared.place.Place.{Place}
-use Rattle.mvsb_tree.specs.Damage.{IsDamagedFromRoot}
+use Rattle.mvsb_tree.specs.Damage.{IsDamagedFromRoot, root_place}
 use Rattle.mvsb_tree.specs.Stands.{RootStands}
 use Rattle.mvsb_tree.specs.Steps.{node_pages, root_at, root_level}
 use Rattle.mvsb_tree.proofs.Costs.{directory_cost, root_named, root_place_same}
@@ -40,6 +40,17 @@ returns-clause-sound g c = λ points page tells s e.
     let there = subst (λ (n : PageMap). RootStands n nodes root v key) (sym c.root_at.ensures.reads.read.map) at_root in
     let placed = subst (λ (q : Place). RootStands (g.P.Pages.map c.root_at.new.pages) nodes root q.version q.key) (sym c.root_place.ensures) there in
     c.value_from.ensures.sound nodes page (c.root_at.ensures.reads.read.tells ∙ tells) (root_place_same c.root_place.result key v c.root_place.ensures) placed e
+
+pub returns-clause-damaged : goal.returns-clause-damaged
+returns-clause-damaged g c = λ page e tells.
+    let m : PageMap = g.P.Pages.map c.args.pages.now in
+    let root = c.in_ok-root.root in
+    let root_is = c.in_ok-root.ensures.root tells in
+    let d0 = c.value_from.ensures.damaged page e (c.root_at.ensures.reads.read.tells ∙ tells) in
+    let d1 = subst (λ (n : PageMap). IsDamagedFromRoot n root c.root_place.result page) c.root_at.ensures.reads.read.map d0 in
+    let d2 = subst (λ (q : Place). IsDamagedFromRoot m root q page) c.root_place.ensures d1 in
+    let d3 = subst (λ (r : ℕ). IsDamagedFromRoot m r (root_place c.args.key c.args.version) page) root_is d2 in
+    inr (c.in_ok-root.ensures.whole tells, (λ none. c.if-root-eq0.false (root_is ∙ none)), d3)
 
 pub returns-clause-cost : goal.returns-clause-cost
 returns-clause-cost g c = λ points tells s b.
