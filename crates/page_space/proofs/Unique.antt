@@ -9,7 +9,7 @@ use Rattle.page_layout.specs.Super as superblock
 use Rattle.page_layout.specs.Meta.{IsMeta, IsTyped, meta_page}
 use Rattle.page_layout.specs.declared.super_page.Super.{Super}
 use Rattle.page_layout.specs.declared.meta.Meta.{Meta}
-use Rattle.redo_journal.specs.Settled.{HoldsOrBreaks, SettlesToOne}
+use Rattle.redo_journal.specs.Settled.{NeverHoldsAndBreaks, SettlesToOne}
 use Rattle.page_space.specs.Opening.{IsDamagedAt}
 use Rattle.page_space.specs.Space.{IsSpace}
 use Rattle.page_space.specs.Laws.{HeldOpens, HoldsOne, HoldsOrder}
@@ -42,7 +42,7 @@ not_damaged supers pages params meta map page space (inr roots) =
     roots.1.1.1 meta space.roots space.there (rw (ap (λ (s : Super). s.params) same) space.few)
 
 -- Of a disk that holds a space nothing is amiss.
-pub held_opens : SettlesToOne → HoldsOrBreaks → SupersDiffer → HeldOpens
+pub held_opens : SettlesToOne → NeverHoldsAndBreaks → SupersDiffer → HeldOpens
 held_opens one apart supers x params meta map h = record {
   not_empty = h.settled.made;
   not_bad = λ page bad. grind (arith, nat_tests, h.settled, apart);

@@ -5,6 +5,7 @@ pub mod Common
 pub mod GateLemmas
 pub mod GroupLemmas
 pub mod ImageLemmas
+pub mod LengthLemmas
 pub mod PlacingLemmas
 pub mod ReplayLemmas
 pub mod RestLemmas

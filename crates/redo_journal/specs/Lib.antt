@@ -3,6 +3,7 @@ pub mod Committing
 pub mod Gates
 pub mod Groups
 pub mod Images
+pub mod Lengths
 pub mod Pending
 pub mod Phases
 pub mod Placing

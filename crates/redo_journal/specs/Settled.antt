@@ -5,6 +5,7 @@ use Rattle.redo_journal.specs.Gates.{is_open, is_empty, gate_of}
 use Rattle.redo_journal.specs.declared.gate.Gate.TheVariants.{Idle, Armed}
 use Rattle.redo_journal.specs.Placing.{ImageList, map_of, ArePlaced}
 use Rattle.redo_journal.specs.Groups.{HoldsImages, BreaksRulesAt}
+use Rattle.redo_journal.specs.Pending.{SameBody}
 
 -- The journal holds images, and with them in their places the Pages area is this one.
 pub record HoldsPages (x : Image) (pages : PageList) : Type 0 where
@@ -32,8 +33,8 @@ abbrev pub ArmedSettles : Type 0
 ArmedSettles = (x : Image) (images : ImageList) → gate_of x ≡ Armed → HoldsImages x images → (pages : PageList) × SettlesTo x pages
 
 -- No journal both holds images and breaks its rules.
-abbrev pub HoldsOrBreaks : Type 0
-HoldsOrBreaks = (x : Image) (images : ImageList) (page : ℕ) → HoldsImages x images → BreaksRulesAt x page → ⊥
+abbrev pub NeverHoldsAndBreaks : Type 0
+NeverHoldsAndBreaks = (x : Image) (images : ImageList) (page : ℕ) → HoldsImages x images → BreaksRulesAt x page → ⊥
 
 -- A journal first breaks its rules at one page.
 abbrev pub BreaksAtOne : Type 0
@@ -45,4 +46,6 @@ pub record IsReplayed (old : Image) (count : ℕ) (new : Image) : Type 0 where
   pub held : HoldsImages old images
   pub all : count ≡ length images
   pub placed : ArePlaced (map_of images) old.pages new.pages
+  -- What stands behind the gate stays.
+  pub behind : SameBody old.journal new.journal
   pub idle : gate_of new ≡ Idle

@@ -1,5 +1,5 @@
 //! A commit: all images or none.
-ghost use Rattle.std.specs.Prelude.{◌≡◌, ◌⊎◌, ◌≤◌, ◌+◌, ◌-◌, ◌<◌, ◌^◌, ℕ, false, IsTrue, IsSome, OnOk, length, take, drop};
+ghost use Rattle.std.specs.Prelude.{◌≡◌, ◌⊎◌, ◌≤◌, ◌+◌, ◌-◌, ◌<◌, ◌^◌, ℕ, false, IsTrue, IsSome, OnOk, length, max, take, drop};
 ghost use Rattle.page_layout.specs.Head.{IsTyped};
 ghost use Rattle.page_disk.specs.Calls.{Writes, any_error};
 ghost use Rattle.page_disk.specs.Image.{Image, PageList};
@@ -8,7 +8,8 @@ ghost use Rattle.redo_journal.specs.Committing.{BeforeOrAfter, HasGate, IsArmed,
 ghost use Rattle.redo_journal.specs.Gates.{gate_of};
 ghost use Rattle.redo_journal.specs.declared.gate.Gate.TheVariants.{Idle};
 ghost use Rattle.redo_journal.specs.Images.{coming, image_list, image_map};
-ghost use Rattle.redo_journal.specs.Pending.{AtNewest, BodyPends, IsInPlacing, KeepsGate};
+ghost use Rattle.redo_journal.specs.Lengths.{journal_length};
+ghost use Rattle.redo_journal.specs.Pending.{AtNewest, BodyPends, IsInPlacing, KeepsGate, SameBody};
 ghost use Rattle.redo_journal.specs.Placing.{ArePlaced, AreInReach, AreWritable, Ascend, bytes_of, homes_of, map_of, with_images, with_row};
 ghost use Rattle.redo_journal.specs.Groups.{HoldsGroups, homes_in};
 ghost use Rattle.redo_journal.specs.Settled.{SettlesTo};
@@ -74,6 +75,8 @@ fn write_groups<D: Disk>(disk: &mut D, images: &Images) -> Result<(), Failed>
     ensures held { OnOk result (IsTrue (D.tells disk.old) → (len : ℕ) → AreInReach len 0 (homes_of (image_list images.now))
         → 0 < length (image_list images.now) → HoldsGroups len (D.image disk.new).journal 1 0 (image_list images.now)) }
     ensures kept { OnOk result (IsTrue (D.tells disk.old) → KeepsGate (D.image disk.old) (D.image disk.new)) }
+    ensures length { OnOk result (IsTrue (D.tells disk.old) → length (D.image disk.new).journal
+        ≡ max (length (D.image disk.old).journal) (journal_length (length (image_list images.now)))) }
     ensures pends { (start : Image) → AtNewest (BodyPends start) (D.moments disk.old)
         → LeavesOnly (KeepsGate start) (D.moments disk.old) (D.moments disk.new) × AtNewest (BodyPends start) (D.moments disk.new) }
     ensures writes { Writes D.Disk any_error 0 disk.old disk.new result }
@@ -104,6 +107,8 @@ fn write_body<D: Disk>(disk: &mut D, images: &Images) -> Result<(), Failed>
     requires settled { LeavesNow (D.moments disk.old) (D.image disk.old) }
     ensures held { OnOk result (IsTrue (D.tells disk.old) → IsHeld (image_list images.now) (D.image disk.new)) }
     ensures kept { OnOk result (IsTrue (D.tells disk.old) → KeepsGate (D.image disk.old) (D.image disk.new)) }
+    ensures length { OnOk result (IsTrue (D.tells disk.old) → length (D.image disk.new).journal
+        ≡ max (length (D.image disk.old).journal) (journal_length (length (image_list images.now)))) }
     ensures settled { OnOk result (LeavesNow (D.moments disk.new) (D.image disk.new)) }
     ensures any_moment { LeavesOnly (KeepsGate (D.image disk.old)) (D.moments disk.old) (D.moments disk.new) }
     ensures writes { Writes D.Disk any_error 0 disk.old disk.new result }
@@ -147,6 +152,8 @@ fn arm<D: Disk>(disk: &mut D, images: &Images) -> Result<(), Failed>
     requires settled { LeavesNow (D.moments disk.old) (D.image disk.old) }
     ensures armed { OnOk result (IsTrue (D.tells disk.old) → IsArmed (image_list images.now) (D.image disk.new)) }
     ensures pages { OnOk result (IsTrue (D.tells disk.old) → (D.image disk.new).pages ≡ (D.image disk.old).pages) }
+    ensures length { OnOk result (IsTrue (D.tells disk.old) → length (D.image disk.new).journal
+        ≡ max (length (D.image disk.old).journal) (journal_length (length (image_list images.now)))) }
     ensures settled { OnOk result (LeavesNow (D.moments disk.new) (D.image disk.new)) }
     ensures any_moment { (after : PageList) → ArePlaced (map_of (image_list images.now)) (D.image disk.old).pages after
         → LeavesOnly (BeforeOrAfter (D.image disk.old).pages after) (D.moments disk.old) (D.moments disk.new) }
@@ -163,6 +170,7 @@ fn bring_home<D: Disk>(disk: &mut D, images: &Images) -> Result<(), Failed>
     ensures placed { OnOk result (IsTrue (D.tells disk.old)
         → ArePlaced (map_of (image_list images.now)) (D.image disk.old).pages (D.image disk.new).pages) }
     ensures idle { OnOk result (IsTrue (D.tells disk.old) → gate_of (D.image disk.new) ≡ Idle) }
+    ensures body { OnOk result (IsTrue (D.tells disk.old) → SameBody (D.image disk.old).journal (D.image disk.new).journal) }
     ensures settled { OnOk result (LeavesNow (D.moments disk.new) (D.image disk.new)) }
     ensures any_moment { (after : PageList) → ArePlaced (map_of (image_list images.now)) (D.image disk.old).pages after
         → LeavesOnly (λ x. SettlesTo x after) (D.moments disk.old) (D.moments disk.new) }
@@ -187,6 +195,9 @@ pub fn commit<D: Disk>(disk: &mut D, images: &Images) -> Result<(), Failed>
     ensures placed { OnOk result (IsTrue (D.tells disk.old)
         → ArePlaced (image_map images.now) (D.image disk.old).pages (D.image disk.new).pages) }
     ensures idle { OnOk result (IsTrue (D.tells disk.old) → gate_of (D.image disk.new) ≡ Idle) }
+    // The journal grows no longer than its images need.
+    ensures journal { OnOk result (IsTrue (D.tells disk.old) → length (D.image disk.new).journal
+        ≡ max (length (D.image disk.old).journal) (journal_length (length (image_list images.now)))) }
     ensures settled { OnOk result (LeavesNow (D.moments disk.new) (D.image disk.new)) }
     ensures any_moment { (after : PageList) → ArePlaced (image_map images.now) (D.image disk.old).pages after
         → LeavesOnly (λ x. SettlesTo x (D.image disk.old).pages ⊎ SettlesTo x after) (D.moments disk.old) (D.moments disk.new) }

@@ -1,5 +1,5 @@
 //! A new warehouse on an empty disk.
-ghost use Rattle.std.specs.Prelude.{◌≡◌, ◌⊎◌, ◌≤◌, ℕ, List, true, false, length, IsTrue, OnOk};
+ghost use Rattle.std.specs.Prelude.{◌≡◌, ◌⊎◌, ◌≤◌, ℕ, List, true, false, length, max, IsTrue, OnOk};
 ghost use Rattle.page_disk.specs.Calls.{Writes, any_error};
 ghost use Rattle.page_disk.specs.Image.{page_at};
 ghost use Rattle.page_disk.specs.Since.{LeavesNow, LeavesOnly};
@@ -15,6 +15,7 @@ fn close_journal<D: Disk>(disk: &mut D) -> Result<(), Failed>
     requires empty { IsTrue (D.tells disk.old) → is_empty (D.image disk.old) ≡ true }
     requires settled { SettledAt (D.moments disk.old) (D.image disk.old) }
     ensures idle { OnOk result (IsTrue (D.tells disk.old) → HasIdleJournal (D.image disk.new)) }
+    ensures length { OnOk result (IsTrue (D.tells disk.old) → length (D.image disk.new).journal ≡ max 1 (length (D.image disk.old).journal)) }
     ensures pages { OnOk result (IsTrue (D.tells disk.old) → (D.image disk.new).pages ≡ (D.image disk.old).pages) }
     ensures settled { OnOk result (SettledAt (D.moments disk.new) (D.image disk.new)) }
     ensures any_moment { LeavesOnly (λ x. is_empty x ≡ true) (D.moments disk.old) (D.moments disk.new) }
@@ -30,6 +31,7 @@ fn close_pages<D: Disk>(disk: &mut D) -> Result<(), Failed>
     requires empty { IsTrue (D.tells disk.old) → is_empty (D.image disk.old) ≡ true }
     requires settled { SettledAt (D.moments disk.old) (D.image disk.old) }
     ensures shut { OnOk result (IsTrue (D.tells disk.old) → IsShut (D.image disk.new)) }
+    ensures length { OnOk result (IsTrue (D.tells disk.old) → length (D.image disk.new).pages ≡ max 1 (length (D.image disk.old).pages)) }
     ensures journal { OnOk result (IsTrue (D.tells disk.old) → (D.image disk.new).journal ≡ (D.image disk.old).journal) }
     ensures settled { OnOk result (SettledAt (D.moments disk.new) (D.image disk.new)) }
     ensures any_moment { LeavesOnly (λ x. is_empty x ≡ true) (D.moments disk.old) (D.moments disk.new) }
@@ -47,6 +49,7 @@ fn write_roots<D: Disk>(disk: &mut D, superblock: &Page, meta: &Page) -> Result<
     requires shut { IsTrue (D.tells disk.old) → IsShut (D.image disk.old) }
     requires settled { SettledAt (D.moments disk.old) (D.image disk.old) }
     ensures written { OnOk result (IsTrue (D.tells disk.old) → IsWritten superblock.now meta.now (D.image disk.new)) }
+    ensures length { OnOk result (IsTrue (D.tells disk.old) → length (D.image disk.new).pages ≡ max 3 (length (D.image disk.old).pages)) }
     ensures journal { OnOk result (IsTrue (D.tells disk.old) → (D.image disk.new).journal ≡ (D.image disk.old).journal) }
     ensures settled { OnOk result (SettledAt (D.moments disk.new) (D.image disk.new)) }
     ensures any_moment { LeavesOnly (λ x. is_empty x ≡ true) (D.moments disk.old) (D.moments disk.new) }
@@ -62,6 +65,8 @@ fn prepare<D: Disk>(disk: &mut D, superblock: &Page, meta: &Page) -> Result<(), 
     requires blank { IsTrue (D.tells disk.old) → is_empty (D.image disk.old) ≡ true }
     ensures written { OnOk result (IsTrue (D.tells disk.old) → IsWritten superblock.now meta.now (D.image disk.new)) }
     ensures idle { OnOk result (IsTrue (D.tells disk.old) → HasIdleJournal (D.image disk.new)) }
+    ensures lengths { OnOk result (IsTrue (D.tells disk.old) → (length (D.image disk.new).pages ≡ max 3 (length (D.image disk.old).pages))
+        × (length (D.image disk.new).journal ≡ max 1 (length (D.image disk.old).journal))) }
     ensures settled { OnOk result (SettledAt (D.moments disk.new) (D.image disk.new)) }
     ensures any_moment { LeavesOnly (λ x. is_empty x ≡ true) (D.moments disk.old) (D.moments disk.new) }
     ensures writes { Writes D.Disk any_error 0 disk.old disk.new result }
@@ -80,6 +85,8 @@ fn open_creation<D: Disk>(disk: &mut D) -> Result<(), Failed>
     requires settled { SettledAt (D.moments disk.old) (D.image disk.old) }
     ensures created { OnOk result (IsTrue (D.tells disk.old) → (superblock : List ℕ) → (meta : List ℕ)
         → IsWritten superblock meta (D.image disk.old) → IsCreated superblock meta (D.image disk.new)) }
+    ensures length { OnOk result (IsTrue (D.tells disk.old) → length (D.image disk.new).pages ≡ length (D.image disk.old).pages) }
+    ensures journal { OnOk result (IsTrue (D.tells disk.old) → (D.image disk.new).journal ≡ (D.image disk.old).journal) }
     ensures settled { OnOk result (LeavesNow (D.moments disk.new) (D.image disk.new)) }
     ensures any_moment { (superblock : List ℕ) → (meta : List ℕ) → (IsTrue (D.tells disk.old) → IsWritten superblock meta (D.image disk.old))
         → LeavesOnly (IsEmptyOrCreated superblock meta) (D.moments disk.old) (D.moments disk.new) }
@@ -97,6 +104,9 @@ pub fn create<D: Disk>(disk: &mut D, superblock: &Page, meta: &Page) -> Result<(
     requires blank { IsTrue (D.tells disk.old) → is_empty (D.image disk.old) ≡ true }
     requires settled { LeavesNow (D.moments disk.old) (D.image disk.old) }
     ensures created { OnOk result (IsTrue (D.tells disk.old) → IsCreated superblock.now meta.now (D.image disk.new)) }
+    // Neither area grows further than the new pages need.
+    ensures lengths { OnOk result (IsTrue (D.tells disk.old) → (length (D.image disk.new).pages ≡ max 3 (length (D.image disk.old).pages))
+        × (length (D.image disk.new).journal ≡ max 1 (length (D.image disk.old).journal))) }
     ensures settled { OnOk result (LeavesNow (D.moments disk.new) (D.image disk.new)) }
     ensures any_moment { LeavesOnly (IsEmptyOrCreated superblock.now meta.now) (D.moments disk.old) (D.moments disk.new) }
     ensures writes { Writes D.Disk any_error 0 disk.old disk.new result }

@@ -1,5 +1,5 @@
 //! What follows of the pages that a disk stands for.
-ghost use Rattle.redo_journal.specs.Settled.{ArmedSettles, BreaksAtOne, HoldsOrBreaks, IdleSettles, SettlesToOne};
+ghost use Rattle.redo_journal.specs.Settled.{ArmedSettles, BreaksAtOne, IdleSettles, NeverHoldsAndBreaks, SettlesToOne};
 
 use page_layout::{JournalHead, Spelled};
 
@@ -12,7 +12,7 @@ pub fn settling_laws()
     // A disk whose open journal holds images stands for some pages.
     ensures armed { ArmedSettles }
     // No journal both holds images and breaks its rules.
-    ensures apart { HoldsOrBreaks }
+    ensures apart { NeverHoldsAndBreaks }
     // A journal first breaks its rules at one page.
     ensures first { BreaksAtOne }
 {

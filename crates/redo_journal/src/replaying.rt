@@ -10,7 +10,7 @@ ghost use Rattle.page_disk.specs.Since.{LeavesNow, LeavesOnly};
 ghost use Rattle.redo_journal.specs.Committing.{HasGate};
 ghost use Rattle.redo_journal.specs.Gates.{gate_of};
 ghost use Rattle.redo_journal.specs.declared.gate.Gate.TheVariants.{Armed, Idle};
-ghost use Rattle.redo_journal.specs.Pending.{AtNewest, HomesPend, IsInPlacing};
+ghost use Rattle.redo_journal.specs.Pending.{AtNewest, HomesPend, IsInPlacing, SameBody};
 ghost use Rattle.redo_journal.specs.Placing.{AreInReach, ArePlaced, AreWritable, ImageList, map_of, with_images};
 ghost use Rattle.redo_journal.specs.Groups.{BreaksAt, BreaksRulesAt, HeadAt, HoldsGroups, HoldsImages, group_at, homes_in, images_at, last_of};
 ghost use Rattle.redo_journal.specs.Settled.{IsReplayed, SettlesTo};
@@ -240,6 +240,7 @@ fn bring_back<D: Disk>(disk: &mut D, len: u64, end: u64) -> Result<(), JournalFa
     requires settled { LeavesNow (D.moments disk.old) (D.image disk.old) }
     ensures placed { OnOk result (IsTrue (D.tells disk.old) → (all : ImageList) → HoldsImages (D.image disk.old) all
         → ArePlaced (map_of all) (D.image disk.old).pages (D.image disk.new).pages × (gate_of (D.image disk.new) ≡ Idle)) }
+    ensures body { OnOk result (IsTrue (D.tells disk.old) → SameBody (D.image disk.old).journal (D.image disk.new).journal) }
     ensures settled { OnOk result (LeavesNow (D.moments disk.new) (D.image disk.new)) }
     ensures any_moment { (pages : PageList) → SettlesTo (D.image disk.old) pages
         → LeavesOnly (λ x. SettlesTo x pages) (D.moments disk.old) (D.moments disk.new) }

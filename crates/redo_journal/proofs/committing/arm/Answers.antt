@@ -1,4 +1,4 @@
-use Rattle.redo_journal.proofs.Common.{◌∙◌}
+use Rattle.redo_journal.proofs.Common.{◌∙◌, on_ok_weaker}
 use Rattle.redo_journal.proofs.CallLemmas.{by_telling, on_both}
 use Rattle.redo_journal.proofs.CommitLemmas.{arm_stretch, armed_after_gate, body_stretch}
 use Rattle.redo_journal.proofs.committing.arm.Goals as goal
@@ -18,3 +18,7 @@ returns-clause-armed g c =
     on_both c.write_gate.result (λ only gate h.
     let told = c.write_body.ensures.writes.tells ∙ h in
     armed_after_gate (c.in_ok-write_body.ensures.held h) (only told) (gate told)) c.write_gate.ensures.only c.write_gate.ensures.gate
+
+pub returns-clause-length : goal.returns-clause-length
+returns-clause-length g c =
+    on_ok_weaker c.write_gate.result (λ only h. (only (c.write_body.ensures.writes.tells ∙ h)).body.len ∙ c.in_ok-write_body.ensures.length h) c.write_gate.ensures.only

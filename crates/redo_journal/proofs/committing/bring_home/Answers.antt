@@ -1,4 +1,4 @@
-use Rattle.redo_journal.proofs.Common.{◌∙◌, on_ok_weaker}
+use Rattle.redo_journal.proofs.Common.{◌∙◌, subst, on_ok_weaker, SameBody}
 use Rattle.redo_journal.proofs.CallLemmas.{by_telling, on_both}
 use Rattle.redo_journal.proofs.CommitLemmas.{armed_writable, home_stretch, homes_stretch, brought_home, idle_again}
 use Rattle.redo_journal.proofs.committing.bring_home.Goals as goal
@@ -28,3 +28,9 @@ returns-clause-idle g c =
     let told = c.write_homes.ensures.writes.tells ∙ h in
     idle_again _ (c.requires.armed h) (c.in_ok-write_homes.ensures.placed h) (c.in_ok-write_homes.ensures.journal h) (only told) (gate told))
     c.write_gate.ensures.only c.write_gate.ensures.gate
+
+pub returns-clause-body : goal.returns-clause-body
+returns-clause-body g c =
+    on_ok_weaker c.write_gate.result (λ only h.
+    subst (λ j. SameBody j (g.D.Disk.image c.write_gate.new.disk).journal) (c.in_ok-write_homes.ensures.journal h)
+    (only (c.write_homes.ensures.writes.tells ∙ h)).body) c.write_gate.ensures.only

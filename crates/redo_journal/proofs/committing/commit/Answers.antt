@@ -33,3 +33,7 @@ returns-in_err-arm-clause-placeable g c = λ h. images_placed c.args.images.now 
 
 pub returns-clause-placeable : goal.returns-clause-placeable
 returns-clause-placeable g c = λ h. images_placed c.args.images.now (g.D.Disk.image c.args.disk.now) (c.requires.idle h) c.are_ordered.ensures (c.requires.near h)
+
+pub returns-clause-journal : goal.returns-clause-journal
+returns-clause-journal g c =
+    on_ok_weaker c.bring_home.result (λ body h. (body (c.arm.ensures.writes.tells ∙ h)).len ∙ c.in_ok-arm.ensures.length h) c.bring_home.ensures.body

@@ -1,4 +1,4 @@
-use Rattle.redo_journal.proofs.Common.{sym, subst, on_ok_weaker, IsHeld, image_list}
+use Rattle.redo_journal.proofs.Common.{◌∙◌, ap, sym, subst, length, on_ok_weaker, Image, IsHeld, image_list}
 use Rattle.redo_journal.proofs.CallLemmas.{on_either}
 use Rattle.redo_journal.proofs.CommitLemmas.{held_after_body}
 use Rattle.redo_journal.proofs.RestLemmas.{settled_by, body_starts, body_leaves, synced_stretch}
@@ -22,3 +22,7 @@ returns-clause-held g c =
     on_ok_weaker c.sync.result (λ landed h. subst (IsHeld (image_list c.args.images.now)) (sym c.sync.ensures.image)
     (held_after_body (c.requires.idle h) (c.in_ok-write_groups.ensures.kept h)
     (c.in_ok-write_groups.ensures.held h _ (c.requires.reach h) c.requires.some))) c.sync.ensures.ok
+
+pub returns-clause-length : goal.returns-clause-length
+returns-clause-length g c =
+    on_ok_weaker c.sync.result (λ landed h. ap (λ (x : Image). length x.journal) c.sync.ensures.image ∙ c.in_ok-write_groups.ensures.length h) c.sync.ensures.ok

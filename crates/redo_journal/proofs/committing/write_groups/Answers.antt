@@ -2,6 +2,7 @@ use Rattle.redo_journal.proofs.Common.{ℕ, ◌<◌, ◌≤◌, ◌∷◌, ◌�
 use Rattle.redo_journal.proofs.RestLemmas.{body_goes_on}
 use Rattle.redo_journal.proofs.BodyLemmas.{groups_step, groups_done, length-homes, length-bytes, length-row, more_left, head_is, row_of, kept_row}
 use Rattle.redo_journal.proofs.CallLemmas.{went_on}
+use Rattle.redo_journal.proofs.LengthLemmas.{one_more}
 use Rattle.redo_journal.proofs.committing.write_groups.Goals as goal
 
 pub next_head-head-requires-clause-there : goal.next_head-head-requires-clause-there
@@ -46,11 +47,13 @@ loop-left-preserved g c =
       count = omega arith;
       named = c.next_head-head.ensures.rest ∙ (ap (drop count) inv.named ∙ sym dropped);
       behind = omega arith;
+      counted = omega (arith, one_more c.loop-left.left count (omega arith) (c.min-count.ensures), inv.counted);
       far = omega arith;
       groups = groups_step inv.groups count some fits is inv.room row dropped;
       room = λ h.
           let within = inv.room h in
           omega (arith, length-row old.journal c.loop-left.at written within, ap length (row h), length-bytes (take count rest), length-take count rest);
+      longest = λ h. omega (arith, length-row old.journal c.loop-left.at written (inv.room h), ap length (row h), length-bytes (take count rest), length-take count rest, inv.longest h);
       kept = λ h. kept_row c.loop-left.at written (inv.kept h) inv.behind (inv.room h)
           (c.in_ok-write_images.ensures.pages (told2 h) ∙ ap (λ (x : Image). x.pages) (c.in_ok-put_behind.ensures.image (told1 h))) (row h);
       pends = λ start at. body_goes_on (body_goes_on (inv.pends start at) (c.put_behind.ensures.pends start)) (c.write_images.ensures.pends start);
@@ -61,3 +64,8 @@ pub returns-clause-held : goal.returns-clause-held
 returns-clause-held g c = λ told len reach some.
     let inv = c.loop-left.invariant in
     groups_done inv.groups (omega (arith, c.loop-left-test.false)) told (inv.room told) some len reach
+
+pub returns-clause-length : goal.returns-clause-length
+returns-clause-length g c = λ told.
+    let inv = c.loop-left.invariant in
+    omega (arith, inv.counted, inv.longest told, c.loop-left-test.false)

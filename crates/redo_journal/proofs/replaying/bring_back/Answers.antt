@@ -1,4 +1,4 @@
-use Rattle.redo_journal.proofs.Common.{◌∙◌}
+use Rattle.redo_journal.proofs.Common.{◌∙◌, subst, SameBody}
 use Rattle.redo_journal.proofs.CallLemmas.{by_telling}
 use Rattle.redo_journal.proofs.CommitLemmas.{brought_home, home_stretch, homes_stretch, idle_again, armed_with, open_with}
 use Rattle.redo_journal.proofs.replaying.bring_back.Goals as goal
@@ -31,3 +31,8 @@ returns-clause-placed g c = λ h all holds.
       brought_home _ armed.0 pages (c.in_ok-write_gate.ensures.only told),
       idle_again _ armed.0 pages (c.in_ok-restore.ensures.journal h) (c.in_ok-write_gate.ensures.only told) (c.in_ok-write_gate.ensures.gate told),
     )
+
+pub returns-clause-body : goal.returns-clause-body
+returns-clause-body g c = λ h.
+    subst (λ j. SameBody j (g.D.Disk.image c.write_gate.new.disk).journal) (c.in_ok-restore.ensures.journal h)
+    (c.in_ok-write_gate.ensures.only (c.restore.ensures.writes.tells ∙ h)).body
