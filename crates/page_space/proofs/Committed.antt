@@ -1,9 +1,7 @@
 -- The space that a commit makes.
-use Rattle.std.proofs.Common.{◌≡◌, ℕ, ◌<◌, ◌≤◌, ◌+◌, ◌-◌, [], max, map, IsSome, arith, length, inl, inr}
-use Rattle.std.specs.Prelude.{is_some}
+use Rattle.std.proofs.Common.{◌≡◌, ℕ, ◌<◌, ◌≤◌, ◌-◌, [], max, map, IsSome, arith, length}
 use Rattle.std.specs.List.{range_with_len}
 use Rattle.std.proofs.lemmas.List.FromFn.{length-map-range_with_len, get_or-map-range_with_len}
-use Rattle.std.proofs.lemmas.Bool.{cases_Bool}
 use Rattle.bw_types.specs.declared.params.Params.{Params}
 use Rattle.bw_types.specs.Fits.{IsInRange}
 use Rattle.page_ports.specs.Pages.{PageMap}
@@ -56,7 +54,9 @@ laid images old n longer reached fresh =
 -- The images of a stage have such an area.
 pub some_placing : (images : PageMap) (old : PageList) (base most : ℕ) → base ≤ length old → AreFresh images base most → LieWithin images most
     → (new : PageList) × ArePlaced images old new
-some_placing images old base most there fresh within = elim (cases_Bool (is_some (images most))) [
-  | inl last ↦ laid images old (max (length old) (most + 1)) (omega arith) (λ p some. omega (arith, within p some)) (λ p low high. grind (arith, fresh p))
-  | inr none ↦ laid images old (max (length old) most) (omega arith) (λ p some. grind (arith, within p)) (λ p low high. fresh p (omega arith) (omega arith))
-]
+some_placing images old base most there fresh within =
+    laid images old (max (length old) most) (omega arith) (λ p some. omega (arith, within p some)) (λ p low high. fresh p (omega arith) (omega arith))
+
+-- The area reaches no further than the pages that are given out.
+pub no_further : (images : PageMap) (old new : PageList) (most : ℕ) → ArePlaced images old new → LieWithin images most → length new ≤ max (length old) most
+no_further images old new most placed within = grind (arith, placed.no_longer (length new - 1), within (length new - 1))

@@ -42,9 +42,9 @@ went g most old new tells base limit more at_most gets faults order forgotten = 
 pub changes_ok : {P T : Type 0} (g : Ghosts P) (most : ℕ) (old new : P) (value : T) → WentOn g most old new → Changes g most old new (Ok value)
 changes_ok g most old new value went_on = record { went_on = went_on; disk = λ e. absurd cc; page_limit = λ n e. absurd cc }
 
--- Images lie from the meta page on, up to this number.
+-- Images lie from the meta page on, below this number.
 abbrev pub LieWithin : PageMap → ℕ → Type 0
-LieWithin images most = (p : ℕ) → IsSome (images p) → (2 ≤ p) × (p ≤ most)
+LieWithin images most = (p : ℕ) → IsSome (images p) → (2 ≤ p) × (p < most)
 
 -- Each page that is given out since has an image.
 abbrev pub AreFresh : PageMap → ℕ → ℕ → Type 0
@@ -64,10 +64,15 @@ pub put_fresh : {T E : Type 0} (r : Result T E) (old new : PageMap) (page : ℕ)
 put_fresh r old new page bytes ok err base most fresh p low high = grind (arith, nat_tests, put_at r old new page bytes ok err p, fresh p low high)
 
 pub put_within : {T E : Type 0} (r : Result T E) (old new : PageMap) (page : ℕ) (bytes : List ℕ) → OnOk r (new ≡ put_page old page bytes) → OnErr r (new ≡ old)
-    → (most : ℕ) → 2 ≤ page → page ≤ most → LieWithin old most → LieWithin new most
+    → (most : ℕ) → 2 ≤ page → page < most → LieWithin old most → LieWithin new most
 put_within r old new page bytes ok err most low high within p some = grind (arith, nat_tests, put_at r old new page bytes ok err p, within p)
+
+-- Where nothing was put the images lie as before.
+pub err_within : {T E : Type 0} (r : Result T E) (old new : PageMap) → is_err r ≡ true → OnErr r (new ≡ old)
+    → (most : ℕ) → LieWithin old most → LieWithin new most
+err_within r old new fails err most within = rw (on_err r (new ≡ old) fails err) within
 
 -- The page that was put may be a new one.
 pub fresh_more : (old new : PageMap) (page : ℕ) (image : List ℕ) (base m n : ℕ) → new ≡ put_page old page image
-    → ((p : ℕ) → page ≢ p → p < n → p < m) → AreFresh new base m → AreFresh new base n
-fresh_more old new page image base m n put only fresh p low high = rw put (grind (arith, nat_tests, only p, rw put at (fresh p low)))
+    → ((p : ℕ) → page ≢ p → p < n → p < m) → AreFresh old base m → AreFresh new base n
+fresh_more old new page image base m n put only fresh p low high = rw put (grind (arith, nat_tests, only p, fresh p low))

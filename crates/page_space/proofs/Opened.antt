@@ -1,5 +1,5 @@
 -- A space that was opened.
-use Rattle.std.proofs.Common.{◌≡◌, ◌≢◌, IsTrue, arith}
+use Rattle.std.proofs.Common.{◌≡◌, ◌≢◌, IsTrue, arith, length}
 use Rattle.std.specs.Prelude.{Result, Ok, Err, IfOk, IfErr}
 use Rattle.page_disk.specs.declared.disk.Disk.{Ghosts}
 use Rattle.page_disk.specs.Image.{PageList, Image}
@@ -30,6 +30,12 @@ module _ {D : Type 0} {g : Ghosts D} where
       → IfOk r (λ space. told → SettlesTo x (g.image space.disk).pages)
   opened_settles (Ok s) disk x told image settles = rw image settles
   opened_settles (Err r) disk x told image settles = tt
+
+  pub opened_length : (r : Result (Space D g) (OpenRefused D)) (disk : D) (x : Image) (told : Type 0)
+      → g.image (opened_disk r) ≡ g.image disk → (told → length (g.image disk).journal ≡ length x.journal)
+      → IfOk r (λ space. told → length (g.image space.disk).journal ≡ length x.journal)
+  opened_length (Ok s) disk x told image same = rw image same
+  opened_length (Err r) disk x told image same = tt
 
   -- Both disks stand for the pages of the one in between, which is idle.
   pub opened_stands : (r : Result (Space D g) (OpenRefused D)) (disk : D) (x : Image) (told : Type 0) → SettlesToOne

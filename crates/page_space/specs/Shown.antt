@@ -5,8 +5,8 @@ use Rattle.page_ports.specs.Pages.{PageMap}
 use Rattle.page_disk.specs.declared.disk.Disk.{Ghosts}
 use Rattle.page_cache.specs.Cache.{kept_pages}
 use Rattle.page_layout.specs.declared.meta.Meta.{Meta}
-use Rattle.redo_journal.specs.Images.{image_map}
-use Rattle.redo_journal.specs.Placing.{placed_at}
+use Rattle.redo_journal.specs.Images.{image_list, image_map}
+use Rattle.redo_journal.specs.Placing.{ImageList, placed_at}
 use Rattle.page_space.specs.declared.space.Space.{Space}
 use Rattle.page_space.specs.declared.staged.Staged.{Staged}
 use Rattle.page_space.specs.Begun.{Begun, map_under, chain_under, OrderedUnder}
@@ -62,6 +62,10 @@ module _ {D : Type 0} {g : Ghosts D} where
   -- the meta page as it is to be
   abbrev pub staged_meta : Staged D g → Meta
   staged_meta staged = staged.meta
+
+  -- its images, which a commit writes
+  abbrev pub staged_images : Staged D g → ImageList
+  staged_images staged = image_list staged.images
 
   -- the bytes at each page: the image where there is one, and else as the disk has it
   abbrev pub staged_bytes : Staged D g → PageBytes

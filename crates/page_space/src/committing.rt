@@ -1,9 +1,10 @@
 //! A commit of a stage.
-ghost use Rattle.std.specs.Prelude.{◌≡◌, ◌⊎◌, ◌+◌, ◌≤◌, ◌<◌, ℕ, Ok, Err, IsTrue, IsSome, IfOk, OnOk, OnErr};
+ghost use Rattle.std.specs.Prelude.{◌≡◌, ◌⊎◌, ◌+◌, ◌≤◌, ◌<◌, ℕ, length, max, Ok, Err, IsTrue, IsSome, IfOk, OnOk, OnErr};
 ghost use Rattle.page_disk.specs.Calls.{Writes, any_error};
 ghost use Rattle.page_disk.specs.Since.{LeavesNow, LeavesOnly};
 ghost use Rattle.page_cache.specs.Cache.{capacity, kept_pages};
 ghost use Rattle.redo_journal.specs.Images.{image_map};
+ghost use Rattle.redo_journal.specs.Lengths.{journal_length};
 ghost use Rattle.page_space.specs.Renewed.{renewed_by};
 ghost use Rattle.page_space.specs.Space.{HoldsSpace};
 ghost use Rattle.page_space.specs.Begun.{map_under, OrderedUnder};
@@ -25,7 +26,7 @@ fn renew_all(cache: &mut Cache, images: &Images)
 }
 
 impl<D: Disk> Staged<D> {
-    ghost use Rattle.page_space.specs.Shown.{disk_of, params_of, meta_of, begun_of, map_of, chain_of, IsInOrder, base_of, disk_under, staged_meta, staged_map, staged_chain, IsStagedInOrder, IsMetaSet, disk_out};
+    ghost use Rattle.page_space.specs.Shown.{disk_of, params_of, meta_of, begun_of, map_of, chain_of, IsInOrder, base_of, disk_under, staged_images, staged_meta, staged_map, staged_chain, IsStagedInOrder, IsMetaSet, disk_out};
 
     /// Commits the changes: all of them, or none. `set_meta` has to be the last call that changed the
     /// stage.
@@ -41,6 +42,11 @@ impl<D: Disk> Staged<D> {
         ensures in_order { IfOk result (λ space. IsTrue (D.tells (disk_under self)) → IsStagedInOrder self → IsInOrder space) }
         ensures holds { IfOk result (λ space. IsTrue (D.tells (disk_under self))
             → HoldsSpace (D.image (disk_of space)) (params_of space) (meta_of space) (map_of space) (IsStagedInOrder self)) }
+        // Neither area grows further than the pages that are given out, and the images of this commit, need.
+        ensures lengths { IfOk result (λ space. IsTrue (D.tells (disk_under self))
+            → (length (D.image (disk_of space)).pages ≤ max (length (D.image (disk_under self)).pages) (staged_meta self).allotted)
+            × (length (D.image (disk_of space)).journal
+            ≤ max (length (D.image (disk_under self)).journal) (journal_length (length (staged_images self))))) }
         ensures settled { IfOk result (λ space. LeavesNow (D.moments (disk_of space)) (D.image (disk_of space))) }
         ensures any_moment { IsTrue (D.tells (disk_under self)) → LeavesOnly (λ x.
             HoldsSpace x (base_of self).params (base_of self).meta (map_under (base_of self)) (OrderedUnder (base_of self))

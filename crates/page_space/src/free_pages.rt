@@ -128,7 +128,7 @@ impl<D: Disk> Staged<D> {
         ensures changes { Changes ⟦<Staged<D> as Pages>⟧ 1 self.old self.new result }
     {
         let next = self.next_page()?;
-        if self.put_image(next.page, &blank_page()).is_err() {
+        if self.images.put(next.page, &blank_page()).is_err() {
             return Err(StageFault::NoMemory);
         }
         self.meta.allotted = next.allotted;

@@ -159,6 +159,8 @@ impl<D: Disk> Space<D> {
         ensures settles { IfOk result (λ space. IsTrue (D.tells disk) → SettlesTo (D.image disk) (D.image (disk_of space)).pages) }
         ensures roots { IfOk result (λ space. AreRoots (params_of space) (meta_of space)) }
         ensures idle { IfOk result (λ space. IsTrue (D.tells disk) → gate_of (D.image (disk_of space)) ≡ Idle) }
+        // An opening makes no journal longer.
+        ensures journal { IfOk result (λ space. IsTrue (D.tells disk) → length (D.image (disk_of space)).journal ≡ length (D.image disk).journal) }
         ensures settled { IfOk result (λ space. LeavesNow (D.moments (disk_of space)) (D.image (disk_of space))) }
         ensures any_moment { IsTrue (D.tells disk) → (pages : PageList) → SettlesTo (D.image disk) pages
             → LeavesOnly (λ x. SettlesTo x pages) (D.moments disk) (D.moments (opened_disk result)) }

@@ -1,5 +1,5 @@
 //! The journal of a disk that is opened.
-ghost use Rattle.std.specs.Prelude.{◌≡◌, ◌≢◌, ◌⊎◌, ◌+◌, ◌*◌, ◌≤◌, ◌<◌, ℕ, true, Ok, Err, IsTrue, IfErr, OnOk};
+ghost use Rattle.std.specs.Prelude.{◌≡◌, ◌≢◌, ◌⊎◌, ◌+◌, ◌*◌, ◌≤◌, ◌<◌, ℕ, true, length, Ok, Err, IsTrue, IfErr, OnOk};
 ghost use Rattle.page_disk.specs.Calls.{WritesAsTold};
 ghost use Rattle.page_disk.specs.Image.{PageList};
 ghost use Rattle.page_disk.specs.Since.{LeavesNow, LeavesOnly};
@@ -20,6 +20,7 @@ fn replay_journal<D: Disk>(disk: &mut D) -> Result<(), OpenFault>
     requires settled { LeavesNow (D.moments disk.old) (D.image disk.old) }
     ensures idle { OnOk result (IsTrue (D.tells disk.old) → gate_of (D.image disk.new) ≡ Idle) }
     ensures same { OnOk result (IsTrue (D.tells disk.old) → SettlesTo (D.image disk.old) (D.image disk.new).pages) }
+    ensures journal { OnOk result (IsTrue (D.tells disk.old) → length (D.image disk.new).journal ≡ length (D.image disk.old).journal) }
     ensures settled { OnOk result (LeavesNow (D.moments disk.new) (D.image disk.new)) }
     ensures bad { IfErr result (λ fault. AtBadJournal fault (λ page. IsTrue (D.tells disk.old) → BreaksRulesAt (D.image disk.old) page)) }
     ensures only { IfErr result (λ fault. AtEmpty fault ⊥ × AtDamaged fault (λ _. ⊥) × AtNoMemory fault ⊥) }
@@ -42,6 +43,7 @@ fn replay_journal<D: Disk>(disk: &mut D) -> Result<(), OpenFault>
 pub(crate) fn settle<D: Disk>(disk: &mut D) -> Result<(), OpenFault>
     ensures idle { OnOk result (IsTrue (D.tells disk.old) → gate_of (D.image disk.new) ≡ Idle) }
     ensures same { OnOk result (IsTrue (D.tells disk.old) → SettlesTo (D.image disk.old) (D.image disk.new).pages) }
+    ensures journal { OnOk result (IsTrue (D.tells disk.old) → length (D.image disk.new).journal ≡ length (D.image disk.old).journal) }
     ensures settled { OnOk result (LeavesNow (D.moments disk.new) (D.image disk.new)) }
     ensures empty { IfErr result (λ fault. AtEmpty fault (IsTrue (D.tells disk.old) → is_empty (D.image disk.old) ≡ true)) }
     ensures bad { IfErr result (λ fault. AtBadJournal fault (λ page. IsTrue (D.tells disk.old) → IsBadAt (D.image disk.old) page)) }

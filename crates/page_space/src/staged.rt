@@ -27,7 +27,7 @@ pub struct Staged<D: Disk> {
     ghost grown: { space.meta.allotted ≤ meta.allotted },
     // Each page that was given out since the stage began has an image.
     ghost fresh: { (page : ℕ) → space.meta.allotted ≤ page → page < meta.allotted → IsSome (image_map images page) },
-    ghost within: { (page : ℕ) → IsSome (image_map images page) → (2 ≤ page) × (page ≤ meta.allotted) },
+    ghost within: { (page : ℕ) → IsSome (image_map images page) → (2 ≤ page) × (page < meta.allotted) },
     ghost first: { IsTrue (next_fits meta.free) },
 }
 
@@ -93,10 +93,10 @@ impl<D: Disk> Staged<D> {
         Ok(())
     }
 
-    // Puts the image of a page that was given out or is to be so next, or of the meta page.
+    // Puts the image of a page that was given out, or of the meta page.
     pub(crate) fn put_image(&mut self, page: u64, image: &Page) -> Result<(), NoMemory>
         requires low { 2 ≤ page }
-        requires high { page ≤ (staged_meta self.old).allotted }
+        requires high { page < (staged_meta self.old).allotted }
         ensures ok { OnOk result (image_map self.new.images ≡ put_page (image_map self.old.images) page image.now) }
         ensures err { OnErr result (image_map self.new.images ≡ image_map self.old.images) }
         ensures stays { OnErr result (WentOn ⟦<Staged<D> as Pages>⟧ 0 self.old self.new) }

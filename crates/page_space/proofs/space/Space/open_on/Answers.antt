@@ -1,5 +1,5 @@
 use Rattle.std.proofs.Common.{◌∙◌}
-use Rattle.page_space.proofs.Opened.{opened_holds, opened_settles, opened_stands, opened_whole}
+use Rattle.page_space.proofs.Opened.{opened_holds, opened_length, opened_settles, opened_stands, opened_whole}
 use Rattle.page_space.proofs.space.Space.open_on.Goals as goal
 
 pub returns-in-Ok-clause-holds : goal.returns-in-Ok-clause-holds
@@ -8,6 +8,9 @@ returns-in-Ok-clause-holds g c = opened_holds c.open_settled.result c.settle.new
 
 pub returns-in-Ok-clause-settles : goal.returns-in-Ok-clause-settles
 returns-in-Ok-clause-settles g c = opened_settles c.open_settled.result c.settle.new.disk _ _ c.open_settled.ensures.reads.image c.in-Ok.ensures.same
+
+pub returns-in-Ok-clause-journal : goal.returns-in-Ok-clause-journal
+returns-in-Ok-clause-journal g c = opened_length c.open_settled.result c.settle.new.disk (g.D.Disk.image c.args.disk) _ c.open_settled.ensures.reads.image c.in-Ok.ensures.journal
 
 pub returns-in-Ok-clause-any_moment : goal.returns-in-Ok-clause-any_moment
 returns-in-Ok-clause-any_moment g c = λ told pages settles. rw c.open_settled.ensures.reads.moments (c.settle.ensures.any_moment told pages settles)

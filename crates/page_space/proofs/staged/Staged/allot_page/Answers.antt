@@ -1,28 +1,42 @@
-use Rattle.std.proofs.Common.{IsTrue, ap, ◌∙◌, arith, rules}
+use Rattle.std.proofs.Common.{◌≡◌, IsTrue, ap, arith, refl, rules}
 use Rattle.std.proofs.lemmas.Result.{err_from_is_err_and}
 use Rattle.page_ports.specs.Pages.{blank_bytes}
 use Rattle.page_layout.specs.declared.meta.Meta.{Meta}
+use Rattle.redo_journal.specs.Images.{image_map}
+use Rattle.redo_journal.specs.Placing.{placed_at}
+use Rattle.page_space.specs.Bytes.{bytes_with}
 use Rattle.page_space.specs.Shown.{staged_bytes, staged_chain, IsStagedInOrder}
-use Rattle.page_space.proofs.Giving.{changes_ok, fresh_more, on_err, on_ok, went}
-use Rattle.page_space.proofs.Staging.{BlankPut, blank_put}
-use Rattle.page_space.proofs.Walking.{taken_keeps}
+use Rattle.page_space.proofs.Giving.{changes_ok, err_within, fresh_more, on_err, on_ok, put_fresh, put_within, went}
+use Rattle.page_space.proofs.Staging.{BlankPut, blank_put, placed_with}
+use Rattle.page_space.proofs.Walking.{same_keeps, taken_keeps}
 use Rattle.page_space.proofs.staged.Staged.allot_page.Goals as goal
 
 pub invariant_of-self-clause-fresh : goal.invariant_of-self-clause-fresh
-invariant_of-self-clause-fresh g c = fresh_more _ _ c.in_ok-next.next.page c.blank_page.result _ _ c.in_ok-next.next.allotted (on_ok c.put_image.result _ (cc) c.put_image.ensures.ok)
-    (rw (ap (λ (m : Meta). m.allotted) (c.put_image.ensures.meta ∙ c.next_page.ensures.keeps.meta)) c.in_ok-next.ensures.only) c.put_image.new.self.fresh
+invariant_of-self-clause-fresh g c = put_fresh c.put.result _ _ _ _ c.put.ensures.ok c.put.ensures.err _ _ c.next_page.new.self.fresh
 
 pub invariant_of-self-clause-within : goal.invariant_of-self-clause-within
-invariant_of-self-clause-within g c =
-    let same = ap (λ (m : Meta). m.allotted) (c.put_image.ensures.meta ∙ c.next_page.ensures.keeps.meta) in
-    λ p some. let within = c.put_image.new.self.within p some in (within.0, omega (arith, within.1, c.in_ok-next.ensures.grows.0))
+invariant_of-self-clause-within g c = err_within c.put.result _ _ (cc) c.put.ensures.err _ c.next_page.new.self.within
 
-put : (g : _) (c : goal.After-self-3-1 g) → IsTrue (g.D.Disk.tells c.args.self.now.space.disk)
-    → BlankPut (staged_bytes c.args.self.now) (staged_bytes c.put_image.new.self) c.in_ok-next.next.page c.args.self.now.meta.allotted c.in_ok-next.next.allotted c.in_ok-next.next.free
-    (staged_chain c.args.self.now) (IsStagedInOrder c.args.self.now)
+pub invariant_of-self-2-clause-fresh : goal.invariant_of-self-2-clause-fresh
+invariant_of-self-2-clause-fresh g c = fresh_more _ _ c.in_ok-next.next.page c.blank_page.result _ _ c.in_ok-next.next.allotted (on_ok c.put.result _ (cc) c.put.ensures.ok)
+    (rw (ap (λ (m : Meta). m.allotted) c.next_page.ensures.keeps.meta) c.in_ok-next.ensures.only) c.next_page.new.self.fresh
+
+pub invariant_of-self-2-clause-within : goal.invariant_of-self-2-clause-within
+invariant_of-self-2-clause-within g c =
+    let same = ap (λ (m : Meta). m.allotted) c.next_page.ensures.keeps.meta in
+    let next = c.in_ok-next.ensures in
+    put_within c.put.result _ _ _ _ c.put.ensures.ok c.put.ensures.err c.in_ok-next.next.allotted (omega (arith, next.ends.0)) next.ends.1
+    (λ p some. let within = c.next_page.new.self.within p some in (within.0, omega (arith, within.1, next.grows.0)))
+
+put : (g : _) (c : goal.After-self-4-1 g) → IsTrue (g.D.Disk.tells c.args.self.now.space.disk)
+    → BlankPut (staged_bytes c.args.self.now) (placed_at (image_map c.put.new.self) (g.D.Disk.image c.next_page.new.self.space.disk).pages)
+    c.in_ok-next.next.page c.args.self.now.meta.allotted c.in_ok-next.next.allotted c.in_ok-next.next.free (staged_chain c.args.self.now) (IsStagedInOrder c.args.self.now)
 put g c told =
     let next = c.in_ok-next.ensures in
-    blank_put _ _ _ _ _ _ _ _ (cc (on_ok c.put_image.result _ (cc) c.put_image.ensures.bytes)) next.grows.0 next.only next.ends.0 next.ends.1 (next.takes told) (next.order told)
+    let wrote = on_ok c.put.result _ (cc) c.put.ensures.ok in
+    let bytes : placed_at (image_map c.put.new.self) (g.D.Disk.image c.next_page.new.self.space.disk).pages
+    ≡ bytes_with (staged_bytes c.next_page.new.self) c.in_ok-next.next.page c.blank_page.result = rw wrote (placed_with _ _ _ _) in
+    blank_put _ _ _ _ _ _ _ _ (cc (bytes, c.next_page.ensures.keeps.bytes)) next.grows.0 next.only next.ends.0 next.ends.1 (next.takes told) (next.order told)
 
 pub returns-clause-ok : goal.returns-clause-ok
 returns-clause-ok g c = λ told. (c.in_ok-next.ensures.unused told, (put g c told).0)
@@ -42,11 +56,11 @@ returns-in_err-next-clause-damaged_first g c = λ p e.
 pub returns-then-is_err-clause-changes : goal.returns-then-is_err-clause-changes
 returns-then-is_err-clause-changes g c =
     let next = c.next_page.ensures.changes.went_on in
-    let put = on_err c.put_image.result _ (cc) c.put_image.ensures.stays in
+    let same = on_err c.put.result _ (cc) c.put.ensures.err in
     record {
-      went_on = went _ 1 _ _ (put.tells ∙ next.tells) (put.base ∙ next.base) (put.limit ∙ next.limit) (omega (arith, put, next)) (omega (arith, put, next))
-          (omega (arith, put, next)) (omega (arith, put, next)) (λ told h. put.free_in_order (next.tells ∙ told) (next.free_in_order told h))
-          (λ told h p lost. next.none_forgotten told h p (put.none_forgotten (next.tells ∙ told) (next.free_in_order told h) p lost));
+      went_on = went _ 1 _ _ next.tells next.base next.limit next.allotted next.at_most next.gets next.faults
+          (λ told h. rw same (next.free_in_order told h))
+          (λ told h p lost. next.none_forgotten told h p (same_keeps _ _ _ (rw same) (rw same) refl p lost));
       disk = λ e. absurd cc;
       page_limit = λ n e. absurd cc;
     }

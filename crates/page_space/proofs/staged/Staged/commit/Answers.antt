@@ -1,4 +1,5 @@
-use Rattle.std.proofs.Common.{refl, sym, IsTrue}
+use Rattle.std.proofs.Common.{refl, sym, IsTrue, arith}
+use Rattle.page_space.proofs.Committed.{no_further}
 use Rattle.page_space.proofs.Giving.{on_ok}
 use Rattle.page_space.proofs.Renewing.{renewed_agrees}
 use Rattle.page_space.proofs.Settled.{idle_settles}
@@ -53,6 +54,12 @@ returns-clause-holds g c = λ told. let s = made g c told in record {
   settled = idle_settles (g.D.Disk.image c.commit.new.disk) (on_ok c.commit.result _ (cc) c.commit.ensures.idle told);
   space = record { superblock = s.superblock; roots = s.roots; there = s.there; few = s.few; in_use = refl; in_order = s.in_order };
 }
+
+pub returns-clause-lengths : goal.returns-clause-lengths
+returns-clause-lengths g c = λ told. (
+  no_further _ _ _ _ (on_ok c.commit.result _ (cc) c.commit.ensures.placed told) c.args.self.within,
+  omega (arith, on_ok c.commit.result _ (cc) c.commit.ensures.journal told),
+)
 
 pub returns-clause-any_moment : goal.returns-clause-any_moment
 returns-clause-any_moment g c = λ told. holds_either c.args.self _ _ told c.requires c.commit.ensures.any_moment
