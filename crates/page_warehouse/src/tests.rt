@@ -5,7 +5,7 @@ ghost use Rattle.bw_types.specs.Fits.{IsInRange};
 use crate::{Created, Warehouse, create};
 use bw_types::{Kind, Params, Query, query_fits};
 use dom_index::PointList;
-use page_disk::{Area, Disk, MemDisk, PlainDisk, Torn};
+use page_disk::{Area, Disk, MemDisk, Torn};
 use page_ports::{Page, blank_page};
 use page_space::OpenFault;
 use std::alloc::Global;
