@@ -1,9 +1,9 @@
 -- The integrals of a list of objects by the dominance sums of their planes' points.
-use Rattle.std.proofs.Common.{List, [], ◌∷◌, map, take, ◌≡◌, ℕ, zero, suc, ◌+◌, ◌*◌, ◌^◌, ◌<◌, ◌≤◌, Bool, true, false, ◌&&◌, nat_le, if◌then◌else◌, ℤ, pos, ◌*ℤ◌, slice_index_or, Option, Some, None, IsSome, arith, refl, ◌∙◌, ap, sym}
+use Rattle.std.proofs.Common.{List, [], ◌∷◌, map, take, ◌≡◌, ℕ, zero, suc, ◌+◌, ◌*◌, ◌^◌, ◌<◌, ◌≤◌, Bool, true, false, ◌&&◌, nat_le, if◌then◌else◌, ℤ, pos, ◌*ℤ◌, slice_index_or, Option, Some, None, IsSome, inl, inr, arith, refl, ◌∙◌, ap, sym}
 use Rattle.std.specs.List.{zip, range_with_len, sum_by}
 use Rattle.std.specs.Option.{option_map_or}
 use Rattle.std.proofs.Math.Nat.{mul-le-mul_left}
-use Rattle.std.proofs.lemmas.Bool.{false≢true}
+use Rattle.std.proofs.lemmas.Bool.{cases_lt, false≢true, le-leb, lt-leb}
 use Rattle.bw_types.specs.Tally.{int_sum_by, each_below}
 use Rattle.bw_types.specs.Fits.{IsInRange, ends_fit}
 use Rattle.bw_types.specs.Keys.{point_key, query_key}
@@ -18,7 +18,6 @@ use Rattle.box_corners.specs.Subsets.{signed_by, residue_signed_by}
 use Rattle.box_corners.specs.Sums.{int_sum_below, residue_sum_below}
 use Rattle.box_corners.specs.SumLaws.{residue_keeps_sign, residue_of_sum_below, sum_below_of_equal}
 use Rattle.box_corners.specs.Corners.{of_first_dimensions, object_end, query_end, integral_corner}
-use Rattle.box_corners.specs.Expansion.{key_keeps_bound}
 use Rattle.poly_moments.specs.Planes.{plane_count, plane_weight, plane_exponents, corner_weight, monomial, planes_value}
 use Rattle.poly_moments.specs.Integrals.{query_corner, corner_is_below, plane_at_corner, value_at_corner}
 use Rattle.poly_moments.specs.PlaneSums.{Entered, EnteredFits, counts_at, corner_number, entered_weight, plane_point, plane_points, summed_planes, integral_at, IntegralByPlanes}
@@ -31,7 +30,10 @@ use Rattle.poly_moments.proofs.ObjectLaw.{object_integral_by_planes}
 
 -- a point's key is at most a query's exactly where its coordinate is
 key_at_most : (a b number : ℕ) → number < 2 ^ 32 → nat_le (point_key a number) (query_key b) ≡ nat_le a b
-key_at_most a b number h = key_keeps_bound a 0 0 b number h false
+key_at_most a b number h = elim (cases_lt b a) [
+  | inl past ↦ rw (lt-leb a b past, lt-leb (point_key a number) (query_key b) (omega arith)) refl
+  | inr within ↦ rw (le-leb a b within, le-leb (point_key a number) (query_key b) (omega arith)) refl
+]
 
 group_three : (x y z : Bool) → (x && (y && (z && true))) ≡ (((true && x) && y) && z)
 group_three true true true = refl
