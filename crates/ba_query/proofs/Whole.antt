@@ -97,10 +97,10 @@ rootless pages tree version none = ap (λ (l : ℕ). total_below l pages tree.ro
 pub whole_empty : (dims : ℕ) (pages : PageMap) (tree : Tree) (sought : Sought) (damaged : ℕ) → tree.levels ≡ 0 → IsDamagedForSum dims pages tree sought damaged → ⊥
 whole_empty zero pages tree sought damaged none d =
     on_ways.none_below of_versions.FitsPlace of_versions.LeadsTo NothingBeside pages tree.levels (of_versions.root_place sought.version) tree.root damaged none d
-whole_empty (suc zero) pages tree sought damaged none (inl d) =
+whole_empty (suc zero) pages tree sought damaged none (inl (inl d)) =
     on_ways.none_below of_versions.FitsPlace of_versions.LeadsTo NothingBeside pages tree.levels (of_versions.root_place sought.version) tree.root damaged none d
-whole_empty (suc zero) pages tree sought damaged none (inr (inl d)) = absurd (omega (arith, rootless pages tree sought.version none, d.1))
-whole_empty (suc zero) pages tree sought damaged none (inr (inr d)) = d.0 (rootless pages tree sought.version none)
+whole_empty (suc zero) pages tree sought damaged none (inl (inr d)) = absurd (omega (arith, rootless pages tree sought.version none, d.2))
+whole_empty (suc zero) pages tree sought damaged none (inr d) = d.1 (rootless pages tree sought.version none)
 whole_empty (suc (suc n)) pages tree sought damaged none d =
     on_ways.none_below FitsNode LeadsOn (IsDamagedBeside (suc (suc n)) (IsDamagedForSum (suc n))) pages tree.levels (sought_within (suc (suc n)) sought) tree.root damaged none d
 
