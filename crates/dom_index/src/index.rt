@@ -81,8 +81,8 @@ pub trait DomIndex {
     /// What holds only for a point that is new to the tree says so: its keys differ in each dimension from
     /// those of all points, its version is at least theirs, and they are fewer than `2^31`. After a refusal
     /// the tree value is as it was, and the stage is to be abandoned. `Disk` comes only where the count of
-    /// faults rose, `PageLimit` only where as many pages are given out as the limit allows; `NoMemory` is
-    /// the stage's. `Damaged` carries a page of which `damaged_for_add` holds, or any page where the free
+    /// faults rose, `PageLimit` only where as many pages are given out as the limit allows, `NoMemory` where
+    /// the stage or the index finds none. `Damaged` carries a page of which `damaged_for_add` holds, or any page where the free
     /// pages are not in order; it never comes where the tree stands and is balanced, the point is new and
     /// the free pages are in order. A point that is not new may break the tree, and is not always found.
     fn add<S: Stage>(

@@ -22,7 +22,7 @@ use sb_tree::tree_laws;
 
 /// Adds a value, a residue modulo `2^128`, from a key and a version on. The version is to be at least
 /// that of every addition so far. An addition out of order is found only where it meets no root, or an
-/// entry that starts or was closed later; else it is made, and the tree stands for no list of points.
+/// entry that starts or was closed later; else it is made, and the tree may stand for no list of points.
 ///
 /// Where the tree stood, it stands for one point more, past versions included, and stays balanced; at
 /// most 24 pages are given out then, and no page is found damaged where the free pages are in order.
@@ -34,8 +34,8 @@ use sb_tree::tree_laws;
 ///   version, or no number of a page, or where a root of level 16 would have to be split;
 /// - the first page on the way of the key and the version that holds no node for its place, or one that
 ///   may not be changed at the version;
-/// - where more pages are needed than the chain of places has places for, its last page, or the new page
-///   that took the last place; where the last page holds no node, that page;
+/// - where new pages are needed, the last page of the chain of places, if it holds no node or has the
+///   last place, or the new page that took the last place, if one more is needed;
 /// - what an addition to the directory calls damaged, where the root changes;
 /// - any page, where the free pages are not in order.
 pub fn mv_add<S: Stage>(

@@ -17,8 +17,8 @@ pub fn mv_laws()
     tree_laws();
 }
 
-/// Proves what the clauses of a call that frees pages say of the map at the call itself. They speak of any map that this
-/// one was before it lost other pages, and it may have lost none. It does nothing when it runs.
+/// Proves what the clauses of a call that frees pages say of the map at the call itself. They speak of each map from which
+/// this one may have come by losing other pages; this one itself is one of these. It does nothing when it runs.
 pub fn freed_laws()
     ensures dropped { DroppedPagesWereThere }
     ensures damaged { DamageIsThere }

@@ -230,6 +230,9 @@ fn an_index_root_that_splits_stays_for_the_past(rt: HostRuntime) -> Result<(), F
     let root = [open_entry(0, 3, 0, 6), open_entry(480, 3, 0, 7)];
     assert_eq!(rt; shape_on(&mut stage, 8), Ok((3, 5, 7, 2)));
     assert_eq!(rt; two_on(&mut stage, 8), Ok(Some(root)));
+    // The old root is the one of version 2, and the new one that of version 3.
+    assert_eq!(rt; root_at(&mut stage, &tree, 2), Ok(4));
+    assert_eq!(rt; root_at(&mut stage, &tree, 3), Ok(8));
     Ok(())
 }
 
@@ -251,8 +254,8 @@ fn one_key_at_many_versions(rt: HostRuntime) -> Result<(), Fail> {
     Ok(())
 }
 
-// The caller has to keep the order of versions. An addition at a version before the newest one may be taken, and then the tree
-// stands for nothing: the leaf of the versions before 96 takes it, and the one from 96 on knows nothing of it.
+// The caller has to keep the order of versions. An addition at a version before the newest one may be taken, and here the tree
+// stands for nothing then: the leaf of the versions before 96 takes it, and the one from 96 on knows nothing of it.
 #[test]
 fn an_addition_out_of_order_is_not_always_found(rt: HostRuntime) -> Result<(), Fail> {
     let mut stage = MemStage::new(rt.alloc(), 20);
@@ -396,7 +399,8 @@ fn many_additions(rt: HostRuntime) -> Result<(), Fail> {
     Ok(())
 }
 
-// The numbers are this program's: no contract tells them. A change by which trees need more pages should be noticed.
+// No contract tells these numbers; a model of the format, in Python, foretold them. A change by which trees need more pages should be
+// noticed.
 #[test]
 fn so_many_additions_take_so_many_pages(rt: HostRuntime) -> Result<(), Fail> {
     // So many at random keys, at keys that ascend, at random keys in one version, and at one key; the numbers of pages that are given

@@ -184,7 +184,7 @@ fn a_chain_with_noise_in_its_middle(rt: HostRuntime) -> Result<(), Fail> {
 
 #[test]
 fn a_page_of_the_directory_and_of_the_chain(rt: HostRuntime) -> Result<(), Fail> {
-    // The chain leads to the directory's page, which is gone when the chain comes to it.
+    // The chain leads to the directory's page, which holds no node of it.
     let mut stage = MemStage::new(rt.alloc(), 10);
     let last = page_of(&mut stage, &node(1, 2, 4, 0))?;
     let tree = tree_of(&mut stage, last)?;
