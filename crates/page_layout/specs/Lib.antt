@@ -33,6 +33,10 @@ pub mod BaEntry
 pub mod CutPage
 pub mod CutView
 pub mod CutExact
+pub mod CutsPage
+pub mod CutsPageLaws
+pub mod CutsParting
+pub mod CutsView
 pub mod Signed
 pub mod Dated
 pub mod LifeNode

@@ -12,6 +12,8 @@ mod counted;
 mod cut_node;
 mod cut_page;
 mod cut_view;
+mod cuts_page;
+mod cuts_view;
 mod dated;
 mod entry;
 mod exact;
@@ -37,6 +39,8 @@ mod table_node;
 mod table_view;
 #[cfg(test)]
 mod tests;
+#[cfg(test)]
+mod tests_cuts;
 mod three;
 mod tree_value;
 mod view;
@@ -44,6 +48,8 @@ mod zero_bytes;
 
 pub use cut_node::{CutNode, cuts_are_tested};
 pub use cut_page::CutPage;
+pub use cuts_page::{CutsNode, CutsPage, cuts_stand_in_order};
+pub use cuts_view::CutsStep;
 pub use footprint::footprint_laws;
 pub use free_page::FreePage;
 pub use journal_head::JournalHead;

@@ -1,0 +1,319 @@
+//! Pages of cuts that have borders: the index pages of trees in two and three dimensions.
+ghost use Rattle.std.specs.Prelude.{refl, ◌≡◌, ◌+◌, ◌*◌, ◌≤◌, ◌++◌, ◌↔◌, IsTrue, length, take};
+ghost use Rattle.std.specs.List.{flat_map, All};
+ghost use Rattle.page_layout.specs.Counted.{not_free};
+ghost use Rattle.page_layout.specs.TreeValue.{IsTreeTyped};
+ghost use Rattle.page_layout.specs.CutsPage.{IsCutsPage, IsNodeTyped, IsTyped, border_at, border_bytes, count_in, cut_count, cut_one, cuts_page_in, cuts_page_page, first_bytes, node_at, node_bytes, node_fits, nodes_from, open_places, past_border};
+ghost use Rattle.page_layout.specs.CutsPageLaws.{cuts_page_in-page};
+ghost use Rattle.page_layout.specs.CutsParting.{PreOrderIsTested};
+
+use crate::counted::{read_body, read_count, start};
+use crate::entry::Entry;
+use crate::front::{finish, put, put_u8, put_u32, put_u64};
+use crate::number::{number_u32, number_u64, skip};
+use crate::spelled::{Spelled, TreePage};
+use crate::tree_value::tree_fits;
+use arrayvec::ArrayVec;
+use bw_types::Tree;
+use page_ports::{Page, blank_page};
+
+const KIND: u8 = 11;
+
+const ENTRY: u8 = 0;
+
+const CUT: u8 = 1;
+
+/// A node of a page of cuts: an entry, or a cut at a key of a dimension. A cut keeps the number of points of
+/// its low side, and a border.
+#[derive(Clone, Copy, Debug, PartialEq, Eq)]
+pub enum CutsNode {
+    Entry {
+        child: u64,
+    },
+    Cut {
+        dimension: u8,
+        key: u64,
+        low: u32,
+        border: Tree,
+    },
+}
+
+impl Default for CutsNode {
+    fn default() -> CutsNode {
+        CutsNode::Entry { child: 0 }
+    }
+}
+
+/// A page that cuts its region into the regions of its entries.
+///
+/// The nodes stand in pre-order: a cut is followed by the nodes of its low side and then by those of its high
+/// side. A page spells 2 to 64 entries and one cut less. Children are at least 3, and a low side has at least
+/// one point. In memory there is room for one more entry, and the cut before it.
+#[derive(Debug, PartialEq, Drop)]
+pub struct CutsPage {
+    pub nodes: ArrayVec<CutsNode, 129>,
+}
+
+fn put_first(page: &mut Page, place: usize, tag: u8, dimension: u8, low: u32, word: u64)
+    requires { place + 16 ≤ 4096 }
+    ensures { take (place + 16) page.new ≡ take place page.old ++ first_bytes tag dimension low word }
+{
+    put_u8(page, place, tag);
+    put_u8(page, place + 1, dimension);
+    put(page, place + 2, &[0, 0]);
+    put_u32(page, place + 4, low);
+    put_u64(page, place + 8, word);
+}
+
+fn put_node(page: &mut Page, place: usize, node: &CutsNode)
+    requires { place + 16 ≤ 4096 }
+    ensures { take (place + 16) page.new ≡ take place page.old ++ node_bytes node.now }
+{
+    match node {
+        CutsNode::Entry { child } => put_first(page, place, ENTRY, 0, 0, *child),
+        CutsNode::Cut {
+            dimension,
+            key,
+            low,
+            border: _,
+        } => put_first(page, place, CUT, *dimension, *low, *key),
+    }
+}
+
+// Writes the nodes without their borders.
+fn put_nodes(page: &mut Page, place: usize, nodes: &[CutsNode])
+    requires { place + length nodes.now * 16 ≤ 4096 }
+    ensures { take (place + length nodes.now * 16) page.new ≡ take place page.old ++ flat_map node_bytes nodes.now }
+{
+    let mut next = place;
+    for node in nodes {
+        put_node(page, next, node);
+        next += 16;
+    }
+}
+
+// Writes the border of a node, if it is a cut, and answers where it ends.
+fn put_border(page: &mut Page, place: usize, node: &CutsNode) -> usize
+    requires { place + cut_one node.now * 28 ≤ 4096 }
+    ensures end { result ≡ place + cut_one node.now * 28 }
+    ensures bytes { take (place + cut_one node.now * 28) page.new ≡ take place page.old ++ border_bytes node.now }
+{
+    match node {
+        CutsNode::Entry { child: _ } => place,
+        CutsNode::Cut {
+            dimension: _,
+            key: _,
+            low: _,
+            border,
+        } => {
+            border.put(page, place);
+            place + 28
+        }
+    }
+}
+
+// Writes the borders of those nodes that are cuts, and answers where they end.
+fn put_borders(page: &mut Page, place: usize, nodes: &[CutsNode]) -> usize
+    requires { place + cut_count nodes.now * 28 ≤ 4096 }
+    ensures end { result ≡ place + cut_count nodes.now * 28 }
+    ensures bytes { take (place + cut_count nodes.now * 28) page.new ≡ take place page.old ++ flat_map border_bytes nodes.now }
+{
+    let mut next = place;
+    for node in nodes {
+        next = put_border(page, next, node);
+    }
+    next
+}
+
+/// The border at the front of some bytes; no tree where there are not as many as it takes.
+pub(crate) fn border_at(bytes: &[u8]) -> Tree
+    ensures value { result ≡ border_at bytes.now }
+    ensures typed { IsTreeTyped result }
+{
+    if 28 <= bytes.len() {
+        return Tree::get(bytes);
+    }
+    Tree {
+        root: 0,
+        levels: 0,
+        count: 0,
+        changes: 0,
+        last: 0,
+    }
+}
+
+fn node_at(nodes: &[u8], borders: &[u8]) -> CutsNode
+    requires { 16 ≤ length nodes.now }
+    ensures value { result ≡ node_at nodes.now borders.now }
+    ensures typed { IsNodeTyped result }
+{
+    let word = number_u64(skip(nodes, 8));
+    if nodes[0] == ENTRY {
+        return CutsNode::Entry { child: word };
+    }
+    CutsNode::Cut {
+        dimension: nodes[1],
+        key: word,
+        low: number_u32(skip(nodes, 4)),
+        border: border_at(borders),
+    }
+}
+
+// The borders that are left after the first node.
+fn past_border<'a>(nodes: &[u8], borders: &'a [u8]) -> &'a [u8]
+    requires { 16 ≤ length nodes.now }
+    ensures { result.now ≡ past_border nodes.now borders.now }
+{
+    if nodes[0] == ENTRY {
+        return borders;
+    }
+    if borders.len() < 28 {
+        return &[];
+    }
+    skip(borders, 28)
+}
+
+fn read_nodes(count: usize, nodes: &[u8], borders: &[u8]) -> ArrayVec<CutsNode, 129>
+    requires few { count ≤ 129 }
+    requires room { count * 16 ≤ length nodes.now }
+    ensures items { result.items ≡ nodes_from count nodes.now borders.now }
+    ensures typed { All IsNodeTyped result.items }
+{
+    let mut read = ArrayVec::new();
+    let mut firsts = nodes;
+    let mut rest = borders;
+    for _ in 0..count {
+        read.push(node_at(firsts, rest));
+        rest = past_border(firsts, rest);
+        firsts = skip(firsts, 16);
+    }
+    read
+}
+
+/// How many entries a page may spell.
+pub(crate) fn count_in(page: &Page) -> usize
+    ensures value { result ≡ count_in page.now }
+    ensures few { result ≤ 64 }
+{
+    usize::from(read_count(page)).min(64)
+}
+
+fn node_fits(node: &CutsNode) -> bool
+    ensures { result ≡ node_fits node.now }
+{
+    match node {
+        CutsNode::Entry { child } => *child >= 3,
+        CutsNode::Cut {
+            dimension,
+            key: _,
+            low,
+            border,
+        } => *dimension <= 2 && (*low >= 1 && tree_fits(border)),
+    }
+}
+
+fn each_fits(nodes: &[CutsNode]) -> bool
+    ensures { IsTrue result ↔ All (λ node. IsTrue (node_fits node)) nodes.now }
+{
+    for node in nodes {
+        if !node_fits(node) {
+            return false;
+        }
+    }
+    true
+}
+
+// Counts the places that are to be filled: at first one, for the whole region.
+fn fill_one_place(nodes: &[CutsNode]) -> bool
+    ensures { result ≡ open_places 1 nodes.now }
+{
+    let mut places: usize = 1;
+    for node in nodes {
+        if places == 0 {
+            return false;
+        }
+        match node {
+            CutsNode::Entry { child: _ } => places -= 1,
+            CutsNode::Cut {
+                dimension: _,
+                key: _,
+                low: _,
+                border: _,
+            } => places += 1,
+        }
+    }
+    places == 0
+}
+
+/// Proves that the nodes of a page stand in pre-order; it does nothing when it runs.
+pub fn cuts_stand_in_order()
+    ensures { PreOrderIsTested }
+{}
+
+impl Spelled for CutsPage {
+    ghost keeps = { IsCutsPage };
+
+    ghost is_typed = { IsTyped };
+
+    ghost spelling = { cuts_page_page };
+
+    ghost value_in = { cuts_page_in };
+
+    fn write(&self, page: &mut Page) {
+        let nodes = self.nodes.as_slice();
+        let count = (nodes.len() + 1) / 2;
+        start(page, KIND, 0, count as u16, 0, 0);
+        put_nodes(page, 16, nodes);
+        let end = put_borders(page, 16 + nodes.len() * 16, nodes);
+        finish(page, end);
+    }
+
+    fn guess(page: &Page) -> CutsPage {
+        let count = (2 * count_in(page)).saturating_sub(1);
+        let body = read_body(page);
+        CutsPage {
+            nodes: read_nodes(count, body, skip(body, count * 16)),
+        }
+    }
+
+    fn keeps_rules(&self) -> bool {
+        let nodes = self.nodes.as_slice();
+        if nodes.len() < 3 {
+            return false;
+        }
+        if nodes.len() > 127 {
+            return false;
+        }
+        if !fill_one_place(nodes) {
+            return false;
+        }
+        each_fits(nodes)
+    }
+
+    fn is_spelled(page: &Page) -> bool {
+        let value = CutsPage::guess(page);
+        if !value.keeps_rules() {
+            return false;
+        }
+        let mut other = blank_page();
+        value.write(&mut other);
+        other.as_slice() == page.as_slice()
+    }
+
+    ghost reads_back = { cuts_page_in-page };
+}
+
+// A page of cuts tells no level: the number of its points says what a page has to be.
+impl TreePage for CutsPage {
+    ghost level_in = { λ _. 0 };
+
+    fn level(&self) -> u8 {
+        0
+    }
+
+    fn level_on(_page: &Page) -> u8 {
+        0
+    }
+
+    ghost in_use = { λ _. not_free _ refl };
+}
