@@ -1,0 +1,6 @@
+pub mod Held
+pub mod Stepping
+pub mod Places
+pub mod Changes
+pub mod Walking
+pub mod Holding

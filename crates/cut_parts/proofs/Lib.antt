@@ -1,0 +1,14 @@
+pub mod Sums
+pub mod Values
+pub mod Depths
+pub mod Growth
+pub mod Halves
+pub mod Differing
+pub mod Orders
+pub mod BorderPoints
+pub mod Nodes
+pub mod Homes
+pub mod Frames
+pub mod Telling
+pub mod Regions
+pub mod Trees

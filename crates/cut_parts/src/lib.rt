@@ -1,0 +1,12 @@
+//! Parts: what a tree of cuts over leaves of points means, whichever pages spell it.
+//!
+//! A cut parts points at a key of one dimension. It keeps how many are on its low side, and a border: a tree of one dimension
+//! less over these, without the cut's dimension. What is asked of borders is `BorderTree`. The definitions are in specs/: a part,
+//! its points and its value in `Parts`, how pages spell it in `Spelling`, when a tree stands for points in `Standing`, which page
+//! a sum calls damaged in `Damage`, and the numbers of pages in `Depths`. Their laws are the contracts of `laws`.
+#![tactic(auto)]
+
+mod border_tree;
+pub mod laws;
+
+pub use border_tree::BorderTree;
