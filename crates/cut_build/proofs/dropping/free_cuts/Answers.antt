@@ -1,0 +1,8 @@
+use Rattle.std.proofs.Common.{ap, Err, ◌∙◌}
+use Rattle.page_ports.specs.declared.page.PageFault.{PageFault}
+use Rattle.cut_build.proofs.dropping.free_cuts.Goals as goal
+
+pub returns-in-Err-Damaged-clause-sound : goal.returns-in-Err-Damaged-clause-sound
+returns-in-Err-Damaged-clause-sound g c = λ nodes damaged tells holds e.
+    let why = c.read_cuts.ensures.damaged c.in-Err-Damaged.damaged (c.in-Err-Damaged.is ∙ ap (λ (fault : PageFault). Err fault) c.in-Err-Damaged.field-0-is) in
+    why.1 tells nodes holds

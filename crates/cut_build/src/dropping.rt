@@ -1,0 +1,210 @@
+//! The pages of a tree of cuts, and of a part of one, freed.
+ghost use Rattle.std.specs.Prelude.{◌≡◌, ◌≢◌, ◌++◌, ◌<◌, ◌≤◌, ℕ, List, [], None, Some, Err, IsTrue, IfOk, OnOk, length};
+ghost use Rattle.bw_types.specs.Empty.{empty_tree};
+ghost use Rattle.bw_types.specs.declared.point.Point.{Point};
+ghost use Rattle.page_ports.specs.Calls.{Changes};
+ghost use Rattle.page_ports.specs.Frame.{Replaces};
+ghost use Rattle.page_ports.specs.Pages.{remove_page};
+ghost use Rattle.page_layout.specs.Footprint.{NamesNoneTwice};
+ghost use Rattle.page_layout.specs.declared.cuts_page.CutsNode.{CutsNode};
+ghost use Rattle.cut_parts.specs.Borders.{HoldForTrees};
+ghost use Rattle.cut_parts.specs.Parts.{Part};
+ghost use Rattle.cut_parts.specs.Spelling.{HoldsCuts, HoldsLeaf, first_page, nodes_of};
+ghost use Rattle.cut_parts.specs.Standing.{CutsStand, PartStands, part_pages, tree_pages};
+
+use crate::sides::{after_part, is_balanced};
+use bw_types::Tree;
+use cut_pages::{read_cuts, read_leaf};
+use cut_parts::BorderTree;
+use page_layout::{CutsNode, CutsPage};
+use page_ports::{PageFault, Stage, StageFault};
+
+/// Frees the pages of a tree and of its borders, and no other. Each page is read before it is freed, since it names others.
+///
+/// `Damaged` never comes where the tree stands, `PageLimit` never, and `NoMemory` only from the stage. After a refusal the stage
+/// is to be abandoned.
+pub fn drop_tree<B: BorderTree, S: Stage>(stage: &mut S, tree: &Tree) -> Result<(), StageFault>
+    ensures dropped { OnOk result (IsTrue (S.tells stage.old) → (points : List Point) → CutsStand B.BorderTree (S.map stage.old) tree.now points
+        → Replaces (tree_pages B.BorderTree (S.map stage.old) tree.now) [] (S.map stage.old) (S.map stage.new)) }
+    ensures sound { (points : List Point) (page : ℕ) → IsTrue (S.tells stage.old) → CutsStand B.BorderTree (S.map stage.old) tree.now points
+        → result ≢ Err (StageFault.Damaged page) }
+    ensures changes { Changes S.Pages 0 stage.old stage.new result }
+{
+    if tree.count == 0 {
+        return Ok(());
+    }
+    match drop_page::<B, S>(stage, tree.root, tree.count) {
+        Err(fault) => Err(fault),
+        Ok(()) => Ok(()),
+    }
+}
+
+// The laws of borders; it does nothing when it runs.
+fn laws_of_borders<B: BorderTree>()
+    ensures { HoldForTrees B.stands B.footprint B.balanced B.cost B.growth B.share }
+{
+    B::border_laws();
+}
+
+// Frees the pages of the part of so many points that begins with this page.
+#[cycle(drops)]
+fn drop_page<B: BorderTree, S: Stage>(
+    stage: &mut S,
+    page: u64,
+    count: u32,
+) -> Result<(), StageFault>
+    ensures dropped { OnOk result (IsTrue (S.tells stage.old) → (part : Part) → first_page part ≡ Some page
+        → PartStands B.BorderTree (S.map stage.old) count part → NamesNoneTwice (part_pages B.BorderTree (S.map stage.old) part)
+        → Replaces (part_pages B.BorderTree (S.map stage.old) part) [] (S.map stage.old) (S.map stage.new)) }
+    ensures sound { (part : Part) (damaged : ℕ) → IsTrue (S.tells stage.old) → first_page part ≡ Some page
+        → PartStands B.BorderTree (S.map stage.old) count part → NamesNoneTwice (part_pages B.BorderTree (S.map stage.old) part)
+        → result ≢ Err (StageFault.Damaged damaged) }
+    ensures changes { Changes S.Pages 0 stage.old stage.new result }
+{
+    laws_of_borders::<B>();
+    if count <= 64 {
+        return match free_leaf(stage, page, count) {
+            Err(fault) => Err(fault),
+            Ok(()) => Ok(()),
+        };
+    }
+    match free_cuts(stage, page) {
+        Err(fault) => Err(fault),
+        Ok(cuts) => match drop_cut::<B, S>(stage, page, cuts.nodes.as_slice(), count) {
+            Err(fault) => Err(fault),
+            Ok(()) => Ok(()),
+        },
+    }
+}
+
+// Frees the page of a leaf of so many points. It is read before, since a stage frees only what is there.
+fn free_leaf<S: Stage>(stage: &mut S, page: u64, count: u32) -> Result<(), StageFault>
+    ensures freed { OnOk result (IsTrue (S.tells stage.old) → S.map stage.new ≡ remove_page (S.map stage.old) page) }
+    ensures sound { (points : List Point) (damaged : ℕ) → IsTrue (S.tells stage.old) → HoldsLeaf (S.map stage.old) page points
+        → length points ≡ count → result ≢ Err (StageFault.Damaged damaged) }
+    ensures changes { Changes S.Pages 0 stage.old stage.new result }
+{
+    match read_leaf(stage, page, count) {
+        Err(PageFault::Disk) => Err(StageFault::Disk),
+        Err(PageFault::Damaged(damaged)) => Err(StageFault::Damaged(damaged)),
+        Ok(_) => match stage.free(page) {
+            Err(fault) => Err(fault),
+            Ok(()) => Ok(()),
+        },
+    }
+}
+
+// Frees a page of cuts, and answers its nodes.
+fn free_cuts<S: Stage>(stage: &mut S, page: u64) -> Result<CutsPage, StageFault>
+    ensures freed { IfOk result (λ cuts. IsTrue (S.tells stage.old)
+        → HoldsCuts (S.map stage.old) page cuts.nodes.items × (S.map stage.new ≡ remove_page (S.map stage.old) page)) }
+    ensures sound { (nodes : List CutsNode) (damaged : ℕ) → IsTrue (S.tells stage.old) → HoldsCuts (S.map stage.old) page nodes
+        → result ≢ Err (StageFault.Damaged damaged) }
+    ensures changes { Changes S.Pages 0 stage.old stage.new result }
+{
+    match read_cuts(stage, page) {
+        Err(PageFault::Disk) => Err(StageFault::Disk),
+        Err(PageFault::Damaged(damaged)) => Err(StageFault::Damaged(damaged)),
+        Ok(cuts) => match stage.free(page) {
+            Err(fault) => Err(fault),
+            Ok(()) => Ok(cuts),
+        },
+    }
+}
+
+/// Frees the pages of the part of so many points with whose nodes these begin, which are nodes of this page, and no other.
+#[cycle(drops)]
+pub fn drop_nodes<B: BorderTree, S: Stage>(
+    stage: &mut S,
+    page: u64,
+    nodes: &[CutsNode],
+    count: u32,
+) -> Result<(), StageFault>
+    ensures dropped { OnOk result (IsTrue (S.tells stage.old) → (part : Part) (rest : List CutsNode) → nodes.now ≡ nodes_of part ++ rest
+        → PartStands B.BorderTree (S.map stage.old) count part → NamesNoneTwice (part_pages B.BorderTree (S.map stage.old) part)
+        → Replaces (part_pages B.BorderTree (S.map stage.old) part) [] (S.map stage.old) (S.map stage.new)) }
+    ensures sound { (part : Part) (rest : List CutsNode) (damaged : ℕ) → IsTrue (S.tells stage.old) → nodes.now ≡ nodes_of part ++ rest
+        → PartStands B.BorderTree (S.map stage.old) count part → NamesNoneTwice (part_pages B.BorderTree (S.map stage.old) part)
+        → result ≢ Err (StageFault.Damaged damaged) }
+    ensures changes { Changes S.Pages 0 stage.old stage.new result }
+{
+    if let Some(CutsNode::Entry { child }) = nodes.first() {
+        return match drop_page::<B, S>(stage, *child, count) {
+            Err(fault) => Err(fault),
+            Ok(()) => Ok(()),
+        };
+    }
+    match drop_cut::<B, S>(stage, page, nodes, count) {
+        Err(fault) => Err(fault),
+        Ok(()) => Ok(()),
+    }
+}
+
+// Frees the pages of a part that is a cut, and does not begin a page there: those of its border, and of its two sides.
+#[cycle(drops)]
+fn drop_cut<B: BorderTree, S: Stage>(
+    stage: &mut S,
+    page: u64,
+    nodes: &[CutsNode],
+    count: u32,
+) -> Result<(), StageFault>
+    ensures dropped { OnOk result (IsTrue (S.tells stage.old) → (part : Part) (rest : List CutsNode) → nodes.now ≡ nodes_of part ++ rest
+        → PartStands B.BorderTree (S.map stage.old) count part → NamesNoneTwice (part_pages B.BorderTree (S.map stage.old) part)
+        → Replaces (part_pages B.BorderTree (S.map stage.old) part) [] (S.map stage.old) (S.map stage.new)) }
+    ensures sound { (part : Part) (rest : List CutsNode) (damaged : ℕ) → IsTrue (S.tells stage.old) → nodes.now ≡ nodes_of part ++ rest
+        → first_page part ≡ None → PartStands B.BorderTree (S.map stage.old) count part
+        → NamesNoneTwice (part_pages B.BorderTree (S.map stage.old) part) → result ≢ Err (StageFault.Damaged damaged) }
+    ensures changes { Changes S.Pages 0 stage.old stage.new result }
+{
+    laws_of_borders::<B>();
+    let Some((first, rest)) = nodes.split_first() else {
+        return Err(StageFault::Damaged(page));
+    };
+    let CutsNode::Cut {
+        dimension: _,
+        key: _,
+        low,
+        border,
+    } = first
+    else {
+        return Err(StageFault::Damaged(page));
+    };
+    if !is_balanced(count, *low) {
+        return Err(StageFault::Damaged(page));
+    }
+    match drop_border::<B, S>(stage, *low, border) {
+        Err(fault) => return Err(fault),
+        Ok(()) => {}
+    }
+    match drop_nodes::<B, S>(stage, page, rest, *low) {
+        Err(fault) => return Err(fault),
+        Ok(()) => {}
+    }
+    match drop_nodes::<B, S>(stage, page, after_part(rest), count - *low) {
+        Err(fault) => Err(fault),
+        Ok(()) => Ok(()),
+    }
+}
+
+// Frees the pages of the border of a cut with so many points low. It has none where these are a leaf.
+fn drop_border<B: BorderTree, S: Stage>(
+    stage: &mut S,
+    low: u32,
+    border: &Tree,
+) -> Result<(), StageFault>
+    ensures dropped { OnOk result (IsTrue (S.tells stage.old) → (points : List Point) → (low ≤ 64 → border.now ≡ empty_tree)
+        → (64 < low → B.stands (S.map stage.old) border.now points)
+        → Replaces (B.footprint (S.map stage.old) border.now) [] (S.map stage.old) (S.map stage.new)) }
+    ensures sound { (points : List Point) (damaged : ℕ) → IsTrue (S.tells stage.old) → (64 < low → B.stands (S.map stage.old) border.now points)
+        → result ≢ Err (StageFault.Damaged damaged) }
+    ensures changes { Changes S.Pages 0 stage.old stage.new result }
+{
+    laws_of_borders::<B>();
+    if low <= 64 {
+        return Ok(());
+    }
+    match B::drop_tree(stage, border) {
+        Err(fault) => Err(fault),
+        Ok(()) => Ok(()),
+    }
+}

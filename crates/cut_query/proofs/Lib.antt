@@ -1,0 +1,4 @@
+pub mod Sums
+pub mod Costs
+pub mod Damaging
+pub mod Keys
