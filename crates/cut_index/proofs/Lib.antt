@@ -1,0 +1,13 @@
+pub mod Going
+pub mod Within
+pub mod Begun
+pub mod Places
+pub mod MadeAnew
+pub mod LeafHalves
+pub mod NewPoints
+pub mod Sides
+pub mod Growing
+pub mod Pieces
+pub mod OnTheWay
+pub mod Numbers
+pub mod WholeTrees

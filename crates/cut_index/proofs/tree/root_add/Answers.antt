@@ -1,0 +1,20 @@
+use Rattle.std.proofs.Common.{◌∷◌, [], ◌∙◌, subst, arith}
+use Rattle.page_ports.specs.Pages.{PageMap}
+use Rattle.page_layout.specs.declared.cuts_page.CutsNode.TheVariants.{Entry}
+use Rattle.cut_index.specs.Additions.{IsAddedAs, nodes_after}
+use Rattle.cut_index.specs.declared.change.Change.{Change}
+use Rattle.cut_index.proofs.Pieces.{new_home}
+use Rattle.cut_index.proofs.tree.root_add.Goals as goal
+
+pub returns-in-Ok-clause-added : goal.returns-in-Ok-clause-added
+returns-in-Ok-clause-added g c = λ tells part begins take.
+    let b = g.B.BorderTree in
+    let p = c.args.point.now in
+    let m0 : PageMap = g.S.Pages.map c.args.stage.now in
+    let m1 : PageMap = g.S.Pages.map c.page_add.new.stage in
+    let up = c.in-Ok-Raised in
+    let told = up.ensures.changes.went_on.tells ∙ tells in
+    let made = c.in-Ok.ensures.made told in
+    let grown : IsAddedAs b m0 m1 c.args.count part p (up.cut ∷ Entry up.low ∷ Entry up.high ∷ []) =
+    subst (λ (change : Change). IsAddedAs b m0 m1 c.args.count part p (nodes_after change c.args.root)) up.field-0-is (up.ensures.added tells part begins take) in
+    new_home b c.border_laws.ensures.laws m0 m1 (g.S.Pages.map c.new_root.new.stage) c.args.count c.in-Ok.first part p (up.cut ∷ Entry up.low ∷ Entry up.high ∷ []) (omega arith) grown made.0 made.1

@@ -1,0 +1,77 @@
+use Rattle.std.proofs.Common.{◌≡◌, ℕ, suc, ◌+◌, ◌≤◌, length, subst, arith}
+use Rattle.page_ports.specs.Pages.{PageMap}
+use Rattle.cut_parts.specs.Standing.{cuts_growth}
+use Rattle.cut_index.specs.Growing.{page_growth}
+use Rattle.cut_index.proofs.Going.{changes_as}
+use Rattle.cut_index.proofs.NewPoints.{with_new}
+use Rattle.cut_index.proofs.Numbers.{tree_number}
+use Rattle.cut_index.proofs.WholeTrees.{tree_balanced, tree_began, tree_takes, tree_took}
+use Rattle.cut_index.proofs.tree.tree_add.Goals as goal
+
+pub returns-in-Ok-clause-added : goal.returns-in-Ok-clause-added
+returns-in-Ok-clause-added g c = λ tells points s new.
+    let b = g.B.BorderTree in
+    let p = c.args.point.now in
+    let three : length p.keys ≡ 3 = c.three_keys.ensures in
+    let may = with_new (suc b.DIMS) points p s.may_be new c.requires.keys c.requires.version three in
+    let made = c.in-Ok.ensures.made tells in
+    tree_began b (g.S.Pages.map c.args.stage.now) (g.S.Pages.map c.first_leaf.new.stage) c.args.tree.now c.in-Ok.first points p c.if-tree-eq0.true s may made.0 made.1 c.in-Ok.ensures.tree.1
+
+pub returns-in-Err-root_add-clause-sound : goal.returns-in-Err-root_add-clause-sound
+returns-in-Err-root_add-clause-sound g c = λ points page tells s new balanced order e.
+    let b = g.B.BorderTree in
+    let m : PageMap = g.S.Pages.map c.args.stage.now in
+    let p = c.args.point.now in
+    let tree = c.args.tree.now in
+    let not_none = c.if-tree-eq0.false in
+    let some : 1 ≤ tree.count = omega (arith, not_none) in
+    let three : length p.keys ≡ 3 = c.three_keys.ensures in
+    let known = s.part (omega (arith, s.count, some)) in
+    let take = tree_takes b m tree points known.0 p some s known.1 new three in
+    let well = c.in-Err-root_add.ensures.well tells known.0 known.1.begins take (tree_balanced b m tree points known.0 some known.1 balanced) in
+    well.sound order page cc
+
+pub returns-in-Err-root_add-clause-growth : goal.returns-in-Err-root_add-clause-growth
+returns-in-Err-root_add-clause-growth g c = λ tells points s new balanced.
+    let b = g.B.BorderTree in
+    let m : PageMap = g.S.Pages.map c.args.stage.now in
+    let p = c.args.point.now in
+    let tree = c.args.tree.now in
+    let not_none = c.if-tree-eq0.false in
+    let some : 1 ≤ tree.count = omega (arith, not_none) in
+    let three : length p.keys ≡ 3 = c.three_keys.ensures in
+    let known = s.part (omega (arith, s.count, some)) in
+    let take = tree_takes b m tree points known.0 p some s known.1 new three in
+    let well = c.in-Err-root_add.ensures.well tells known.0 known.1.begins take (tree_balanced b m tree points known.0 some known.1 balanced) in
+    let most : page_growth b tree.count + 1 ≤ cuts_growth b (length points) = subst (λ (k : ℕ). page_growth b tree.count + 1 ≤ cuts_growth b k) s.count (tree_number b c.border_laws.ensures.laws tree.count) in
+    changes_as g.S.Pages _ _ c.args.stage.now c.root_add.new.stage _ _ well most (λ f e. cc)
+
+pub returns-in-Ok-root_add-clause-growth : goal.returns-in-Ok-root_add-clause-growth
+returns-in-Ok-root_add-clause-growth g c = λ tells points s new balanced.
+    let b = g.B.BorderTree in
+    let m : PageMap = g.S.Pages.map c.args.stage.now in
+    let p = c.args.point.now in
+    let tree = c.args.tree.now in
+    let not_none = c.if-tree-eq0.false in
+    let some : 1 ≤ tree.count = omega (arith, not_none) in
+    let three : length p.keys ≡ 3 = c.three_keys.ensures in
+    let known = s.part (omega (arith, s.count, some)) in
+    let take = tree_takes b m tree points known.0 p some s known.1 new three in
+    let well = c.in-Ok-root_add.ensures.well tells known.0 known.1.begins take (tree_balanced b m tree points known.0 some known.1 balanced) in
+    let most : page_growth b tree.count + 1 ≤ cuts_growth b (length points) = subst (λ (k : ℕ). page_growth b tree.count + 1 ≤ cuts_growth b k) s.count (tree_number b c.border_laws.ensures.laws tree.count) in
+    changes_as g.S.Pages _ _ c.args.stage.now c.root_add.new.stage _ _ well most (λ f e. cc)
+
+pub returns-in-Ok-root_add-clause-added : goal.returns-in-Ok-root_add-clause-added
+returns-in-Ok-root_add-clause-added g c = λ tells points s new.
+    let b = g.B.BorderTree in
+    let m : PageMap = g.S.Pages.map c.args.stage.now in
+    let p = c.args.point.now in
+    let tree = c.args.tree.now in
+    let not_none = c.if-tree-eq0.false in
+    let some : 1 ≤ tree.count = omega (arith, not_none) in
+    let three : length p.keys ≡ 3 = c.three_keys.ensures in
+    let known = s.part (omega (arith, s.count, some)) in
+    let take = tree_takes b m tree points known.0 p some s known.1 new three in
+    let may = with_new (suc b.DIMS) points p s.may_be new c.requires.keys c.requires.version three in
+    tree_took b m (g.S.Pages.map c.root_add.new.stage) tree c.tree_of.result points known.0 p c.in-Ok-root_add.root some s known.1 may
+    (c.in-Ok-root_add.ensures.added tells known.0 known.1.begins take) c.tree_of.ensures

@@ -1,0 +1,3 @@
+pub mod Additions
+pub mod Going
+pub mod Growing

@@ -1,0 +1,123 @@
+//! A part that is made anew.
+ghost use Rattle.std.specs.Prelude.{◌≡◌, ◌+◌, ◌-◌, ◌*◌, ◌^◌, ◌≤◌, ◌<◌, ◌++◌, ◌∷◌, [], ℕ, suc, List, length, drop, IsTrue, IfOk, OnOk, IsPermutation};
+ghost use Rattle.bw_types.specs.declared.point.Point.{Point};
+ghost use Rattle.page_ports.specs.Calls.{Changes, Grows};
+ghost use Rattle.page_ports.specs.Frame.{Replaces};
+ghost use Rattle.page_layout.specs.Footprint.{NamesNoneTwice};
+ghost use Rattle.page_layout.specs.declared.cuts_page.CutsNode.{CutsNode};
+ghost use Rattle.dom_index.specs.Points.{AreKeysBelow};
+ghost use Rattle.cut_parts.specs.Borders.{MayBeBuilt};
+ghost use Rattle.cut_parts.specs.Parts.{Part, points_of};
+ghost use Rattle.cut_parts.specs.Spelling.{nodes_of};
+ghost use Rattle.cut_parts.specs.Standing.{PartStands, cuts_share, part_pages};
+ghost use Rattle.cut_pages.specs.Nodes.{AreNodes};
+ghost use Rattle.cut_index.specs.Additions.{IsGrownIn, MayTake};
+ghost use Rattle.cut_build.specs.Built.{IsBuiltAt};
+ghost use Rattle.cut_index.specs.Going.{GoesWell};
+
+use bw_types::Point;
+use cut_build::{build_part, collect_nodes, drop_nodes};
+use cut_pages::replace_part;
+use cut_parts::BorderTree;
+use cut_points::may_be_built;
+use page_layout::CutsPage;
+use page_ports::{Stage, StageFault};
+use std::alloc::Global;
+
+/// Makes the part of so many points anew whose nodes begin at this place, with one point more: its points are collected, all its
+/// pages and borders are freed, and a part is built whose entry takes the place of the nodes.
+///
+/// `Damaged` carries a page of the part, or the page of the nodes, where none may be built of the points.
+pub(crate) fn part_anew<B: BorderTree, S: Stage>(
+    alloc: Global,
+    stage: &mut S,
+    page: u64,
+    cuts: &mut CutsPage,
+    place: usize,
+    count: u32,
+    point: &Point,
+) -> Result<(), StageFault>
+    requires place { place < length cuts.old.nodes.items }
+    requires nodes { AreNodes cuts.old.nodes.items }
+    requires keys { AreKeysBelow (suc B.DIMS) point.now.keys }
+    requires version { point.now.version < 2 ^ 32 - 1 }
+    ensures added { OnOk result (IsTrue (S.tells stage.old) → (part : Part) (front rest : List CutsNode)
+        → cuts.old.nodes.items ≡ front ++ (nodes_of part ++ rest) → place ≡ length front → MayTake B.BorderTree (S.map stage.old) count part point.now
+        → IsGrownIn B.BorderTree (S.map stage.old) (S.map stage.new) count part point.now cuts.new.nodes.items front rest) }
+    ensures nodes { OnOk result (AreNodes cuts.new.nodes.items) }
+    ensures well { IsTrue (S.tells stage.old) → (part : Part) (front rest : List CutsNode)
+        → cuts.old.nodes.items ≡ front ++ (nodes_of part ++ rest) → place ≡ length front → MayTake B.BorderTree (S.map stage.old) count part point.now
+        → GoesWell S.Pages ((count + 1) * cuts_share B.BorderTree (count + 1)) stage.old stage.new result }
+    ensures changes { Changes S.Pages (S.allotted stage.new + 1) stage.old stage.new result }
+{
+    B::border_laws();
+    let mut points = Vec::new(alloc);
+    match take_part::<B, S>(stage, page, cuts, place, count, &mut points) {
+        Err(fault) => return Err(fault),
+        Ok(()) => {}
+    }
+    match points.push(*point) {
+        Err(_) => return Err(StageFault::NoMemory),
+        Ok(()) => {}
+    }
+    match build_again::<B, S>(alloc, stage, page, points.as_mut_slice()) {
+        Err(fault) => Err(fault),
+        Ok(child) => {
+            replace_part(cuts, place, child);
+            Ok(())
+        }
+    }
+}
+
+// Builds a part of points, where one may be built of them.
+fn build_again<B: BorderTree, S: Stage>(
+    alloc: Global,
+    stage: &mut S,
+    page: u64,
+    points: &mut [Point],
+) -> Result<u64, StageFault>
+    requires { 1 ≤ length points.old }
+    ensures number { IfOk result (λ child. 3 ≤ child) }
+    ensures built { IfOk result (λ child. IsTrue (S.tells stage.old) → (few : List Point) → IsPermutation points.old few
+        → IsBuiltAt B.BorderTree few (S.map stage.old) (S.map stage.new) child) }
+    ensures well { IsTrue (S.tells stage.old) → MayBeBuilt (suc B.DIMS) points.old
+        → GoesWell S.Pages (length points.old * cuts_share B.BorderTree (length points.old)) stage.old stage.new result }
+    ensures grows { Grows S.Pages (S.allotted stage.new + 1) stage.old stage.new result }
+{
+    B::border_laws();
+    if !may_be_built(points, B::DIMS + 1) {
+        return Err(StageFault::Damaged(page));
+    }
+    match build_part::<B, S>(alloc, stage, points) {
+        Err(fault) => Err(fault),
+        Ok(child) => Ok(child),
+    }
+}
+
+// Collects the points of a part, and frees its pages and borders.
+fn take_part<B: BorderTree, S: Stage>(
+    stage: &mut S,
+    page: u64,
+    cuts: &CutsPage,
+    place: usize,
+    count: u32,
+    points: &mut Vec<Point>,
+) -> Result<(), StageFault>
+    requires place { place < length cuts.now.nodes.items }
+    ensures taken { OnOk result (IsTrue (S.tells stage.old) → (part : Part) (rest : List CutsNode) → drop place cuts.now.nodes.items ≡ nodes_of part ++ rest
+        → PartStands B.BorderTree (S.map stage.old) count part → NamesNoneTwice (part_pages B.BorderTree (S.map stage.old) part)
+        → (points.new.items ≡ points.old.items ++ points_of part) × Replaces (part_pages B.BorderTree (S.map stage.old) part) [] (S.map stage.old) (S.map stage.new)) }
+    ensures well { IsTrue (S.tells stage.old) → (part : Part) (rest : List CutsNode) → drop place cuts.now.nodes.items ≡ nodes_of part ++ rest
+        → PartStands B.BorderTree (S.map stage.old) count part → NamesNoneTwice (part_pages B.BorderTree (S.map stage.old) part)
+        → GoesWell S.Pages 0 stage.old stage.new result }
+    ensures changes { Changes S.Pages 0 stage.old stage.new result }
+{
+    let nodes = &cuts.nodes.as_slice()[place..];
+    match collect_nodes::<B, S>(stage, page, nodes, count, points) {
+        Err(fault) => Err(fault),
+        Ok(()) => match drop_nodes::<B, S>(stage, page, nodes, count) {
+            Err(fault) => Err(fault),
+            Ok(()) => Ok(()),
+        },
+    }
+}

@@ -1,0 +1,177 @@
+//! A point that is added to a tree of cuts.
+ghost use Rattle.std.specs.Prelude.{◌≡◌, ◌≢◌, ◌+◌, ◌-◌, ◌^◌, ◌≤◌, ◌<◌, ◌∷◌, [], ℕ, suc, nat_le, if◌then◌else◌, List, length, Some, Err, IsTrue, IfOk, OnOk, OnErr};
+ghost use Rattle.bw_types.specs.declared.point.Point.{Point};
+ghost use Rattle.page_ports.specs.Calls.{Changes, Grows};
+ghost use Rattle.page_ports.specs.Frame.{Replaces};
+ghost use Rattle.page_layout.specs.TreeValue.{IsTreeTyped, tree_fits};
+ghost use Rattle.page_layout.specs.declared.cuts_page.CutsNode.TheVariants.{Entry};
+ghost use Rattle.dom_index.specs.Points.{AreKeysBelow, IsNewPoint};
+ghost use Rattle.cut_parts.specs.Borders.{TakesPoint};
+ghost use Rattle.cut_parts.specs.Parts.{Part};
+ghost use Rattle.cut_parts.specs.Spelling.{HoldsCuts, HoldsLeaf, first_page};
+ghost use Rattle.cut_parts.specs.Standing.{CutsBalanced, CutsStand, PartBalanced, cuts_growth, tree_pages};
+ghost use Rattle.cut_index.specs.Additions.{ChangeFits, IsAddedAs, MayTake};
+ghost use Rattle.cut_index.specs.Going.{GoesWell};
+ghost use Rattle.cut_index.specs.Growing.{page_growth};
+ghost use Rattle.cut_index.specs.declared.change.Change.TheVariants.{Raised};
+
+use crate::adding::page_add;
+use crate::change::Change;
+use arrayvec::ArrayVec;
+use bw_types::{Point, Tree};
+use cut_pages::{make_cuts, make_leaf};
+use cut_parts::BorderTree;
+use page_layout::{CutsNode, CutsPage};
+use page_ports::{Stage, StageFault};
+use std::alloc::Global;
+
+const MOST_POINTS: u32 = 0x8000_0000;
+
+/// Adds a point. Where the tree stood and the point is new to it, it stands for one point more.
+///
+/// A point goes down the cuts to a leaf, into the borders of those cuts on its way of which it is below. Where a side of a cut would
+/// have more than three fifths of its points, the part of this cut is made anew, and the addition ends with it. A leaf of 64 points
+/// and a page of 64 entries are split.
+///
+/// After a refusal the tree value is as it was, and the stage is to be abandoned. `Disk` comes only where the count of faults rose,
+/// `PageLimit` only where as many page numbers are given out as the limit allows, and `NoMemory` where the stage or the call finds
+/// none. `Damaged` never comes where the tree stands and is balanced, the point is new and the free pages are in order; it carries
+/// the root where the tree has `2^31` points.
+pub fn tree_add<B: BorderTree, S: Stage>(
+    alloc: Global,
+    stage: &mut S,
+    tree: &mut Tree,
+    point: &Point,
+) -> Result<(), StageFault>
+    requires keys { AreKeysBelow (suc B.DIMS) point.now.keys }
+    requires version { point.now.version < 2 ^ 32 - 1 }
+    ensures added { OnOk result (IsTrue (S.tells stage.old) → (points : List Point) → CutsStand B.BorderTree (S.map stage.old) tree.old points
+        → IsNewPoint (suc B.DIMS) points point.now
+        → TakesPoint (CutsStand B.BorderTree) (tree_pages B.BorderTree) (CutsBalanced B.BorderTree) (S.map stage.old) (S.map stage.new) tree.old tree.new points point.now) }
+    ensures count { OnOk result (tree.new.count ≡ tree.old.count + 1) }
+    ensures rules { OnOk result (IsTrue (tree_fits tree.old) → IsTrue (tree_fits tree.new)) }
+    ensures typed { IsTreeTyped tree.new }
+    ensures unchanged { OnErr result (tree.new ≡ tree.old) }
+    ensures sound { (points : List Point) (page : ℕ) → IsTrue (S.tells stage.old) → CutsStand B.BorderTree (S.map stage.old) tree.old points
+        → IsNewPoint (suc B.DIMS) points point.now → CutsBalanced B.BorderTree (S.map stage.old) tree.old → S.free_in_order stage.old
+        → result ≢ Err (StageFault.Damaged page) }
+    ensures changes { Changes S.Pages (S.allotted stage.new + 1) stage.old stage.new result }
+    ensures growth { IsTrue (S.tells stage.old) → (points : List Point) → CutsStand B.BorderTree (S.map stage.old) tree.old points
+        → IsNewPoint (suc B.DIMS) points point.now → CutsBalanced B.BorderTree (S.map stage.old) tree.old
+        → Changes S.Pages (cuts_growth B.BorderTree (length points)) stage.old stage.new result }
+{
+    B::border_laws();
+    three_keys(point);
+    if tree.count == 0 {
+        return match first_leaf(stage, point) {
+            Err(fault) => Err(fault),
+            Ok(first) => {
+                *tree = first;
+                Ok(())
+            }
+        };
+    }
+    if tree.root < 3 || tree.count >= MOST_POINTS {
+        return Err(StageFault::Damaged(tree.root));
+    }
+    match root_add::<B, S>(alloc, stage, tree.root, tree.count, point) {
+        Err(fault) => Err(fault),
+        Ok(root) => {
+            *tree = tree_of(root, tree.count + 1);
+            Ok(())
+        }
+    }
+}
+
+// Proves that a point has three keys; it does nothing when it runs.
+fn three_keys(point: &Point)
+    ensures { length point.now.keys ≡ 3 }
+{
+    let _keys = point.keys;
+}
+
+// The tree of so many points, of which there are some, with this root.
+fn tree_of(root: u64, count: u32) -> Tree
+    ensures { result ≡ record { root = root; levels = if nat_le count 64 then 1 else 2; count = count; changes = 0; last = 0 } }
+{
+    Tree {
+        root,
+        levels: if count <= 64 { 1 } else { 2 },
+        count,
+        changes: 0,
+        last: 0,
+    }
+}
+
+// A tree of one point.
+fn first_leaf<S: Stage>(stage: &mut S, point: &Point) -> Result<Tree, StageFault>
+    ensures made { IfOk result (λ tree. IsTrue (S.tells stage.old) → HoldsLeaf (S.map stage.new) tree.root (point.now ∷ [])
+        × Replaces [] (tree.root ∷ []) (S.map stage.old) (S.map stage.new)) }
+    ensures tree { IfOk result (λ tree. (3 ≤ tree.root) × (tree ≡ record { root = tree.root; levels = 1; count = 1; changes = 0; last = 0 })) }
+    ensures well { IsTrue (S.tells stage.old) → GoesWell S.Pages 1 stage.old stage.new result }
+    ensures grows { Grows S.Pages 1 stage.old stage.new result }
+{
+    match make_leaf(stage, &[*point]) {
+        Err(fault) => Err(fault),
+        Ok(root) => Ok(tree_of(root, 1)),
+    }
+}
+
+// Adds a point to the part that is all of a tree, whose first page this is: the page with which it begins then. A root that is
+// split gets a new root page of one cut.
+fn root_add<B: BorderTree, S: Stage>(
+    alloc: Global,
+    stage: &mut S,
+    root: u64,
+    count: u32,
+    point: &Point,
+) -> Result<u64, StageFault>
+    requires root { 3 ≤ root }
+    requires count { count < 2 ^ 31 }
+    requires keys { AreKeysBelow (suc B.DIMS) point.now.keys }
+    requires version { point.now.version < 2 ^ 32 - 1 }
+    ensures added { IfOk result (λ first. IsTrue (S.tells stage.old) → (part : Part) → first_page part ≡ Some root
+        → MayTake B.BorderTree (S.map stage.old) count part point.now
+        → IsAddedAs B.BorderTree (S.map stage.old) (S.map stage.new) count part point.now (Entry first ∷ [])) }
+    ensures number { IfOk result (λ first. 3 ≤ first) }
+    ensures well { IsTrue (S.tells stage.old) → (part : Part) → first_page part ≡ Some root → MayTake B.BorderTree (S.map stage.old) count part point.now
+        → PartBalanced B.BorderTree (S.map stage.old) part → GoesWell S.Pages (page_growth B.BorderTree count + 1) stage.old stage.new result }
+    ensures changes { Changes S.Pages (S.allotted stage.new + 1) stage.old stage.new result }
+{
+    B::border_laws();
+    match page_add::<B, S>(alloc, stage, root, count, point) {
+        Err(fault) => Err(fault),
+        Ok(Change::Same) => Ok(root),
+        Ok(Change::Moved { page }) => Ok(page),
+        Ok(Change::Raised { cut, low, high }) => match new_root::<S>(stage, &cut, low, high) {
+            Err(fault) => Err(fault),
+            Ok(first) => Ok(first),
+        },
+    }
+}
+
+// A new root page of one cut.
+fn new_root<S: Stage>(stage: &mut S, cut: &CutsNode, low: u64, high: u64) -> Result<u64, StageFault>
+    requires { ChangeFits (Raised cut.now low high) }
+    ensures made { IfOk result (λ page. IsTrue (S.tells stage.old) → HoldsCuts (S.map stage.new) page (cut.now ∷ Entry low ∷ Entry high ∷ [])
+        × Replaces [] (page ∷ []) (S.map stage.old) (S.map stage.new)) }
+    ensures number { IfOk result (λ page. 3 ≤ page) }
+    ensures well { IsTrue (S.tells stage.old) → GoesWell S.Pages 1 stage.old stage.new result }
+    ensures grows { Grows S.Pages 1 stage.old stage.new result }
+{
+    match make_cuts(stage, &one_cut(cut, low, high)) {
+        Err(fault) => Err(fault),
+        Ok(page) => Ok(page),
+    }
+}
+
+// The nodes of one cut between two entries.
+fn one_cut(cut: &CutsNode, low: u64, high: u64) -> CutsPage
+    ensures { result.nodes.items ≡ cut.now ∷ Entry low ∷ Entry high ∷ [] }
+{
+    let mut nodes = ArrayVec::new();
+    nodes.push(*cut);
+    nodes.push(CutsNode::Entry { child: low });
+    nodes.push(CutsNode::Entry { child: high });
+    CutsPage { nodes }
+}

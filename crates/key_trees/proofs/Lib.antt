@@ -1,0 +1,4 @@
+pub mod Sums
+pub mod Additions
+pub mod Laws
+pub mod ThreePoints

@@ -1,0 +1,8 @@
+//! Multiversion trees as borders: the trees over one dimension beside the cuts of trees over two.
+#![tactic(auto)]
+
+mod key_tree;
+#[cfg(test)]
+mod tests;
+
+pub use key_tree::KeyTree;

@@ -1,0 +1,16 @@
+//! Trees of cuts over two dimensions, whose borders are multiversion trees. They are the borders of trees over three dimensions.
+#![tactic(auto)]
+
+mod plane_tree;
+#[cfg(test)]
+mod samples;
+#[cfg(test)]
+mod tests_broken;
+#[cfg(test)]
+mod tests_random;
+#[cfg(test)]
+mod tests_rows;
+#[cfg(test)]
+mod walker;
+
+pub use plane_tree::PlaneTree;
