@@ -14,7 +14,9 @@ pub mod Worked
 pub mod Residues
 pub mod ResidueLaws
 pub mod Keys
-pub mod Heights
-pub mod HeightLaws
+pub mod Digits
+pub mod DigitLaws
+pub mod Depths
+pub mod DepthLaws
 pub mod Regions
-pub mod Classes
+pub mod Without

@@ -3,17 +3,16 @@
 //
 // Everything above rests on these definitions. What a warehouse answers is said by rows, lists and sums
 // alone: no page, no tree, no corner and no residue. Apart from that stand the words of the trees below it:
-// residues modulo 2^128, the keys of points, regions of keys and where a point stands beside one, heights, and
-// how many pages a query reads and a change takes, each but the regions with its laws. Each definition can be computed; the laws in `worked.rt` compute them on whole
-// examples, so that a wrong definition shows before anything stands on it.
+// residues modulo 2^128, the keys of points, regions of keys, points without a dimension, how deep the cuts over points
+// may lie, and how many pages a query reads and an addition takes. Residues, digits and depths have their laws beside them.
+// Each definition can be computed; the laws in `worked.rt` compute them on whole examples, so that a wrong definition
+// shows before anything stands on it.
 #![tactic(auto)]
 
-mod ba_entry;
 mod change;
-mod class;
 mod dated;
+pub mod depths;
 mod fits;
-pub mod heights;
 mod key;
 mod object;
 mod params;
@@ -29,9 +28,7 @@ mod tests;
 mod tree;
 pub mod worked;
 
-pub use ba_entry::{BaEntry, Outside};
 pub use change::Change;
-pub use class::Class;
 pub use dated::Dated;
 pub use fits::{coefficient_count, object_fits, query_fits};
 pub use key::{keys_are_ordered, point_key, query_key};

@@ -1,9 +1,6 @@
 //! The laws and the worked examples, called.
 
-use crate::heights::{
-    digits_are_counted, heights_are_least, heights_are_worked, heights_grow, heights_unfold,
-    pages_unfold, parts_take_no_more,
-};
+use crate::depths::{depths_are_worked, depths_grow, digits_are_counted};
 use crate::keys_are_ordered;
 use crate::residue_laws::{
     residues_add_up, residues_are_below, residues_are_signed, residues_follow,
@@ -23,13 +20,9 @@ fn laws_do_nothing(_: HostRuntime) -> Result<(), Fail> {
     residues_are_signed();
     residues_add_up();
     keys_are_ordered();
-    heights_are_worked();
-    heights_unfold();
-    pages_unfold();
     digits_are_counted();
-    heights_are_least();
-    heights_grow();
-    parts_take_no_more();
+    depths_are_worked();
+    depths_grow();
     Ok(())
 }
 

@@ -1,18 +1,14 @@
 -- Bytes that are the spelling of what they may spell, where some of them are named by no field and have to be 0.
-use Rattle.std.specs.Prelude.{◌≡◌, ◌≢◌, ℕ, zero, suc, ◌+◌, ◌-◌, ◌*◌, ◌≤◌, ◌==◌, ◌↔◌, List, [], ◌∷◌, ◌++◌, length, take, drop, slice_index, refl}
+use Rattle.std.specs.Prelude.{◌≡◌, ◌≢◌, ℕ, zero, suc, ◌+◌, ◌-◌, ◌*◌, ◌≤◌, ◌↔◌, List, ◌∷◌, ◌++◌, length, take, drop, slice_index, refl}
 use Rattle.std.specs.List.{flat_map}
-use Rattle.std.proofs.Common.{sym, ap, ◌∙◌, subst, append_assoc, drop-cons, inl, inr, arith}
+use Rattle.std.proofs.Common.{sym, ap, ◌∙◌, subst, append_assoc, drop-cons, arith}
 use Rattle.std.proofs.Math.Nat.{zero-mul, suc-mul}
-use Rattle.std.proofs.lemmas.Bool.{cases_eq, cond-true, cond-false, eq-eqb, ne_eqb}
 use Rattle.std.proofs.lemmas.List.{drop_at, drop-drop, take-append-drop}
-use Rattle.bw_types.specs.declared.ba_entry.Outside.{Outside}
-use Rattle.page_layout.specs.Numbers.{spelled, number_in, zeros, length-zeros, past-spelled, past_more, next_number}
+use Rattle.page_layout.specs.Numbers.{spelled, number_in, zeros, past_more}
 use Rattle.page_layout.specs.Bytes.{AreBytes, bytes-drop}
 use Rattle.page_layout.specs.Entries.{entries_at}
-use Rattle.page_layout.specs.Respelled.{respelled, respelled_at, number_in-lt, two_more, length-read, each_of}
-use Rattle.page_layout.specs.CutNode.{cut_node_bytes, cut_node_at, IsCutNodeTyped}
+use Rattle.page_layout.specs.Respelled.{respelled, respelled_at, number_in-lt}
 use Rattle.page_layout.specs.TreeValue.{tree_bytes, tree_at, IsTreeTyped, length-tree}
-use Rattle.page_layout.specs.BaEntry.{outside_bytes, outside_at, pocket_at, trees_at, IsOutsideTyped, ba_entry_bytes, ba_entry_at, IsBaEntryTyped}
 
 -- The bytes at the front are the spelling of the value that is read of them.
 abbrev pub IsExact : {X : Type 0} → (X → List ℕ) → (List ℕ → X) → ℕ → List ℕ → Type 0
@@ -85,32 +81,9 @@ three_zeros : (m : ℕ) (b : List ℕ) → AreZerosAt m 3 b → 0 ∷ 0 ∷ 0 �
 unfolding zeros
 three_zeros m b z = zeros_then m 3 b z
 
-six_zeros : (m : ℕ) (b : List ℕ) → AreZerosAt m 6 b → 0 ∷ 0 ∷ 0 ∷ 0 ∷ 0 ∷ 0 ∷ drop (m + 6) b ≡ drop m b
-unfolding zeros
-six_zeros m b z = zeros_then m 6 b z
-
 take_three : (r : List ℕ) → take 3 (0 ∷ 0 ∷ 0 ∷ r) ≡ zeros 3
 unfolding zeros
 take_three r = refl
-
-take_six : (r : List ℕ) → take 6 (0 ∷ 0 ∷ 0 ∷ 0 ∷ 0 ∷ 0 ∷ r) ≡ zeros 6
-unfolding zeros
-take_six r = refl
-
-take_front : (p q : List ℕ) → take (length p) (p ++ q) ≡ p
-take_front [] q = refl
-take_front (x ∷ p) q = ap (λ (r : List ℕ). x ∷ r) (take_front p q)
-
--- A node of cuts is exact where its six unnamed bytes are 0.
-pub node_exact : (b : List ℕ) → AreBytes b → 16 ≤ length b → AreZerosAt 2 6 b ↔ IsExact cut_node_bytes cut_node_at 16 b
-node_exact b h room =
-    let tag : ℕ = slice_index b 0 in
-    let dimension : ℕ = slice_index b 1 in
-    let key : List ℕ = spelled 8 (number_in 8 (drop 8 b)) in (
-      λ z. ap (λ (r : List ℕ). tag ∷ dimension ∷ 0 ∷ 0 ∷ 0 ∷ 0 ∷ 0 ∷ 0 ∷ r) (respelled_at 8 8 b h room)
-          ∙ ap (λ (r : List ℕ). tag ∷ dimension ∷ r) (six_zeros 2 b z) ∙ two_more tag dimension b refl refl (omega arith),
-      λ e. ap (λ (x : List ℕ). take 6 (drop 2 x)) (sym e) ∙ take_six (key ++ drop 16 b),
-    )
 
 -- A tree is exact where its three unnamed bytes are 0.
 pub tree_exact : (b : List ℕ) → AreBytes b → 28 ≤ length b → AreZerosAt 9 3 b ↔ IsExact tree_bytes tree_at 28 b
@@ -134,76 +107,8 @@ tree_exact b h room =
           ∙ take_three ((count ++ (changes ++ last)) ++ drop 28 b),
     )
 
--- A pocket is exact where its unnamed bytes are 0.
-pocket_exact : (b : List ℕ) → AreBytes b → 112 ≤ length b → slice_index b 8 ≡ 255
-    → (AreZerosAt 9 3 b × AreZerosAt 16 96 b) ↔ (outside_bytes (pocket_at b) ++ drop 112 b ≡ b)
-pocket_exact b h room mark =
-    let page : List ℕ = spelled 8 (number_in 8 b) in
-    let count : List ℕ = spelled 4 (number_in 4 (drop 12 b)) in
-    let pad : List ℕ = zeros 96 in
-    let whole : List ℕ = outside_bytes (pocket_at b) ++ drop 112 b in
-    let right : whole ≡ page ++ (255 ∷ 0 ∷ 0 ∷ 0 ∷ ((count ++ pad) ++ drop 112 b)) =
-    append_assoc page (255 ∷ 0 ∷ 0 ∷ 0 ∷ (count ++ pad)) (drop 112 b) in (
-      λ z. right
-          ∙ ap (λ (r : List ℕ). page ++ (255 ∷ 0 ∷ 0 ∷ 0 ∷ r)) (append_assoc count pad (drop 112 b) ∙ ap (λ (r : List ℕ). count ++ r) (zeros_then 16 96 b z.1) ∙ respelled_at 12 4 b h (omega arith))
-          ∙ ap (λ (r : List ℕ). page ++ (255 ∷ r)) (three_zeros 9 b z.0)
-          ∙ ap (λ (n : ℕ). page ++ (n ∷ drop 9 b)) (sym mark)
-          ∙ ap (λ (r : List ℕ). page ++ r) (sym (drop-cons b 8 0 (omega arith))) ∙ respelled 8 b h (omega arith),
-      λ e. (
-        ap (λ (x : List ℕ). take 3 (drop 9 x)) (sym e ∙ right)
-            ∙ ap (λ (x : List ℕ). take 3 x) (past_more 8 1 (number_in 8 b) (255 ∷ 0 ∷ 0 ∷ 0 ∷ ((count ++ pad) ++ drop 112 b)))
-            ∙ take_three ((count ++ pad) ++ drop 112 b),
-        let at12 : drop 12 whole ≡ count ++ (pad ++ drop 112 b) =
-            ap (λ (x : List ℕ). drop 12 x) right ∙ past_more 8 4 (number_in 8 b) (255 ∷ 0 ∷ 0 ∷ 0 ∷ ((count ++ pad) ++ drop 112 b)) ∙ append_assoc count pad (drop 112 b) in
-            let at16 : drop 16 whole ≡ pad ++ drop 112 b = next_number whole (number_in 4 (drop 12 b)) (pad ++ drop 112 b) 12 4 at12 in
-            ap (λ (x : List ℕ). take 96 (drop 16 x)) (sym e) ∙ ap (λ (x : List ℕ). take 96 x) at16
-            ∙ ap (λ (n : ℕ). take n (pad ++ drop 112 b)) (sym (length-zeros 96)) ∙ take_front pad (drop 112 b),
-      ),
-    )
-
 pub tree_sized : (b : List ℕ) → AreBytes b → length (tree_bytes (tree_at b)) ≡ 28
 tree_sized b h = length-tree (tree_at b)
 
-trees_exact : (b : List ℕ) → AreBytes b → EachExact tree_bytes tree_at 28 4 b ↔ (outside_bytes (trees_at b) ++ drop 112 b ≡ b)
-unfolding entries_at
-trees_exact b h = (λ each. row_exact tree_bytes tree_at 28 4 b each, λ e. (exact_row tree_bytes tree_at 28 tree_sized 4 b (drop 112 b) h e).0)
-
--- What stands outside is exact as a pocket or as trees.
-pub outside_exact-pocket : (b : List ℕ) → AreBytes b → 112 ≤ length b → slice_index b 8 ≡ 255
-    → (AreZerosAt 9 3 b × AreZerosAt 16 96 b) ↔ IsExact outside_bytes outside_at 112 b
-outside_exact-pocket b h room mark =
-    subst (λ (o : Outside). (AreZerosAt 9 3 b × AreZerosAt 16 96 b) ↔ (outside_bytes o ++ drop 112 b ≡ b))
-    (sym (cond-true (slice_index b 8 == 255) (pocket_at b) (trees_at b) (eq-eqb (slice_index b 8) 255 mark))) (pocket_exact b h room mark)
-
-pub outside_exact-trees : (b : List ℕ) → AreBytes b → slice_index b 8 ≢ 255 → EachExact tree_bytes tree_at 28 4 b ↔ IsExact outside_bytes outside_at 112 b
-outside_exact-trees b h other =
-    subst (λ (o : Outside). EachExact tree_bytes tree_at 28 4 b ↔ (outside_bytes o ++ drop 112 b ≡ b))
-    (sym (cond-false (slice_index b 8 == 255) (pocket_at b) (trees_at b) (ne_eqb (slice_index b 8) 255 other))) (trees_exact b h)
-
--- An entry is exact where what stands outside is.
-pub entry_exact : (b : List ℕ) → AreBytes b → 120 ≤ length b → IsExact outside_bytes outside_at 112 (drop 8 b) ↔ IsExact ba_entry_bytes ba_entry_at 120 b
-entry_exact b h room =
-    let child : List ℕ = spelled 8 (number_in 8 b) in
-    let outside : List ℕ = outside_bytes (outside_at (drop 8 b)) in
-    let right : (child ++ outside) ++ drop 120 b ≡ child ++ (outside ++ drop 112 (drop 8 b)) =
-    append_assoc child outside (drop 120 b) ∙ ap (λ (r : List ℕ). child ++ (outside ++ r)) (sym (drop-drop 112 8 b)) in (
-      λ o. right ∙ ap (λ (r : List ℕ). child ++ r) o ∙ respelled 8 b h (omega arith),
-      λ e. sym (past-spelled 8 (number_in 8 b) (outside ++ drop 112 (drop 8 b))) ∙ ap (λ (x : List ℕ). drop 8 x) (sym right ∙ e),
-    )
-
 pub tree-typed : (b : List ℕ) → AreBytes b → IsTreeTyped (tree_at b)
 tree-typed b h = (number_in-lt 8 b h, number_in-lt 4 (drop 12 b) (bytes-drop 12 b h), number_in-lt 4 (drop 16 b) (bytes-drop 16 b h), number_in-lt 8 (drop 20 b) (bytes-drop 20 b h))
-
-outside-typed : (b : List ℕ) → AreBytes b → IsOutsideTyped (outside_at b)
-outside-typed b h = elim (cases_eq (slice_index b 8) 255) [
-  | inl mark ↦ subst (λ (o : Outside). IsOutsideTyped o) (sym (cond-true (slice_index b 8 == 255) (pocket_at b) (trees_at b) (eq-eqb (slice_index b 8) 255 mark)))
-      (number_in-lt 8 b h, number_in-lt 4 (drop 12 b) (bytes-drop 12 b h))
-  | inr other ↦ subst (λ (o : Outside). IsOutsideTyped o) (sym (cond-false (slice_index b 8 == 255) (pocket_at b) (trees_at b) (ne_eqb (slice_index b 8) 255 other)))
-      (tree-typed b h, length-read tree_at 28 3 (drop 28 b), each_of IsTreeTyped tree_at 28 tree-typed 3 (drop 28 b) (bytes-drop 28 b h))
-]
-
-pub entry-typed : (b : List ℕ) → AreBytes b → IsBaEntryTyped (ba_entry_at b)
-entry-typed b h = (number_in-lt 8 b h, outside-typed (drop 8 b) (bytes-drop 8 b h))
-
-pub node-typed : (b : List ℕ) → AreBytes b → IsCutNodeTyped (cut_node_at b)
-node-typed b h = number_in-lt 8 (drop 8 b) (bytes-drop 8 b h)

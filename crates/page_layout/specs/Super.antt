@@ -8,9 +8,9 @@ use Rattle.page_layout.specs.declared.super_page.Super.{Super}
 abbrev pub magic : List ℕ
 magic = 66 ∷ 79 ∷ 88 ∷ 83 ∷ 85 ∷ 77 ∷ 87 ∷ 72 ∷ []
 
--- 1 for a plain warehouse, whose origin is 0, and 2 for a signed one
+-- 3 for a plain warehouse, whose origin is 0, and 4 for a signed one
 abbrev pub format_of : ℕ → ℕ
-format_of origin = if origin == 0 then 1 else 2
+format_of origin = if origin == 0 then 3 else 4
 
 -- the degree, or 255 for none
 abbrev pub degree_byte : Option ℕ → ℕ

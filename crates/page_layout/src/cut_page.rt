@@ -1,113 +1,254 @@
-//! Pages of cuts: the index pages of trees in two and three dimensions.
-ghost use Rattle.std.specs.Prelude.{refl, ◌≡◌, ◌≤◌, ◌↔◌, IsTrue};
-ghost use Rattle.std.specs.List.{All};
-ghost use Rattle.page_layout.specs.CutNode.{IsCutNodeTyped};
-ghost use Rattle.page_layout.specs.BaEntry.{IsBaEntryTyped};
+//! Pages of cuts that have borders: the index pages of trees in two and three dimensions.
+ghost use Rattle.std.specs.Prelude.{refl, ◌≡◌, ◌+◌, ◌*◌, ◌≤◌, ◌++◌, ◌↔◌, IsTrue, length, take};
+ghost use Rattle.std.specs.List.{flat_map, All};
 ghost use Rattle.page_layout.specs.Counted.{not_free};
-ghost use Rattle.page_layout.specs.CutPage.{IsCutPage, IsTyped, count_in, nodes_in, entries_in, cut_page_in, cut_page_page};
+ghost use Rattle.page_layout.specs.TreeValue.{IsTreeTyped};
+ghost use Rattle.page_layout.specs.CutPage.{IsCutPage, IsNodeTyped, IsTyped, border_at, border_bytes, count_in, cut_count, cut_one, cut_page_in, cut_page_page, first_bytes, node_at, node_bytes, node_fits, nodes_from, open_places, past_border};
 ghost use Rattle.page_layout.specs.CutPageLaws.{cut_page_in-page};
+ghost use Rattle.page_layout.specs.CutParting.{PreOrderIsTested};
 
-use crate::ba_entry::entries_fit_at;
-use crate::counted::{read_body, read_count, read_double, read_word, start};
-use crate::cut_node::{CutNode, spell_cuts};
-use crate::entry::{each_keeps, get_all, put_all};
-use crate::exact::{are_entries_exact, are_nodes_exact};
-use crate::front::finish;
-use crate::number::{after, bytes_of, skip};
+use crate::counted::{read_body, read_count, start};
+use crate::entry::Entry;
+use crate::front::{finish, put, put_u8, put_u32, put_u64};
+use crate::number::{number_u32, number_u64, skip};
 use crate::spelled::{Spelled, TreePage};
-use crate::zero_bytes::are_zeros;
+use crate::tree_value::tree_fits;
 use arrayvec::ArrayVec;
-use bw_types::BaEntry;
-use page_ports::Page;
+use bw_types::Tree;
+use page_ports::{Page, blank_page};
 
-const KIND: u8 = 4;
+const KIND: u8 = 11;
+
+const ENTRY: u8 = 0;
+
+const CUT: u8 = 1;
+
+/// A node of a page of cuts: an entry, or a cut at a key of a dimension. A cut keeps the number of points of
+/// its low side, and a border.
+#[derive(Clone, Copy, Debug, PartialEq, Eq)]
+pub enum CutNode {
+    Entry {
+        child: u64,
+    },
+    Cut {
+        dimension: u8,
+        key: u64,
+        low: u32,
+        border: Tree,
+    },
+}
+
+impl Default for CutNode {
+    fn default() -> CutNode {
+        CutNode::Entry { child: 0 }
+    }
+}
 
 /// A page that cuts its region into the regions of its entries.
 ///
-/// A page spells a level of 2 to 16 and 1 to 16 entries. The cuts are nodes in pre-order, one less than
-/// twice the entries; the i-th node of an entry stands for the i-th entry. Children are at least 3. A
-/// pocket is a page of at least 3 and has 1 to 60 points; a subtotal has no changes and no last page. In
-/// memory there is room for one more entry.
+/// The nodes stand in pre-order: a cut is followed by the nodes of its low side and then by those of its high
+/// side. A page spells 2 to 64 entries and one cut less. Children are at least 3, and a low side has at least
+/// one point. In memory there is room for one more entry, and the cut before it.
 #[derive(Debug, PartialEq, Drop)]
 pub struct CutPage {
-    pub level: u8,
-    pub cuts: ArrayVec<CutNode, 33>,
-    pub entries: ArrayVec<BaEntry, 17>,
+    pub nodes: ArrayVec<CutNode, 129>,
+}
+
+fn put_first(page: &mut Page, place: usize, tag: u8, dimension: u8, low: u32, word: u64)
+    requires { place + 16 ≤ 4096 }
+    ensures { take (place + 16) page.new ≡ take place page.old ++ first_bytes tag dimension low word }
+{
+    put_u8(page, place, tag);
+    put_u8(page, place + 1, dimension);
+    put(page, place + 2, &[0, 0]);
+    put_u32(page, place + 4, low);
+    put_u64(page, place + 8, word);
+}
+
+fn put_node(page: &mut Page, place: usize, node: &CutNode)
+    requires { place + 16 ≤ 4096 }
+    ensures { take (place + 16) page.new ≡ take place page.old ++ node_bytes node.now }
+{
+    match node {
+        CutNode::Entry { child } => put_first(page, place, ENTRY, 0, 0, *child),
+        CutNode::Cut {
+            dimension,
+            key,
+            low,
+            border: _,
+        } => put_first(page, place, CUT, *dimension, *low, *key),
+    }
+}
+
+// Writes the nodes without their borders.
+fn put_nodes(page: &mut Page, place: usize, nodes: &[CutNode])
+    requires { place + length nodes.now * 16 ≤ 4096 }
+    ensures { take (place + length nodes.now * 16) page.new ≡ take place page.old ++ flat_map node_bytes nodes.now }
+{
+    let mut next = place;
+    for node in nodes {
+        put_node(page, next, node);
+        next += 16;
+    }
+}
+
+// Writes the border of a node, if it is a cut, and answers where it ends.
+fn put_border(page: &mut Page, place: usize, node: &CutNode) -> usize
+    requires { place + cut_one node.now * 28 ≤ 4096 }
+    ensures end { result ≡ place + cut_one node.now * 28 }
+    ensures bytes { take (place + cut_one node.now * 28) page.new ≡ take place page.old ++ border_bytes node.now }
+{
+    match node {
+        CutNode::Entry { child: _ } => place,
+        CutNode::Cut {
+            dimension: _,
+            key: _,
+            low: _,
+            border,
+        } => {
+            border.put(page, place);
+            place + 28
+        }
+    }
+}
+
+// Writes the borders of those nodes that are cuts, and answers where they end.
+fn put_borders(page: &mut Page, place: usize, nodes: &[CutNode]) -> usize
+    requires { place + cut_count nodes.now * 28 ≤ 4096 }
+    ensures end { result ≡ place + cut_count nodes.now * 28 }
+    ensures bytes { take (place + cut_count nodes.now * 28) page.new ≡ take place page.old ++ flat_map border_bytes nodes.now }
+{
+    let mut next = place;
+    for node in nodes {
+        next = put_border(page, next, node);
+    }
+    next
+}
+
+/// The border at the front of some bytes; no tree where there are not as many as it takes.
+pub(crate) fn border_at(bytes: &[u8]) -> Tree
+    ensures value { result ≡ border_at bytes.now }
+    ensures typed { IsTreeTyped result }
+{
+    if 28 <= bytes.len() {
+        return Tree::get(bytes);
+    }
+    Tree {
+        root: 0,
+        levels: 0,
+        count: 0,
+        changes: 0,
+        last: 0,
+    }
+}
+
+fn node_at(nodes: &[u8], borders: &[u8]) -> CutNode
+    requires { 16 ≤ length nodes.now }
+    ensures value { result ≡ node_at nodes.now borders.now }
+    ensures typed { IsNodeTyped result }
+{
+    let word = number_u64(skip(nodes, 8));
+    if nodes[0] == ENTRY {
+        return CutNode::Entry { child: word };
+    }
+    CutNode::Cut {
+        dimension: nodes[1],
+        key: word,
+        low: number_u32(skip(nodes, 4)),
+        border: border_at(borders),
+    }
+}
+
+// The borders that are left after the first node.
+fn past_border<'a>(nodes: &[u8], borders: &'a [u8]) -> &'a [u8]
+    requires { 16 ≤ length nodes.now }
+    ensures { result.now ≡ past_border nodes.now borders.now }
+{
+    if nodes[0] == ENTRY {
+        return borders;
+    }
+    if borders.len() < 28 {
+        return &[];
+    }
+    skip(borders, 28)
+}
+
+fn read_nodes(count: usize, nodes: &[u8], borders: &[u8]) -> ArrayVec<CutNode, 129>
+    requires few { count ≤ 129 }
+    requires room { count * 16 ≤ length nodes.now }
+    ensures items { result.items ≡ nodes_from count nodes.now borders.now }
+    ensures typed { All IsNodeTyped result.items }
+{
+    let mut read = ArrayVec::new();
+    let mut firsts = nodes;
+    let mut rest = borders;
+    for _ in 0..count {
+        read.push(node_at(firsts, rest));
+        rest = past_border(firsts, rest);
+        firsts = skip(firsts, 16);
+    }
+    read
 }
 
 /// How many entries a page may spell.
 pub(crate) fn count_in(page: &Page) -> usize
     ensures value { result ≡ count_in page.now }
-    ensures few { result ≤ 16 }
+    ensures few { result ≤ 64 }
 {
-    usize::from(read_count(page)).min(16)
+    usize::from(read_count(page)).min(64)
 }
 
-fn read_nodes(page: &Page, count: usize) -> ArrayVec<CutNode, 33>
-    requires { count ≤ 16 }
-    ensures items { result.items ≡ nodes_in page.now count }
-    ensures typed { All IsCutNodeTyped result.items }
+fn node_fits(node: &CutNode) -> bool
+    ensures { result ≡ node_fits node.now }
 {
-    get_all((2 * count).saturating_sub(1), read_body(page))
+    match node {
+        CutNode::Entry { child } => *child >= 3,
+        CutNode::Cut {
+            dimension,
+            key: _,
+            low,
+            border,
+        } => *dimension <= 2 && (*low >= 1 && tree_fits(border)),
+    }
 }
 
-fn read_cut_entries(page: &Page, count: usize) -> ArrayVec<BaEntry, 17>
-    requires { count ≤ 16 }
-    ensures items { result.items ≡ entries_in page.now count }
-    ensures typed { All IsBaEntryTyped result.items }
+fn each_fits(nodes: &[CutNode]) -> bool
+    ensures { IsTrue result ↔ All (λ node. IsTrue (node_fits node)) nodes.now }
 {
-    let nodes = (2 * count).saturating_sub(1);
-    get_all(count, skip(read_body(page), nodes * 16))
+    for node in nodes {
+        if !node_fits(node) {
+            return false;
+        }
+    }
+    true
 }
 
-// Whether what the page may spell keeps its rules, which are tested where its bytes stand.
-fn keeps_rules_at(page: &Page) -> bool
-    ensures rules { IsTrue result ↔ IsCutPage (cut_page_in page.now) }
-    ensures typed { IsTyped (cut_page_in page.now) }
+// Counts the places that are to be filled: at first one, for the whole region.
+fn fill_one_place(nodes: &[CutNode]) -> bool
+    ensures { result ≡ open_places 1 nodes.now }
 {
-    let _bytes = bytes_of(page);
-    let level = page[1];
-    let count = count_in(page);
-    let nodes = read_nodes(page, count);
-    if level < 2 || level > 16 {
-        return false;
+    let mut places: usize = 1;
+    for node in nodes {
+        if places == 0 {
+            return false;
+        }
+        match node {
+            CutNode::Entry { child: _ } => places -= 1,
+            CutNode::Cut {
+                dimension: _,
+                key: _,
+                low: _,
+                border: _,
+            } => places += 1,
+        }
     }
-    if count < 1 {
-        return false;
-    }
-    if !spell_cuts(nodes.as_slice(), count) {
-        return false;
-    }
-    entries_fit_at(count, skip(read_body(page), nodes.len() * 16))
+    places == 0
 }
 
-// Whether the page is the spelling of what it may spell.
-fn is_exact(page: &Page) -> bool
-    ensures { IsTrue result ↔ (page.now ≡ cut_page_page (cut_page_in page.now)) }
-{
-    let _bytes = bytes_of(page);
-    let count = count_in(page);
-    let nodes = (2 * count).saturating_sub(1);
-    if page[0] != KIND {
-        return false;
-    }
-    if usize::from(read_count(page)) != count {
-        return false;
-    }
-    if read_word(page) != 0 {
-        return false;
-    }
-    if read_double(page) != 0 {
-        return false;
-    }
-    if !are_nodes_exact(nodes, read_body(page)) {
-        return false;
-    }
-    if !are_entries_exact(count, skip(read_body(page), nodes * 16)) {
-        return false;
-    }
-    are_zeros(after(page, 16 + (nodes * 16 + count * 120)))
-}
+/// Proves that the nodes of a page stand in pre-order; it does nothing when it runs.
+pub fn cuts_stand_in_order()
+    ensures { PreOrderIsTested }
+{}
 
 impl Spelled for CutPage {
     ghost keeps = { IsCutPage };
@@ -119,46 +260,59 @@ impl Spelled for CutPage {
     ghost value_in = { cut_page_in };
 
     fn write(&self, page: &mut Page) {
-        let entries = 16 + self.cuts.len() * 16;
-        start(page, KIND, self.level, self.entries.len() as u16, 0, 0);
-        put_all(page, 16, self.cuts.as_slice());
-        put_all(page, entries, self.entries.as_slice());
-        finish(page, entries + self.entries.len() * 120);
+        let nodes = self.nodes.as_slice();
+        let count = (nodes.len() + 1) / 2;
+        start(page, KIND, 0, count as u16, 0, 0);
+        put_nodes(page, 16, nodes);
+        let end = put_borders(page, 16 + nodes.len() * 16, nodes);
+        finish(page, end);
     }
 
     fn guess(page: &Page) -> CutPage {
-        let count = count_in(page);
+        let count = (2 * count_in(page)).saturating_sub(1);
+        let body = read_body(page);
         CutPage {
-            level: page[1],
-            cuts: read_nodes(page, count),
-            entries: read_cut_entries(page, count),
+            nodes: read_nodes(count, body, skip(body, count * 16)),
         }
     }
 
     fn keeps_rules(&self) -> bool {
-        let count = self.entries.len();
-        (2 <= self.level && self.level <= 16)
-            && (1 <= count && count <= 16)
-            && spell_cuts(self.cuts.as_slice(), count)
-            && each_keeps(self.level, self.entries.as_slice())
+        let nodes = self.nodes.as_slice();
+        if nodes.len() < 3 {
+            return false;
+        }
+        if nodes.len() > 127 {
+            return false;
+        }
+        if !fill_one_place(nodes) {
+            return false;
+        }
+        each_fits(nodes)
     }
 
     fn is_spelled(page: &Page) -> bool {
-        keeps_rules_at(page) && is_exact(page)
+        let value = CutPage::guess(page);
+        if !value.keeps_rules() {
+            return false;
+        }
+        let mut other = blank_page();
+        value.write(&mut other);
+        other.as_slice() == page.as_slice()
     }
 
     ghost reads_back = { cut_page_in-page };
 }
 
+// A page of cuts tells no level: the number of its points says what a page has to be.
 impl TreePage for CutPage {
-    ghost level_in = { λ page. page.level };
+    ghost level_in = { λ _. 0 };
 
     fn level(&self) -> u8 {
-        self.level
+        0
     }
 
-    fn level_on(page: &Page) -> u8 {
-        page[1]
+    fn level_on(_page: &Page) -> u8 {
+        0
     }
 
     ghost in_use = { λ _. not_free _ refl };

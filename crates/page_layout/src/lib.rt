@@ -6,14 +6,10 @@
 //! All numbers are spelled with their highest byte first, and bytes that no field names are 0.
 #![tactic(auto)]
 
-mod ba_entry;
 mod children;
 mod counted;
-mod cut_node;
 mod cut_page;
 mod cut_view;
-mod cuts_page;
-mod cuts_view;
 mod dated;
 mod entry;
 mod exact;
@@ -46,10 +42,8 @@ mod tree_value;
 mod view;
 mod zero_bytes;
 
-pub use cut_node::{CutNode, cuts_are_tested};
-pub use cut_page::CutPage;
-pub use cuts_page::{CutsNode, CutsPage, cuts_stand_in_order};
-pub use cuts_view::CutsStep;
+pub use cut_page::{CutNode, CutPage, cuts_stand_in_order};
+pub use cut_view::CutStep;
 pub use footprint::footprint_laws;
 pub use free_page::FreePage;
 pub use journal_head::JournalHead;

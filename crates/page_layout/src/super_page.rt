@@ -13,9 +13,9 @@ use page_ports::Page;
 
 const MAGIC: &[u8; 8] = b"BOXSUMWH";
 
-const PLAIN: u8 = 1;
+const PLAIN: u8 = 3;
 
-const SIGNED: u8 = 2;
+const SIGNED: u8 = 4;
 
 const NO_DEGREE: u8 = 255;
 

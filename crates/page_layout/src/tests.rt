@@ -111,7 +111,7 @@ fn the_superblock_byte_by_byte(rt: HostRuntime) -> Result<(), Fail> {
     let mut page = blank_page();
     Super { params }.write(&mut page);
     let start = [
-        0x42u8, 0x4f, 0x58, 0x53, 0x55, 0x4d, 0x57, 0x48, 1, 2, 255, 0, 0x00, 0x0f, 0x42, 0x40,
+        0x42u8, 0x4f, 0x58, 0x53, 0x55, 0x4d, 0x57, 0x48, 3, 2, 255, 0, 0x00, 0x0f, 0x42, 0x40,
         0x00, 0x00, 0x00, 0x00, 0x00, 0x10, 0x00, 0x00, 0, 0, 0, 0,
     ];
     assert!(rt; &page[..28] == start.as_slice());
@@ -123,6 +123,12 @@ fn the_superblock_byte_by_byte(rt: HostRuntime) -> Result<(), Fail> {
         assert!(rt; Super::read(&page).is_none());
         page[place] = byte;
     }
+    // The formats of the trees before these, which no warehouse is kept in.
+    for format in [1, 2] {
+        page[8] = format;
+        assert!(rt; Super::read(&page).is_none());
+    }
+    page[8] = 3;
     page[10] = 3;
     assert!(rt; Super::read(&page).is_none());
     page[10] = 2;
@@ -134,14 +140,14 @@ fn the_superblock_byte_by_byte(rt: HostRuntime) -> Result<(), Fail> {
             })
     );
     // The format of a signed warehouse, with its origin.
-    page[8] = 2;
+    page[8] = 4;
     assert!(rt; Super::read(&page).is_none());
     page[24] = 0x7f;
     page[25] = 0xff;
     page[26] = 0xff;
     page[27] = 0xff;
     assert!(rt; Super::read(&page).is_some());
-    page[8] = 1;
+    page[8] = 3;
     assert!(rt; Super::read(&page).is_none());
     Super::one_spelling();
     Ok(())
@@ -246,73 +252,6 @@ fn a_full_page_of_points(rt: HostRuntime) -> Result<(), Fail> {
     }
     assert!(rt; again == page);
     PointLeaf::one_spelling();
-    Ok(())
-}
-
-#[test]
-fn a_full_page_of_cuts(rt: HostRuntime) -> Result<(), Fail> {
-    let mut page = blank_page();
-    page[0] = 4;
-    page[1] = 2;
-    page[3] = 16;
-    for i in 0..15usize {
-        page[16 + 32 * i] = 1;
-        page[16 + 32 * i + 1] = 2;
-        page[16 + 32 * i + 15] = 7;
-    }
-    for i in 0..16usize {
-        page[512 + 120 * i + 7] = 3;
-        page[512 + 120 * i + 15] = 4;
-        page[512 + 120 * i + 16] = 255;
-        page[512 + 120 * i + 23] = 60;
-    }
-    let mut again = blank_page();
-    match CutPage::read(&page) {
-        Some(cut_page) => cut_page.write(&mut again),
-        None => assert!(rt; false),
-    }
-    assert!(rt; again == page);
-    // Bytes that no field names are 0: of a node, of a pocket, and behind the last entry.
-    for place in [21, 512 + 17, 512 + 119, 512 + 120 * 16] {
-        page[place] = 1;
-        assert!(rt; CutPage::read(&page).is_none());
-        page[place] = 0;
-    }
-    // The last two nodes change places, so that a cut has no sides.
-    page[16 + 32 * 14] = 0;
-    page[16 + 32 * 14 + 1] = 0;
-    page[16 + 32 * 14 + 15] = 0;
-    page[16 + 32 * 15] = 1;
-    assert!(rt; CutPage::read(&page).is_none());
-    CutPage::one_spelling();
-    cuts_are_tested();
-    Ok(())
-}
-
-#[test]
-fn each_tree_of_an_entry_is_tested(rt: HostRuntime) -> Result<(), Fail> {
-    let mut page = blank_page();
-    page[0] = 4;
-    page[1] = 2;
-    page[3] = 1;
-    page[39] = 3;
-    assert!(rt; CutPage::read(&page).is_some());
-    for tree in [40, 68, 96, 124] {
-        // Levels, but no root and nothing in it; then no count; then a tree.
-        page[tree + 8] = 16;
-        assert!(rt; CutPage::read(&page).is_none());
-        page[tree + 7] = 3;
-        assert!(rt; CutPage::read(&page).is_none());
-        page[tree + 15] = 1;
-        assert!(rt; CutPage::read(&page).is_some());
-        page[tree + 8] = 17;
-        assert!(rt; CutPage::read(&page).is_none());
-        page[tree + 8] = 16;
-        // Only a border may have a directory.
-        page[tree + 19] = 1;
-        assert!(rt; CutPage::read(&page).is_some() == (tree > 40));
-        page[tree + 19] = 0;
-    }
     Ok(())
 }
 

@@ -50,20 +50,20 @@ fn three_entries() -> Page {
 fn a_page_of_three_entries(rt: HostRuntime) -> Result<(), Fail> {
     let page = three_entries();
     let mut again = blank_page();
-    match CutsPage::read(&page) {
+    match CutPage::read(&page) {
         Some(cuts) => {
             let nodes = cuts.nodes.as_slice();
             assert_eq!(rt; nodes.len(), 5);
             assert!(rt;
                 nodes[0]
-                    == CutsNode::Cut {
+                    == CutNode::Cut {
                         dimension: 0,
                         key: 100,
                         low: 40,
                         border: Tree::default(),
                     }
             );
-            assert!(rt; nodes[1] == CutsNode::Entry { child: 5 });
+            assert!(rt; nodes[1] == CutNode::Entry { child: 5 });
             let border = Tree {
                 root: 300,
                 levels: 2,
@@ -73,21 +73,21 @@ fn a_page_of_three_entries(rt: HostRuntime) -> Result<(), Fail> {
             };
             assert!(rt;
                 nodes[2]
-                    == CutsNode::Cut {
+                    == CutNode::Cut {
                         dimension: 1,
                         key: 7,
                         low: 65,
                         border,
                     }
             );
-            assert!(rt; nodes[3] == CutsNode::Entry { child: 6 });
-            assert!(rt; nodes[4] == CutsNode::Entry { child: 9 });
+            assert!(rt; nodes[3] == CutNode::Entry { child: 6 });
+            assert!(rt; nodes[4] == CutNode::Entry { child: 9 });
             cuts.write(&mut again);
         }
         None => assert!(rt; false),
     }
     assert!(rt; again == page);
-    CutsPage::one_spelling();
+    CutPage::one_spelling();
     cuts_stand_in_order();
     Ok(())
 }
@@ -95,7 +95,7 @@ fn a_page_of_three_entries(rt: HostRuntime) -> Result<(), Fail> {
 #[test]
 fn it_is_read_in_place(rt: HostRuntime) -> Result<(), Fail> {
     let page = three_entries();
-    let Some(view) = View::<CutsPage>::on(&page) else {
+    let Some(view) = View::<CutPage>::on(&page) else {
         assert!(rt; false);
         return Ok(());
     };
@@ -106,13 +106,13 @@ fn it_is_read_in_place(rt: HostRuntime) -> Result<(), Fail> {
     }
     assert!(rt;
         view.step(2)
-            == CutsStep::Parts {
+            == CutStep::Parts {
                 dimension: 1,
                 key: 7,
                 low: 65,
             }
     );
-    assert!(rt; view.step(4) == CutsStep::Leads { child: 9 });
+    assert!(rt; view.step(4) == CutStep::Leads { child: 9 });
     let value = view.to_value();
     assert!(rt; value.level() == 0);
     Ok(())
@@ -147,7 +147,7 @@ fn what_is_no_spelling(rt: HostRuntime) -> Result<(), Fail> {
     ] {
         let mut other = page;
         set(&mut other, place, byte);
-        assert!(rt; CutsPage::read(&other).is_none() == (place != 130));
+        assert!(rt; CutPage::read(&other).is_none() == (place != 130));
     }
     // The cuts change places with their entries, so that the first side is no node.
     let mut turned = page;
@@ -155,7 +155,7 @@ fn what_is_no_spelling(rt: HostRuntime) -> Result<(), Fail> {
     turned[23] = 0;
     turned[32] = 1;
     turned[39] = 40;
-    assert!(rt; CutsPage::read(&turned).is_none());
+    assert!(rt; CutPage::read(&turned).is_none());
     Ok(())
 }
 
@@ -174,7 +174,7 @@ fn a_full_page(rt: HostRuntime) -> Result<(), Fail> {
             number(&mut page, 32 + 32 * i + 15, 3);
         }
         number(&mut page, 16 + 32 * cuts + 15, 3);
-        assert!(rt; CutsPage::read(&page).is_some() == (entries == 64));
+        assert!(rt; CutPage::read(&page).is_some() == (entries == 64));
     }
     Ok(())
 }

@@ -19,7 +19,7 @@ pub use Rattle.std.specs.List.{All, AllAdjacentBelow, AllByRecursion, flat_map, 
 pub use Rattle.std.specs.Option.{option_map_or}
 pub use Rattle.std.specs.Prelude.{IsPermutation}
 pub use Rattle.bw_types.specs.Dominance.{dominance_sum, dominated_weight, is_dominated}
-pub use Rattle.bw_types.specs.HeightLaws.{digits_are_few, digits_grow, powers_have_digits}
+pub use Rattle.bw_types.specs.DigitLaws.{digits_are_few, digits_grow, powers_have_digits}
 pub use Rattle.bw_types.specs.declared.point.Point.{Point}
 pub use Rattle.bw_types.specs.declared.tree.Tree.{Tree}
 pub use Rattle.page_ports.specs.Calls.{WentOn}
