@@ -1,10 +1,9 @@
 -- Lists of points that stand.
-use Rattle.std.proofs.Common.{◌≡◌, ◌≢◌, ℕ, zero, suc, ◌+◌, ◌-◌, ◌*◌, ◌^◌, ◌<◌, ◌≤◌, ◌==◌, false, inl, inr, ◌⊎◌, List, ◌∷◌, length, Some, refl, sym, ap, ◌∙◌, subst, arith, IsPermutation, length-append}
-use Rattle.std.proofs.Math.Nat.{mul-le-mul}
+use Rattle.std.proofs.Common.{◌≡◌, ◌≢◌, ℕ, zero, suc, ◌+◌, ◌-◌, ◌^◌, ◌<◌, ◌≤◌, ◌==◌, false, inl, inr, ◌⊎◌, List, ◌∷◌, length, Some, refl, sym, ap, ◌∙◌, subst, arith, IsPermutation, length-append}
 use Rattle.std.proofs.lemmas.Bool.{eq-eqb, ne_eqb, cases_eq, cases_lt, lt-ltb, le-ltb}
 use Rattle.std.proofs.lemmas.List.Elements.{All-cons}
 use Rattle.std.proofs.lemmas.List.Sorted.{IsPermutation-trans, IsPermutation-sym, IsPermutation-cons, length_permutation, All-permutation}
-use Rattle.bw_types.specs.Heights.{added_pages, built_height, pages_a_point}
+use Rattle.bw_types.specs.Depths.{added_pages}
 use Rattle.bw_types.specs.declared.point.Point.{Point}
 use Rattle.bw_types.specs.declared.tree.Tree.{Tree}
 use Rattle.page_ports.specs.Pages.{PageMap}
@@ -58,15 +57,9 @@ any_order pages dims tree points others s p =
     }
 
 some_pages : (d n : ℕ) → 1 ≤ d → 1 ≤ added_pages d n
-unfolding added_pages
 some_pages zero n some = absurd (omega (arith, some))
 some_pages (suc zero) n some = omega arith
-some_pages (suc (suc d)) n some =
-    let high : 1 ≤ built_height n + 3 = omega arith in
-    let wide : 1 ≤ 2 + 16 * added_pages (suc d) n + 34 * (n + 1) * pages_a_point (suc d) (n + 1) = omega arith in
-    let levels : 1 * 1 ≤ (built_height n + 3) * (2 + 16 * added_pages (suc d) n + 34 * (n + 1) * pages_a_point (suc d) (n + 1)) =
-    mul-le-mul high wide in
-    omega (arith, levels)
+some_pages (suc (suc d)) n some = omega arith
 
 growth_is : (dims levels count : ℕ) → list_growth dims levels count ≤ 1
 growth_is dims levels count = elim (cases_eq levels 1) [

@@ -1,5 +1,5 @@
 //! A chain of pages of points.
-ghost use Rattle.std.specs.Prelude.{◌≡◌, ◌≢◌, ◌≤◌, ℕ, ◌==◌, false, List, Some, None, Err, IsTrue, IfOk};
+ghost use Rattle.std.specs.Prelude.{◌≡◌, ◌≢◌, ◌≤◌, ℕ, ◌==◌, false, List, Some, None, Err, IsTrue, IfOk, OnOk};
 ghost use Rattle.bw_types.specs.Dominance.{dominance_sum};
 ghost use Rattle.page_ports.specs.Calls.{Grows, OnlyReads};
 ghost use Rattle.page_layout.specs.PointLeaf.{point_leaf_page};
@@ -27,6 +27,8 @@ pub fn sum_along<P: Pages>(
         → value ≡ dominance_sum dims (chain_points tree.now.count (P.map pages.old) tree.now.root) keys.now version) }
     ensures damaged { (page : ℕ) → result ≡ Err (PageFault.Damaged page) → IsTrue (P.tells pages.old)
         → IsDamagedAlong (P.map pages.old) tree.now page }
+    // Where it answers, no page on its way is damaged.
+    ensures whole { OnOk result (IsTrue (P.tells pages.old) → (page : ℕ) → ¬ IsDamagedAlong (P.map pages.old) tree.now page) }
     ensures reads { OnlyReads P.Pages tree.now.count pages.old pages.new result }
 {
     let mut bytes = blank_page();

@@ -3,7 +3,7 @@ ghost use Rattle.std.specs.Prelude.{◌≡◌, ◌≢◌, ◌+◌, ◌-◌, ◌^
 ghost use Rattle.std.specs.List.{All};
 ghost use Rattle.bw_types.specs.Dominance.{dominance_sum};
 ghost use Rattle.bw_types.specs.Empty.{empty_tree};
-ghost use Rattle.bw_types.specs.Heights.{added_pages};
+ghost use Rattle.bw_types.specs.Depths.{added_pages};
 ghost use Rattle.bw_types.specs.declared.point.Point.{Point};
 ghost use Rattle.bw_types.specs.declared.tree.Tree.{Tree};
 ghost use Rattle.page_ports.specs.Calls.{Changes, OnlyReads};
@@ -69,6 +69,9 @@ pub trait DomIndex {
             → stands (P.map pages.old) dims tree.now points → value ≡ dominance_sum dims points keys.now version) }
         ensures damaged { (page : ℕ) → result ≡ Err (PageFault.Damaged page) → IsTrue (P.tells pages.old)
             → damaged_for_sum (P.map pages.old) dims tree.now keys.now version page }
+        // Where it answers, nothing on its way is damaged.
+        ensures whole { OnOk result (IsTrue (P.tells pages.old) → (page : ℕ)
+            → ¬ damaged_for_sum (P.map pages.old) dims tree.now keys.now version page) }
         ensures sound { (points : List Point) (page : ℕ) → IsTrue (P.tells pages.old)
             → stands (P.map pages.old) dims tree.now points → result ≢ Err (PageFault.Damaged page) }
         // However many, where the tree does not stand.

@@ -1,7 +1,7 @@
 -- How many pages a value gets.
 use Rattle.std.proofs.Common.{◌≡◌, ℕ, ◌<◌, ◌≤◌, ◌^◌, inl, inr, List, length, lit≤, refl, subst, sym, arith}
-use Rattle.bw_types.specs.Heights.{digit_count}
-use Rattle.bw_types.specs.HeightLaws.{digits_are_few, digits_grow}
+use Rattle.bw_types.specs.Digits.{digit_count}
+use Rattle.bw_types.specs.DigitLaws.{digits_are_few, digits_grow}
 use Rattle.bw_types.specs.declared.point.Point.{Point}
 use Rattle.bw_types.specs.declared.tree.Tree.{Tree}
 use Rattle.page_ports.specs.Pages.{PageMap}

@@ -6,8 +6,8 @@ use Rattle.std.proofs.lemmas.Bool.{and_parts, le-leb, le-ltb, ltb-true}
 use Rattle.std.proofs.lemmas.List.{length-map}
 use Rattle.std.proofs.lemmas.List.Elements.{All-append, All-cons, All-head, All-nil, All-tail}
 use Rattle.std.proofs.Math.Nat.{suc-mul, pow-suc, mul-le-mul_right, mul_comm, one-le-pow, zero-mul}
-use Rattle.bw_types.specs.Heights.{digit_count}
-use Rattle.bw_types.specs.HeightLaws.{powers_have_digits}
+use Rattle.bw_types.specs.Digits.{digit_count}
+use Rattle.bw_types.specs.DigitLaws.{powers_have_digits}
 use Rattle.bw_types.specs.declared.point.Point.{Point}
 use Rattle.page_ports.specs.Pages.{PageMap}
 use Rattle.page_layout.specs.declared.mv_node.MvEntry.{MvEntry}

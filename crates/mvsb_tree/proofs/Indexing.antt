@@ -2,7 +2,7 @@
 use Rattle.std.proofs.Common.{◌≡◌, ◌⊎◌, ℕ, zero, suc, ◌≤◌, inl, inr, false, slice_index_or, List, [], ◌∷◌, ◌++◌, length, Option, Some, None, IsSome, refl, ◌∙◌, arith}
 use Rattle.std.proofs.lemmas.Bool.{cases_Bool, or_from}
 use Rattle.bw_types.specs.Dominance.{dominance_sum}
-use Rattle.bw_types.specs.Heights.{added_pages}
+use Rattle.bw_types.specs.Depths.{added_pages}
 use Rattle.bw_types.specs.declared.point.Point.{Point}
 use Rattle.bw_types.specs.declared.tree.Tree.{Tree}
 use Rattle.page_ports.specs.Pages.{PageMap}
@@ -13,7 +13,6 @@ use Rattle.mvsb_tree.specs.AddDamage.{IsDamagedForAdd, directory_pages, node_way
 use Rattle.mvsb_tree.specs.Index.{MayChange}
 
 pub one_growth : (dims count : ℕ) → 1 ≤ dims → dims ≤ 1 → 24 ≤ added_pages dims count
-unfolding added_pages
 one_growth zero count some few = absurd (omega (arith, some))
 one_growth (suc zero) count some few = omega arith
 one_growth (suc (suc dims)) count some few = absurd (omega (arith, few))

@@ -26,8 +26,8 @@ use Rattle.mvsb_tree.proofs.Landing.{place_is}
 use Rattle.mvsb_tree.proofs.Sound.{root_spelled}
 use Rattle.mvsb_tree.proofs.Whole.{DirectoryAdded, NodesAdded, come_early, come_with, level_stays, sum_stays}
 use Rattle.mvsb_tree.proofs.Counting.{SameLeads, high_root}
-use Rattle.bw_types.specs.Heights.{digit_count}
-use Rattle.bw_types.specs.HeightLaws.{digits_grow, powers_have_digits}
+use Rattle.bw_types.specs.Digits.{digit_count}
+use Rattle.bw_types.specs.DigitLaws.{digits_grow, powers_have_digits}
 use Rattle.sb_tree.specs.Stands as over_versions_stands
 
 none_some : (o : Rattle.std.specs.Prelude.Option (List ℕ)) → o ≡ None → IsSome o → ⊥

@@ -1,7 +1,7 @@
 //! The index of one dimension: a multiversion tree.
 ghost use Rattle.std.specs.Prelude.{◌≡◌, ◌⊎◌, ◌+◌, true, ℕ, slice_index};
 ghost use Rattle.page_ports.specs.Frame.{names_page};
-ghost use Rattle.bw_types.specs.Heights.{digit_count};
+ghost use Rattle.bw_types.specs.Digits.{digit_count};
 ghost use Rattle.mvsb_tree.specs.Damage.{IsDamagedForValue};
 ghost use Rattle.mvsb_tree.specs.Index.{IsDamagedForPoint, MayChange};
 ghost use Rattle.mvsb_tree.specs.Stands.{IsBalanced, MvStands};

@@ -1,7 +1,7 @@
 //! The value at a key and a version.
 ghost use Rattle.std.specs.Prelude.{◌≡◌, ◌≢◌, ◌+◌, ◌-◌, ◌%◌, ◌^◌, ◌≤◌, ℕ, List, [], ◌∷◌, Err, IsTrue, IfOk};
 ghost use Rattle.bw_types.specs.Dominance.{dominance_sum};
-ghost use Rattle.bw_types.specs.Heights.{digit_count};
+ghost use Rattle.bw_types.specs.Digits.{digit_count};
 ghost use Rattle.bw_types.specs.declared.point.Point.{Point};
 ghost use Rattle.page_layout.specs.Damage.{HoldsNoNode, IsDamagedBelow, NothingBeside};
 ghost use Rattle.page_ports.specs.Calls.{OnlyReads};

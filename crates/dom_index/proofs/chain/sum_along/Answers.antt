@@ -3,7 +3,7 @@ use Rattle.std.proofs.lemmas.Result.{err_from_is_err_and}
 use Rattle.page_ports.specs.declared.page.PageFault.TheVariants.{Damaged}
 use Rattle.dom_index.proofs.Chains.{sum_step}
 use Rattle.dom_index.proofs.Exits.{exit_error}
-use Rattle.dom_index.proofs.Walking.{damaged_at, damaged_next, found_on, sum_end}
+use Rattle.dom_index.proofs.Walking.{damaged_at, damaged_next, damaged_past, found_on, sum_end}
 use Rattle.bw_types.specs.Dominance.{dominance_sum, dominated_weight}
 use Rattle.dom_index.specs.Chain.{chain_points}
 use Rattle.dom_index.proofs.chain.sum_along.Goals as goal
@@ -33,6 +33,10 @@ loop-page-preserved g c =
           c.loop-page.invariant.way damaged tells c.loop-page-test.true
           (damaged_next map (g.P.Pages.map c.loop-page.pages) c.loop-page.left c.loop-page.page c.next-page.result damaged c.in_ok-leaf.leaf c.loop-page.invariant.went.map some
           (c.in_ok-leaf.ensures.found (search rules)) c.in_ok-leaf.ensures.spells c.next-page.ensures ne below);
+      ahead = λ damaged tells d.
+          damaged_past map (g.P.Pages.map c.loop-page.pages) c.loop-page.left c.loop-page.page c.next-page.result damaged c.in_ok-leaf.leaf
+          c.loop-page.invariant.went.map (c.in_ok-leaf.ensures.found (search rules)) c.in_ok-leaf.ensures.spells
+          (c.in_ok-leaf.ensures.only (search rules)) c.next-page.ensures (c.loop-page.invariant.ahead damaged tells d).1;
       fits = omega arith;
       went = search rules;
     }
@@ -42,3 +46,6 @@ returns-clause-sum g c = λ tells.
     sum_end c.args.dims c.args.keys.now c.args.version c.loop-page.total c.loop-page.left (g.P.Pages.map c.args.pages.now) c.loop-page.page
     (dominance_sum c.args.dims (chain_points c.args.tree.now.count (g.P.Pages.map c.args.pages.now) c.args.tree.now.root) c.args.keys.now c.args.version)
     (omega (arith, c.loop-page-test.false)) c.loop-page.invariant.fits (c.loop-page.invariant.total tells)
+
+pub returns-clause-whole : goal.returns-clause-whole
+returns-clause-whole g c = λ tells damaged d. (c.loop-page.invariant.ahead damaged tells d).0 (omega (arith, c.loop-page-test.false))

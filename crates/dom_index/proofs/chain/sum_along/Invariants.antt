@@ -13,6 +13,8 @@ invariant-loop-page g l =
       total : IsTrue (pages.tells l.fn.pages) → (l.total + dominated_weight l.dims (chain_points l.left map l.page) l.keys l.version) % 2 ^ 128
           ≡ dominance_sum l.dims (chain_points l.tree.count map l.tree.root) l.keys l.version;
       way : (damaged : ℕ) → IsTrue (pages.tells l.fn.pages) → l.page ≢ 0 → IsDamagedOn map l.left l.page damaged → IsDamagedAlong map l.tree damaged;
+      ahead : (damaged : ℕ) → IsTrue (pages.tells l.fn.pages) → IsDamagedAlong map l.tree damaged
+          → (l.page ≢ 0) × IsDamagedOn map l.left l.page damaged;
       fits : l.total < 2 ^ 128;
       went : WasRead pages (l.tree.count - l.left) l.fn.pages l.pages;
     }
