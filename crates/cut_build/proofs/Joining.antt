@@ -4,7 +4,7 @@ use Rattle.std.specs.Prelude.{IsPermutation}
 use Rattle.std.specs.List.{All}
 use Rattle.std.proofs.lemmas.Bool.{le-leb, lt-leb, ne_eqb}
 use Rattle.std.proofs.lemmas.List.Sorted.{All-permutation, IsPermutation-append, IsPermutation-append_comm, IsPermutation-map, IsPermutation-refl, IsPermutation-sym, IsPermutation-trans, length_permutation}
-use Rattle.bw_types.specs.Classes.{without_dimension}
+use Rattle.bw_types.specs.Without.{without_dimension}
 use Rattle.bw_types.specs.Empty.{empty_tree}
 use Rattle.bw_types.specs.declared.point.Point.{Point}
 use Rattle.bw_types.specs.declared.tree.Tree.{Tree}
@@ -13,8 +13,8 @@ use Rattle.page_ports.specs.FrameLaws.{Replaces-agree, Replaces-apart, Replaces-
 use Rattle.page_ports.specs.Pages.{PageMap}
 use Rattle.page_layout.specs.Footprint.{NamesNoneTwice}
 use Rattle.page_layout.specs.FootprintLaws.{apart_sym, names_permuted, once_join}
-use Rattle.page_layout.specs.declared.cuts_page.CutsNode.{CutsNode}
-use Rattle.page_layout.specs.declared.cuts_page.CutsNode.TheVariants.{Cut}
+use Rattle.page_layout.specs.declared.cut_page.CutNode.{CutNode}
+use Rattle.page_layout.specs.declared.cut_page.CutNode.TheVariants.{Cut}
 use Rattle.cut_parts.specs.Borders.{IsBuiltOf, MayBeBuilt}
 use Rattle.cut_parts.specs.Parts.{Part, Leaf, Split, HasShape, IsBalancedCut, border_points, points_of}
 use Rattle.cut_parts.specs.Spelling.{HoldsCuts, HoldsLeaf, at_page, first_page, nodes_of}
@@ -121,13 +121,13 @@ module _ {B : Type 0} (g : Ghosts B) where
       }
 
   -- a cut, with the border and both sides, in this order
-  pub cut_built : (m0 m1 m2 m3 : PageMap) (points new xs ys : List Point) (dimension key low : ℕ) (border : Tree) (p0 p1 p2 p3 : List CutsNode)
+  pub cut_built : (m0 m1 m2 m3 : PageMap) (points new xs ys : List Point) (dimension key low : ℕ) (border : Tree) (p0 p1 p2 p3 : List CutNode)
       → HaveLaws g → IsPermutation points new → new ≡ xs ++ ys → low ≡ length xs → IsBalancedCut (length points) low → dimension < suc g.DIMS
       → All (λ p. slice_index p.keys dimension < key) xs → All (λ p. key ≤ slice_index p.keys dimension) ys
       → p1 ≡ p0 ++ (Cut dimension key low border ∷ []) → IsBorderBuilt g dimension xs m0 m1 border
       → IsBuiltBehind g xs m1 m2 p1 p2 → IsBuiltBehind g ys m2 m3 p2 p3 → IsBuiltBehind g points m0 m3 p0 p3
   cut_built m0 m1 m2 m3 points new xs ys dimension key low border p0 p1 p2 p3 laws same parts counted balanced lt below from pushed b l h =
-      let cut : CutsNode = Cut dimension key low border in
+      let cut : CutNode = Cut dimension key low border in
       let lows : Part = l.part in
       let highs : Part = h.part in
       let f : List ℕ = g.footprint m1 border in
@@ -180,26 +180,26 @@ module _ {B : Type 0} (g : Ghosts B) where
               (Replaces-apart f [] (lp ++ hp) m1 m3 sides there_border (apart_none f)));
         };
         nodes_are =
-            h.nodes_are ∙ ap (λ (ns : List CutsNode). ns ++ nodes_of highs)
-            (l.nodes_are ∙ ap (λ (ns : List CutsNode). ns ++ nodes_of lows) pushed ∙ append_assoc p0 (cut ∷ []) (nodes_of lows))
+            h.nodes_are ∙ ap (λ (ns : List CutNode). ns ++ nodes_of highs)
+            (l.nodes_are ∙ ap (λ (ns : List CutNode). ns ++ nodes_of lows) pushed ∙ append_assoc p0 (cut ∷ []) (nodes_of lows))
             ∙ append_assoc p0 (cut ∷ nodes_of lows) (nodes_of highs);
       }
 
   -- a page that holds the nodes of a part, made after them
-  pub page_built : (m0 m1 m2 : PageMap) (points : List Point) (none nodes : List CutsNode) (page : ℕ) → HaveLaws g → none ≡ [] → 3 ≤ length nodes
+  pub page_built : (m0 m1 m2 : PageMap) (points : List Point) (none nodes : List CutNode) (page : ℕ) → HaveLaws g → none ≡ [] → 3 ≤ length nodes
       → IsBuiltBehind g points m0 m1 none nodes → HoldsCuts m2 page nodes → Replaces [] (page ∷ []) m1 m2 → IsBuiltAt g points m0 m2 page
   page_built m0 m1 m2 points none nodes page laws empty many built holds change =
       let part : Part = built.part in
       let n : ℕ = length points in
-      let nodes_are : nodes ≡ nodes_of part = built.nodes_are ∙ ap (λ (ns : List CutsNode). ns ++ nodes_of part) empty in
-      let long : length nodes ≡ length (nodes_of part) = ap (λ (ns : List CutsNode). length ns) nodes_are in
+      let nodes_are : nodes ≡ nodes_of part = built.nodes_are ∙ ap (λ (ns : List CutNode). ns ++ nodes_of part) empty in
+      let long : length nodes ≡ length (nodes_of part) = ap (λ (ns : List CutNode). length ns) nodes_are in
       let no_home : first_page part ≡ None = inside part (omega (arith, many, long)) in
       let pp : List ℕ = part_pages g m1 part in
       let there : AreInMap m1 pp = part_there g laws m1 n part built.is.stood in
       let agree : AgreeOn pp m1 m2 = Replaces-agree pp [] (page ∷ []) m1 m2 change there (apart_none pp) in
       let same = part_same g laws m1 m2 n part built.is.stood agree in
       let balance = part_balance g laws m1 m2 n part built.is.stood agree built.is.balance in
-      let spelled = moved m2 page part no_home same.0.spelled (subst (λ (ns : List CutsNode). HoldsCuts m2 page ns) nodes_are holds) in
+      let spelled = moved m2 page part no_home same.0.spelled (subst (λ (ns : List CutNode). HoldsCuts m2 page ns) nodes_are holds) in
       let apart : AreApart pp (page ∷ []) = Replaces-apart pp [] (page ∷ []) m1 m2 change there (apart_none pp) in
       let pages_are : part_pages g m2 (at_page (Some page) part) ≡ page ∷ pp =
       more_pages page (g.footprint m2) part no_home ∙ ap (λ (ps : List ℕ). page ∷ ps) same.1 in

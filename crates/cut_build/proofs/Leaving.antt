@@ -6,7 +6,7 @@ use Rattle.page_ports.specs.FrameLaws.{Replaces-agree, Replaces-beside, Replaces
 use Rattle.page_ports.specs.Pages.{PageMap, remove_page}
 use Rattle.page_layout.specs.Footprint.{NamesNoneTwice}
 use Rattle.page_layout.specs.FootprintLaws.{apart_sym, once_apart, once_left, once_right}
-use Rattle.page_layout.specs.declared.cuts_page.CutsNode.{CutsNode}
+use Rattle.page_layout.specs.declared.cut_page.CutNode.{CutNode}
 use Rattle.cut_parts.specs.Parts.{Part}
 use Rattle.cut_parts.specs.Standing.{HaveLaws, PartStands, part_pages}
 use Rattle.cut_parts.specs.declared.border_tree.BorderTree.{Ghosts}
@@ -28,7 +28,7 @@ left_beside g laws a b n part freed stands once change =
     let same = part_same g laws a b n part stands agree in
     record { stands = same.0; pages = same.1; once = subst NamesNoneTwice (sym same.1) (once_right freed own once) }
 
-module _ {B : Type 0} (g : Ghosts B) (laws : HaveLaws g) (a : PageMap) (n page : ℕ) (nodes : List CutsNode) (part : Part)
+module _ {B : Type 0} (g : Ghosts B) (laws : HaveLaws g) (a : PageMap) (n page : ℕ) (nodes : List CutNode) (part : Part)
     (is : IsInPage g a n page nodes part) (once : NamesNoneTwice (part_pages g a part)) where
   -- what a page of cuts named, where the page was freed
   pub cut_left : (b : PageMap) → b ≡ remove_page a page → IsLeft g a b n is.cut

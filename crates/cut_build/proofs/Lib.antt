@@ -1,3 +1,5 @@
+pub mod Gone
+pub mod There
 pub mod Growth
 pub mod Numbers
 pub mod Pushing

@@ -2,8 +2,8 @@
 use Rattle.std.proofs.Common.{◌≡◌, ℕ, zero, suc, ◌+◌, ◌-◌, ◌*◌, ◌/◌, ◌^◌, ◌<◌, ◌≤◌, ◌==◌, false, arith, ap, ◌∙◌, sym}
 use Rattle.std.proofs.Math.Nat.{add-mul, mul-add, mul-le-mul_left, pow-suc}
 use Rattle.std.proofs.lemmas.Nat.{mul-le}
-use Rattle.cut_parts.specs.Depths.{NeverFalls, depth, depth_within, most_of_side}
-use Rattle.cut_parts.proofs.Depths.{depth_grows, depth_step}
+use Rattle.bw_types.specs.Depths.{NeverFalls, depth, depth_within, most_of_side}
+use Rattle.bw_types.specs.DepthLaws.{depth_grows, depth_step}
 
 -- a side of a cut goes less deep
 pub less_deep : (n side : ℕ) → 64 < n → 5 * side ≤ 3 * n → side ≤ n → suc (depth side) ≤ depth n

@@ -10,19 +10,19 @@ use Rattle.page_ports.specs.Pages.{PageMap}
 use Rattle.page_ports.specs.declared.page.StageFault.{StageFault}
 use Rattle.page_ports.specs.declared.page.StageFault.TheVariants.{Damaged}
 use Rattle.page_ports.specs.declared.pages.Pages as pages
-use Rattle.page_layout.specs.CutsPage.{IsNodeTyped, node_fits, open_places}
+use Rattle.page_layout.specs.CutPage.{IsNodeTyped, node_fits, open_places}
 use Rattle.page_layout.specs.Footprint.{NamesNoneTwice}
-use Rattle.page_layout.specs.declared.cuts_page.CutsNode.{CutsNode}
-use Rattle.cut_parts.specs.Depths.{depth}
+use Rattle.page_layout.specs.declared.cut_page.CutNode.{CutNode}
+use Rattle.bw_types.specs.Depths.{depth}
 use Rattle.cut_parts.specs.Parts.{border_points}
 use Rattle.cut_parts.specs.declared.border_tree.BorderTree.{Ghosts}
 
 -- The nodes of one part, at least so many and fewer than so many, were put behind others; each keeps its rule, and its numbers
 -- are those of their types.
-pub record ArePushed (old new : List CutsNode) (least most : ℕ) : Type 0 where
-  pub more : List CutsNode
+pub record ArePushed (old new : List CutNode) (least most : ℕ) : Type 0 where
+  pub more : List CutNode
   pub behind : new ≡ old ++ more
-  pub filled : (places : ℕ) (rest : List CutsNode) → open_places (suc places) (more ++ rest) ≡ open_places places rest
+  pub filled : (places : ℕ) (rest : List CutNode) → open_places (suc places) (more ++ rest) ≡ open_places places rest
   pub fit : All (λ node. IsTrue (node_fits node)) more
   pub typed : All IsNodeTyped more
   pub some : least ≤ length more

@@ -4,7 +4,7 @@ use Rattle.bw_types.specs.declared.point.Point.{Point}
 use Rattle.page_ports.specs.Frame.{Replaces}
 use Rattle.page_ports.specs.Pages.{PageMap}
 use Rattle.page_layout.specs.Footprint.{NamesNoneTwice}
-use Rattle.page_layout.specs.declared.cuts_page.CutsNode.{CutsNode}
+use Rattle.page_layout.specs.declared.cut_page.CutNode.{CutNode}
 use Rattle.cut_parts.specs.Parts.{Part, points_of}
 use Rattle.cut_parts.specs.Spelling.{first_page, nodes_of}
 use Rattle.cut_parts.specs.Standing.{PartBalanced, PartStands, part_pages}
@@ -26,7 +26,7 @@ pub record IsBuiltAt {B : Type 0} (g : Ghosts B) (points : List Point) (before a
   pub begins : first_page part ≡ Some page
 
 -- A part was built whose nodes stand last among those of a page.
-pub record IsBuiltBehind {B : Type 0} (g : Ghosts B) (points : List Point) (before after : PageMap) (nodes grown : List CutsNode) : Type 0 where
+pub record IsBuiltBehind {B : Type 0} (g : Ghosts B) (points : List Point) (before after : PageMap) (nodes grown : List CutNode) : Type 0 where
   pub part : Part
   pub is : IsBuiltPart g points before after part
   pub nodes_are : grown ≡ nodes ++ nodes_of part

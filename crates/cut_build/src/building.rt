@@ -13,7 +13,7 @@ use bw_types::{Point, Tree};
 use cut_pages::{make_cuts, make_leaf};
 use cut_parts::BorderTree;
 use cut_points::{border_points, median_cut};
-use page_layout::{CutsNode, CutsPage};
+use page_layout::{CutNode, CutPage};
 use page_ports::{Stage, StageFault};
 use std::alloc::Global;
 
@@ -112,7 +112,7 @@ fn build_page<B: BorderTree, S: Stage>(
     }
     B::border_laws();
     let least = most_below(points.len());
-    let mut page = CutsPage {
+    let mut page = CutPage {
         nodes: ArrayVec::new(),
     };
     build_cut::<B, S>(alloc, stage, points, least, HALVINGS, &mut page)?;
@@ -144,7 +144,7 @@ fn build_nodes<B: BorderTree, S: Stage>(
     points: &mut [Point],
     least: usize,
     halvings: u8,
-    page: &mut CutsPage,
+    page: &mut CutPage,
 ) -> Result<(), StageFault>
     requires some { 1 ≤ length points.old }
     requires points { MayBeBuilt (suc B.DIMS) points.old }
@@ -162,7 +162,7 @@ fn build_nodes<B: BorderTree, S: Stage>(
         return build_cut::<B, S>(alloc, stage, points, least, halvings, page);
     }
     let child = build_page::<B, S>(alloc, stage, points)?;
-    page.nodes.push(CutsNode::Entry { child });
+    page.nodes.push(CutNode::Entry { child });
     Ok(())
 }
 
@@ -174,7 +174,7 @@ fn build_cut<B: BorderTree, S: Stage>(
     points: &mut [Point],
     least: usize,
     halvings: u8,
-    page: &mut CutsPage,
+    page: &mut CutPage,
 ) -> Result<(), StageFault>
     requires many { least < length points.old }
     requires points { MayBeBuilt (suc B.DIMS) points.old }
@@ -193,7 +193,7 @@ fn build_cut<B: BorderTree, S: Stage>(
     let (dimension, key) = median_cut(points, B::DIMS + 1);
     let (lows, highs) = points.split_at_mut(half);
     let border = build_border::<B, S>(alloc, stage, lows, dimension)?;
-    page.nodes.push(CutsNode::Cut {
+    page.nodes.push(CutNode::Cut {
         dimension,
         key,
         low: half as u32,

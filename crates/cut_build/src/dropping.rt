@@ -1,22 +1,25 @@
 //! The pages of a tree of cuts, and of a part of one, freed.
-ghost use Rattle.std.specs.Prelude.{◌≡◌, ◌≢◌, ◌++◌, ◌<◌, ◌≤◌, ℕ, List, [], None, Some, Err, IsTrue, IfOk, OnOk, length};
+ghost use Rattle.std.specs.Prelude.{◌≡◌, ◌≢◌, ◌++◌, ◌∷◌, ◌<◌, ◌≤◌, ℕ, suc, List, [], None, Some, Err, IsTrue, IfOk, OnOk, length};
 ghost use Rattle.bw_types.specs.Empty.{empty_tree};
 ghost use Rattle.bw_types.specs.declared.point.Point.{Point};
 ghost use Rattle.page_ports.specs.Calls.{Changes};
-ghost use Rattle.page_ports.specs.Frame.{Replaces};
-ghost use Rattle.page_ports.specs.Pages.{remove_page};
+ghost use Rattle.page_ports.specs.Frame.{AreInMap, Replaces};
+ghost use Rattle.page_ports.specs.Pages.{PageMap, remove_page};
 ghost use Rattle.page_layout.specs.Footprint.{NamesNoneTwice};
-ghost use Rattle.page_layout.specs.declared.cuts_page.CutsNode.{CutsNode};
-ghost use Rattle.cut_parts.specs.Borders.{HoldForTrees};
+ghost use Rattle.page_layout.specs.declared.cut_page.CutNode.{CutNode};
+ghost use Rattle.page_layout.specs.declared.cut_page.CutNode.TheVariants.{Entry};
+ghost use Rattle.cut_parts.specs.Damage.{BeforeCut, BeforePage, BeforePart};
 ghost use Rattle.cut_parts.specs.Parts.{Part};
+ghost use Rattle.cut_parts.specs.Reach.{IsDamagedForDrop, IsDropped};
 ghost use Rattle.cut_parts.specs.Spelling.{HoldsCuts, HoldsLeaf, first_page, nodes_of};
 ghost use Rattle.cut_parts.specs.Standing.{CutsStand, PartStands, part_pages, tree_pages};
+ghost use Rattle.cut_pages.specs.Nodes.{AreNodes};
 
-use crate::sides::{after_part, is_balanced};
+use crate::sides::{after_part, laws_of_borders};
 use bw_types::Tree;
-use cut_pages::{read_cuts, read_leaf};
+use cut_pages::{is_sound, read_cuts, read_leaf};
 use cut_parts::BorderTree;
-use page_layout::{CutsNode, CutsPage};
+use page_layout::{CutNode, CutPage};
 use page_ports::{PageFault, Stage, StageFault};
 
 /// Frees the pages of a tree and of its borders, and no other. Each page is read before it is freed, since it names others.
@@ -26,6 +29,14 @@ use page_ports::{PageFault, Stage, StageFault};
 pub fn drop_tree<B: BorderTree, S: Stage>(stage: &mut S, tree: &Tree) -> Result<(), StageFault>
     ensures dropped { OnOk result (IsTrue (S.tells stage.old) → (points : List Point) → CutsStand B.BorderTree (S.map stage.old) tree.now points
         → Replaces (tree_pages B.BorderTree (S.map stage.old) tree.now) [] (S.map stage.old) (S.map stage.new)) }
+    // Whatever the pages hold, and of whatever map this was before other pages were freed: the tree's pages were all still there, and
+    // are gone; nothing else changed.
+    ensures gone { OnOk result (IsTrue (S.tells stage.old) → (first : PageMap) (freed : List ℕ) → Replaces freed [] first (S.map stage.old)
+        → AreInMap (S.map stage.old) (tree_pages B.BorderTree first tree.now)
+        × Replaces (tree_pages B.BorderTree first tree.now) [] (S.map stage.old) (S.map stage.new)) }
+    ensures damaged { (page : ℕ) → result ≡ Err (StageFault.Damaged page) → IsTrue (S.tells stage.old)
+        → (first : PageMap) (freed : List ℕ) → Replaces freed [] first (S.map stage.old)
+        → (1 ≤ tree.now.count) × IsDamagedForDrop B.BorderTree first tree.now.count (BeforePage tree.now.root) page }
     ensures sound { (points : List Point) (page : ℕ) → IsTrue (S.tells stage.old) → CutsStand B.BorderTree (S.map stage.old) tree.now points
         → result ≢ Err (StageFault.Damaged page) }
     ensures changes { Changes S.Pages 0 stage.old stage.new result }
@@ -39,13 +50,6 @@ pub fn drop_tree<B: BorderTree, S: Stage>(stage: &mut S, tree: &Tree) -> Result<
     }
 }
 
-// The laws of borders; it does nothing when it runs.
-fn laws_of_borders<B: BorderTree>()
-    ensures { HoldForTrees B.stands B.footprint B.balanced B.cost B.growth B.share }
-{
-    B::border_laws();
-}
-
 // Frees the pages of the part of so many points that begins with this page.
 #[cycle(drops)]
 fn drop_page<B: BorderTree, S: Stage>(
@@ -56,6 +60,11 @@ fn drop_page<B: BorderTree, S: Stage>(
     ensures dropped { OnOk result (IsTrue (S.tells stage.old) → (part : Part) → first_page part ≡ Some page
         → PartStands B.BorderTree (S.map stage.old) count part → NamesNoneTwice (part_pages B.BorderTree (S.map stage.old) part)
         → Replaces (part_pages B.BorderTree (S.map stage.old) part) [] (S.map stage.old) (S.map stage.new)) }
+    ensures gone { OnOk result (IsTrue (S.tells stage.old) → (first : PageMap) (freed : List ℕ) → Replaces freed [] first (S.map stage.old)
+        → IsDropped B.BorderTree first (S.map stage.old) (S.map stage.new) count (Entry page ∷ [])) }
+    ensures damaged { (damaged : ℕ) → result ≡ Err (StageFault.Damaged damaged) → IsTrue (S.tells stage.old)
+        → (first : PageMap) (freed : List ℕ) → Replaces freed [] first (S.map stage.old)
+        → IsDamagedForDrop B.BorderTree first count (BeforePage page) damaged }
     ensures sound { (part : Part) (damaged : ℕ) → IsTrue (S.tells stage.old) → first_page part ≡ Some page
         → PartStands B.BorderTree (S.map stage.old) count part → NamesNoneTwice (part_pages B.BorderTree (S.map stage.old) part)
         → result ≢ Err (StageFault.Damaged damaged) }
@@ -80,6 +89,9 @@ fn drop_page<B: BorderTree, S: Stage>(
 // Frees the page of a leaf of so many points. It is read before, since a stage frees only what is there.
 fn free_leaf<S: Stage>(stage: &mut S, page: u64, count: u32) -> Result<(), StageFault>
     ensures freed { OnOk result (IsTrue (S.tells stage.old) → S.map stage.new ≡ remove_page (S.map stage.old) page) }
+    ensures held { OnOk result (IsTrue (S.tells stage.old)
+        → (points : List Point) × HoldsLeaf (S.map stage.old) page points × (length points ≡ count) × (1 ≤ count)) }
+    ensures damaged { (damaged : ℕ) → result ≡ Err (StageFault.Damaged damaged) → damaged ≡ page }
     ensures sound { (points : List Point) (damaged : ℕ) → IsTrue (S.tells stage.old) → HoldsLeaf (S.map stage.old) page points
         → length points ≡ count → result ≢ Err (StageFault.Damaged damaged) }
     ensures changes { Changes S.Pages 0 stage.old stage.new result }
@@ -95,10 +107,12 @@ fn free_leaf<S: Stage>(stage: &mut S, page: u64, count: u32) -> Result<(), Stage
 }
 
 // Frees a page of cuts, and answers its nodes.
-fn free_cuts<S: Stage>(stage: &mut S, page: u64) -> Result<CutsPage, StageFault>
+fn free_cuts<S: Stage>(stage: &mut S, page: u64) -> Result<CutPage, StageFault>
     ensures freed { IfOk result (λ cuts. IsTrue (S.tells stage.old)
         → HoldsCuts (S.map stage.old) page cuts.nodes.items × (S.map stage.new ≡ remove_page (S.map stage.old) page)) }
-    ensures sound { (nodes : List CutsNode) (damaged : ℕ) → IsTrue (S.tells stage.old) → HoldsCuts (S.map stage.old) page nodes
+    ensures nodes { IfOk result (λ cuts. AreNodes cuts.nodes.items × (3 ≤ length cuts.nodes.items)) }
+    ensures damaged { (damaged : ℕ) → result ≡ Err (StageFault.Damaged damaged) → damaged ≡ page }
+    ensures sound { (nodes : List CutNode) (damaged : ℕ) → IsTrue (S.tells stage.old) → HoldsCuts (S.map stage.old) page nodes
         → result ≢ Err (StageFault.Damaged damaged) }
     ensures changes { Changes S.Pages 0 stage.old stage.new result }
 {
@@ -117,26 +131,39 @@ fn free_cuts<S: Stage>(stage: &mut S, page: u64) -> Result<CutsPage, StageFault>
 pub fn drop_nodes<B: BorderTree, S: Stage>(
     stage: &mut S,
     page: u64,
-    nodes: &[CutsNode],
+    nodes: &[CutNode],
     count: u32,
 ) -> Result<(), StageFault>
-    ensures dropped { OnOk result (IsTrue (S.tells stage.old) → (part : Part) (rest : List CutsNode) → nodes.now ≡ nodes_of part ++ rest
+    ensures dropped { OnOk result (IsTrue (S.tells stage.old) → (part : Part) (rest : List CutNode) → nodes.now ≡ nodes_of part ++ rest
         → PartStands B.BorderTree (S.map stage.old) count part → NamesNoneTwice (part_pages B.BorderTree (S.map stage.old) part)
         → Replaces (part_pages B.BorderTree (S.map stage.old) part) [] (S.map stage.old) (S.map stage.new)) }
-    ensures sound { (part : Part) (rest : List CutsNode) (damaged : ℕ) → IsTrue (S.tells stage.old) → nodes.now ≡ nodes_of part ++ rest
+    ensures gone { OnOk result (IsTrue (S.tells stage.old) → (first : PageMap) (freed : List ℕ) → Replaces freed [] first (S.map stage.old)
+        → IsDropped B.BorderTree first (S.map stage.old) (S.map stage.new) count nodes.now) }
+    ensures damaged { (damaged : ℕ) → result ≡ Err (StageFault.Damaged damaged) → IsTrue (S.tells stage.old)
+        → (first : PageMap) (freed : List ℕ) → Replaces freed [] first (S.map stage.old)
+        → IsDamagedForDrop B.BorderTree first count (BeforePart page nodes.now) damaged }
+    ensures sound { (part : Part) (rest : List CutNode) (damaged : ℕ) → IsTrue (S.tells stage.old) → nodes.now ≡ nodes_of part ++ rest
         → PartStands B.BorderTree (S.map stage.old) count part → NamesNoneTwice (part_pages B.BorderTree (S.map stage.old) part)
         → result ≢ Err (StageFault.Damaged damaged) }
     ensures changes { Changes S.Pages 0 stage.old stage.new result }
 {
-    if let Some(CutsNode::Entry { child }) = nodes.first() {
-        return match drop_page::<B, S>(stage, *child, count) {
+    match nodes.first() {
+        None => Err(StageFault::Damaged(page)),
+        Some(CutNode::Entry { child }) => match drop_page::<B, S>(stage, *child, count) {
             Err(fault) => Err(fault),
             Ok(()) => Ok(()),
-        };
-    }
-    match drop_cut::<B, S>(stage, page, nodes, count) {
-        Err(fault) => Err(fault),
-        Ok(()) => Ok(()),
+        },
+        Some(
+            CutNode::Cut {
+                dimension: _,
+                key: _,
+                low: _,
+                border: _,
+            },
+        ) => match drop_cut::<B, S>(stage, page, nodes, count) {
+            Err(fault) => Err(fault),
+            Ok(()) => Ok(()),
+        },
     }
 }
 
@@ -145,13 +172,18 @@ pub fn drop_nodes<B: BorderTree, S: Stage>(
 fn drop_cut<B: BorderTree, S: Stage>(
     stage: &mut S,
     page: u64,
-    nodes: &[CutsNode],
+    nodes: &[CutNode],
     count: u32,
 ) -> Result<(), StageFault>
-    ensures dropped { OnOk result (IsTrue (S.tells stage.old) → (part : Part) (rest : List CutsNode) → nodes.now ≡ nodes_of part ++ rest
+    ensures dropped { OnOk result (IsTrue (S.tells stage.old) → (part : Part) (rest : List CutNode) → nodes.now ≡ nodes_of part ++ rest
         → PartStands B.BorderTree (S.map stage.old) count part → NamesNoneTwice (part_pages B.BorderTree (S.map stage.old) part)
         → Replaces (part_pages B.BorderTree (S.map stage.old) part) [] (S.map stage.old) (S.map stage.new)) }
-    ensures sound { (part : Part) (rest : List CutsNode) (damaged : ℕ) → IsTrue (S.tells stage.old) → nodes.now ≡ nodes_of part ++ rest
+    ensures gone { OnOk result (IsTrue (S.tells stage.old) → (first : PageMap) (freed : List ℕ) → Replaces freed [] first (S.map stage.old)
+        → IsDropped B.BorderTree first (S.map stage.old) (S.map stage.new) count nodes.now) }
+    ensures damaged { (damaged : ℕ) → result ≡ Err (StageFault.Damaged damaged) → IsTrue (S.tells stage.old)
+        → (first : PageMap) (freed : List ℕ) → Replaces freed [] first (S.map stage.old)
+        → IsDamagedForDrop B.BorderTree first count (BeforeCut page nodes.now) damaged }
+    ensures sound { (part : Part) (rest : List CutNode) (damaged : ℕ) → IsTrue (S.tells stage.old) → nodes.now ≡ nodes_of part ++ rest
         → first_page part ≡ None → PartStands B.BorderTree (S.map stage.old) count part
         → NamesNoneTwice (part_pages B.BorderTree (S.map stage.old) part) → result ≢ Err (StageFault.Damaged damaged) }
     ensures changes { Changes S.Pages 0 stage.old stage.new result }
@@ -160,8 +192,8 @@ fn drop_cut<B: BorderTree, S: Stage>(
     let Some((first, rest)) = nodes.split_first() else {
         return Err(StageFault::Damaged(page));
     };
-    let CutsNode::Cut {
-        dimension: _,
+    let CutNode::Cut {
+        dimension,
         key: _,
         low,
         border,
@@ -169,7 +201,7 @@ fn drop_cut<B: BorderTree, S: Stage>(
     else {
         return Err(StageFault::Damaged(page));
     };
-    if !is_balanced(count, *low) {
+    if !is_sound::<B>(count, *dimension, *low, border) {
         return Err(StageFault::Damaged(page));
     }
     match drop_border::<B, S>(stage, *low, border) {
@@ -195,6 +227,12 @@ fn drop_border<B: BorderTree, S: Stage>(
     ensures dropped { OnOk result (IsTrue (S.tells stage.old) → (points : List Point) → (low ≤ 64 → border.now ≡ empty_tree)
         → (64 < low → B.stands (S.map stage.old) border.now points)
         → Replaces (B.footprint (S.map stage.old) border.now) [] (S.map stage.old) (S.map stage.new)) }
+    ensures gone { OnOk result (IsTrue (S.tells stage.old) → (first : PageMap) (freed : List ℕ) → Replaces freed [] first (S.map stage.old)
+        → (low ≤ 64 → border.now ≡ empty_tree)
+        → AreInMap (S.map stage.old) (B.footprint first border.now)
+        × Replaces (B.footprint first border.now) [] (S.map stage.old) (S.map stage.new)) }
+    ensures damaged { (page : ℕ) → result ≡ Err (StageFault.Damaged page) → IsTrue (S.tells stage.old)
+        → (first : PageMap) (freed : List ℕ) → Replaces freed [] first (S.map stage.old) → (64 < low) × B.damaged_for_drop first border.now page }
     ensures sound { (points : List Point) (damaged : ℕ) → IsTrue (S.tells stage.old) → (64 < low → B.stands (S.map stage.old) border.now points)
         → result ≢ Err (StageFault.Damaged damaged) }
     ensures changes { Changes S.Pages 0 stage.old stage.new result }

@@ -6,8 +6,8 @@ use Rattle.bw_types.specs.declared.point.Point.{Point}
 use Rattle.bw_types.specs.declared.tree.Tree.{Tree}
 use Rattle.page_ports.specs.Frame.{Replaces}
 use Rattle.page_ports.specs.Pages.{PageMap}
-use Rattle.page_layout.specs.declared.cuts_page.CutsNode.{CutsNode}
-use Rattle.page_layout.specs.declared.cuts_page.CutsNode.TheVariants.{Cut, Entry}
+use Rattle.page_layout.specs.declared.cut_page.CutNode.{CutNode}
+use Rattle.page_layout.specs.declared.cut_page.CutNode.TheVariants.{Cut, Entry}
 use Rattle.cut_parts.specs.Damage.{after_parts}
 use Rattle.cut_parts.specs.Parts.{Part, Leaf, Split, IsBalancedCut, points_of}
 use Rattle.cut_parts.specs.Spelling.{HoldsLeaf, first_page, nodes_of}
@@ -23,14 +23,14 @@ use Rattle.cut_index.proofs.Sides.{cut_leaf, grow_high, grow_leaf, grow_low, hig
 use Rattle.cut_index.proofs.Places.{drop_all_front, insert_at, node_at, one_more, set_at, take_front}
 
 -- A cut among nodes: the part is a cut with this node, behind the front, and its sides' nodes follow.
-pub record CutAt (part : Part) (nodes front rest : List CutsNode) (place dimension key low : ℕ) (border : Tree) : Type 0 where
+pub record CutAt (part : Part) (nodes front rest : List CutNode) (place dimension key low : ℕ) (border : Tree) : Type 0 where
   pub low_side : Part
   pub high_side : Part
   pub is : part ≡ Split None dimension key low border low_side high_side
   pub whole : nodes ≡ front ++ (Cut dimension key low border ∷ (nodes_of low_side ++ (nodes_of high_side ++ rest)))
 
-pub cut_at : (part : Part) (nodes front rest : List CutsNode) (place dimension key low : ℕ) (border : Tree)
-    → nodes ≡ front ++ (nodes_of part ++ rest) → place ≡ length front → place < length nodes → ((d : CutsNode) → Cut dimension key low border ≡ get_or nodes place d)
+pub cut_at : (part : Part) (nodes front rest : List CutNode) (place dimension key low : ℕ) (border : Tree)
+    → nodes ≡ front ++ (nodes_of part ++ rest) → place ≡ length front → place < length nodes → ((d : CutNode) → Cut dimension key low border ≡ get_or nodes place d)
     → CutAt part nodes front rest place dimension key low border
 cut_at part nodes front rest place dimension key low border is at lt read =
     let first = node_at nodes front (nodes_of part ++ rest) place (Cut dimension key low border) is at lt read in
@@ -39,25 +39,25 @@ cut_at part nodes front rest place dimension key low border is at lt read =
       low_side = c.low_side;
       high_side = c.high_side;
       is = c.is;
-      whole = is ∙ ap (λ (ns : List CutsNode). front ++ ns) first.1 ∙ ap (λ (ns : List CutsNode). front ++ (Cut dimension key low border ∷ ns)) c.nodes_are;
+      whole = is ∙ ap (λ (ns : List CutNode). front ++ ns) first.1 ∙ ap (λ (ns : List CutNode). front ++ (Cut dimension key low border ∷ ns)) c.nodes_are;
     }
 
 module _ {B : Type 0} (g : Ghosts B) (laws : HaveLaws g) where
-  pub went_low : (m0 m1 m2 : PageMap) (part : Part) (nodes changed grown front rest : List CutsNode) (place n dimension key low : ℕ) (border after : Tree) (p : Point)
+  pub went_low : (m0 m1 m2 : PageMap) (part : Part) (nodes changed grown front rest : List CutNode) (place n dimension key low : ℕ) (border after : Tree) (p : Point)
       → (c : CutAt part nodes front rest place dimension key low border) → place ≡ length front
       → MayTake g m0 n part p → IsBalancedCut (n + 1) (low + 1) → slice_index p.keys dimension < key
       → BorderGrown g m0 m1 dimension low border after (points_of c.low_side) p
       → changed ≡ set nodes place (Cut dimension key (low + 1) after)
-      → ((side : Part) (before others : List CutsNode) → changed ≡ before ++ (nodes_of side ++ others) → place + 1 ≡ length before
+      → ((side : Part) (before others : List CutNode) → changed ≡ before ++ (nodes_of side ++ others) → place + 1 ≡ length before
       → MayTake g m1 low side p → IsGrownIn g m1 m2 low side p grown before others)
       → IsGrownIn g m0 m2 n part p grown front rest
   went_low m0 m1 m2 part nodes changed grown front rest place n dimension key low border after p c at take balanced below b written side_grows =
-      let node : CutsNode = Cut dimension key (low + 1) after in
-      let before : List CutsNode = front ++ (node ∷ []) in
-      let behind : List CutsNode = nodes_of c.high_side ++ rest in
-      let others : List CutsNode = nodes_of c.low_side ++ behind in
+      let node : CutNode = Cut dimension key (low + 1) after in
+      let before : List CutNode = front ++ (node ∷ []) in
+      let behind : List CutNode = nodes_of c.high_side ++ rest in
+      let others : List CutNode = nodes_of c.low_side ++ behind in
       let now : changed ≡ before ++ (nodes_of c.low_side ++ behind) =
-      written ∙ ap (λ (ns : List CutsNode). set ns place node) c.whole
+      written ∙ ap (λ (ns : List CutNode). set ns place node) c.whole
       ∙ set_at front others place (Cut dimension key low border) node at ∙ one_more front others node in
       let next : place + 1 ≡ length before = omega (arith, at, length-append front (node ∷ [])) in
       let takes : MayTake g m0 n (Split None dimension key low border c.low_side c.high_side) p = subst (λ (q : Part). MayTake g m0 n q p) c.is take in
@@ -68,23 +68,23 @@ module _ {B : Type 0} (g : Ghosts B) (laws : HaveLaws g) where
         added = subst (λ (q : Part). IsAdded g m0 m2 n q (Split None dimension key (low + 1) after side.grown c.high_side) p) (sym c.is)
             (grow_low g laws m0 m1 m2 dimension key low n border after c.low_side c.high_side side.grown p takes b balanced below side.added);
         nodes_are = side.nodes_are ∙ sym (one_more front (nodes_of side.grown ++ behind) node)
-            ∙ ap (λ (ns : List CutsNode). front ++ (node ∷ ns)) (sym (append_assoc (nodes_of side.grown) (nodes_of c.high_side) rest));
+            ∙ ap (λ (ns : List CutNode). front ++ (node ∷ ns)) (sym (append_assoc (nodes_of side.grown) (nodes_of c.high_side) rest));
       }
 
-  pub went_high : (m0 m1 : PageMap) (part : Part) (nodes grown front rest : List CutsNode) (place high n dimension key low : ℕ) (border : Tree) (p : Point)
+  pub went_high : (m0 m1 : PageMap) (part : Part) (nodes grown front rest : List CutNode) (place high n dimension key low : ℕ) (border : Tree) (p : Point)
       → (c : CutAt part nodes front rest place dimension key low border) → place ≡ length front
       → MayTake g m0 n part p → IsBalancedCut (n + 1) low → key ≤ slice_index p.keys dimension
       → high ≡ length nodes - length (nodes_of c.high_side ++ rest)
-      → ((side : Part) (before others : List CutsNode) → nodes ≡ before ++ (nodes_of side ++ others) → high ≡ length before
+      → ((side : Part) (before others : List CutNode) → nodes ≡ before ++ (nodes_of side ++ others) → high ≡ length before
       → MayTake g m0 (n - low) side p → IsGrownIn g m0 m1 (n - low) side p grown before others)
       → IsGrownIn g m0 m1 n part p grown front rest
   went_high m0 m1 part nodes grown front rest place high n dimension key low border p c at take balanced from high_is side_grows =
-      let node : CutsNode = Cut dimension key low border in
-      let behind : List CutsNode = nodes_of c.high_side ++ rest in
-      let lows : List CutsNode = nodes_of c.low_side in
-      let before : List CutsNode = front ++ (node ∷ lows) in
+      let node : CutNode = Cut dimension key low border in
+      let behind : List CutNode = nodes_of c.high_side ++ rest in
+      let lows : List CutNode = nodes_of c.low_side in
+      let before : List CutNode = front ++ (node ∷ lows) in
       let whole : nodes ≡ before ++ behind = c.whole ∙ sym (append_assoc front (node ∷ lows) behind) in
-      let long : length nodes ≡ length before + length behind = ap (λ (ns : List CutsNode). length ns) whole ∙ length-append before behind in
+      let long : length nodes ≡ length before + length behind = ap (λ (ns : List CutNode). length ns) whole ∙ length-append before behind in
       let takes : MayTake g m0 n (Split None dimension key low border c.low_side c.high_side) p = subst (λ (q : Part). MayTake g m0 n q p) c.is take in
       let side = side_grows c.high_side before rest whole (omega (arith, high_is, long)) (high_takes g laws m0 dimension key low n border c.low_side c.high_side p takes) in
       record {
@@ -92,7 +92,7 @@ module _ {B : Type 0} (g : Ghosts B) (laws : HaveLaws g) where
         added = subst (λ (q : Part). IsAdded g m0 m1 n q (Split None dimension key low border c.low_side side.grown) p) (sym c.is)
             (grow_high g laws m0 m1 dimension key low n border c.low_side c.high_side side.grown p takes balanced from side.added);
         nodes_are = side.nodes_are ∙ append_assoc front (node ∷ lows) (nodes_of side.grown ++ rest)
-            ∙ ap (λ (ns : List CutsNode). front ++ (node ∷ ns)) (sym (append_assoc lows (nodes_of side.grown) rest));
+            ∙ ap (λ (ns : List CutNode). front ++ (node ∷ ns)) (sym (append_assoc lows (nodes_of side.grown) rest));
       }
 
   -- a leaf that a page holds
@@ -129,8 +129,8 @@ module _ {B : Type 0} (g : Ghosts B) (laws : HaveLaws g) where
 
 module _ {B : Type 0} (g : Ghosts B) where
   -- an entry that made way for a cut and the entries of its sides
-  entry_cut : (m0 m1 : PageMap) (part : Part) (nodes grown front rest : List CutsNode) (place child n low high : ℕ) (cut : CutsNode) (p : Point)
-      → nodes ≡ front ++ (nodes_of part ++ rest) → place ≡ length front → place < length nodes → ((d : CutsNode) → Entry child ≡ get_or nodes place d)
+  entry_cut : (m0 m1 : PageMap) (part : Part) (nodes grown front rest : List CutNode) (place child n low high : ℕ) (cut : CutNode) (p : Point)
+      → nodes ≡ front ++ (nodes_of part ++ rest) → place ≡ length front → place < length nodes → ((d : CutNode) → Entry child ≡ get_or nodes place d)
       → (first_page part ≡ Some child → IsAddedAs g m0 m1 n part p (cut ∷ Entry low ∷ Entry high ∷ []))
       → grown ≡ insert (insert (set nodes place (Entry high)) place (Entry low)) place cut
       → IsGrownIn g m0 m1 n part p grown front rest
@@ -139,19 +139,19 @@ module _ {B : Type 0} (g : Ghosts B) where
       let e = entry_of part child first.0 rest (sym first.1) in
       let side = grows e.0 in
       let written : grown ≡ front ++ (cut ∷ Entry low ∷ Entry high ∷ first.0) =
-      put ∙ ap (λ (ns : List CutsNode). insert (insert (set ns place (Entry high)) place (Entry low)) place cut) (is ∙ ap (λ (ns : List CutsNode). front ++ ns) first.1)
-      ∙ ap (λ (ns : List CutsNode). insert (insert ns place (Entry low)) place cut) (set_at front first.0 place (Entry child) (Entry high) at)
-      ∙ ap (λ (ns : List CutsNode). insert ns place cut) (insert_at front (Entry high ∷ first.0) place (Entry low) at)
+      put ∙ ap (λ (ns : List CutNode). insert (insert (set ns place (Entry high)) place (Entry low)) place cut) (is ∙ ap (λ (ns : List CutNode). front ++ ns) first.1)
+      ∙ ap (λ (ns : List CutNode). insert (insert ns place (Entry low)) place cut) (set_at front first.0 place (Entry child) (Entry high) at)
+      ∙ ap (λ (ns : List CutNode). insert ns place cut) (insert_at front (Entry high ∷ first.0) place (Entry low) at)
       ∙ insert_at front (Entry low ∷ Entry high ∷ first.0) place cut at in
       record {
         grown = side.grown;
         added = side.added;
-        nodes_are = written ∙ ap (λ (ns : List CutsNode). front ++ (cut ∷ Entry low ∷ Entry high ∷ ns)) e.1 ∙ ap (λ (ns : List CutsNode). front ++ (ns ++ rest)) (sym side.nodes_are);
+        nodes_are = written ∙ ap (λ (ns : List CutNode). front ++ (cut ∷ Entry low ∷ Entry high ∷ ns)) e.1 ∙ ap (λ (ns : List CutNode). front ++ (ns ++ rest)) (sym side.nodes_are);
       }
 
   -- an entry that leads to another page, or to the same
-  entry_moved : (m0 m1 : PageMap) (part : Part) (nodes grown front rest : List CutsNode) (place child other n : ℕ) (p : Point)
-      → nodes ≡ front ++ (nodes_of part ++ rest) → place ≡ length front → place < length nodes → ((d : CutsNode) → Entry child ≡ get_or nodes place d)
+  entry_moved : (m0 m1 : PageMap) (part : Part) (nodes grown front rest : List CutNode) (place child other n : ℕ) (p : Point)
+      → nodes ≡ front ++ (nodes_of part ++ rest) → place ≡ length front → place < length nodes → ((d : CutNode) → Entry child ≡ get_or nodes place d)
       → (first_page part ≡ Some child → IsAddedAs g m0 m1 n part p (Entry other ∷ []))
       → grown ≡ take place nodes ++ (Entry other ∷ after_parts 1 (drop place nodes))
       → IsGrownIn g m0 m1 n part p grown front rest
@@ -159,20 +159,20 @@ module _ {B : Type 0} (g : Ghosts B) where
       let first = node_at nodes front (nodes_of part ++ rest) place (Entry child) is at lt read in
       let e = entry_of part child first.0 rest (sym first.1) in
       let side = grows e.0 in
-      let before : take place nodes ≡ front = ap (λ (ns : List CutsNode). take place ns) is ∙ take_front front (nodes_of part ++ rest) place at in
+      let before : take place nodes ≡ front = ap (λ (ns : List CutNode). take place ns) is ∙ take_front front (nodes_of part ++ rest) place at in
       let behind : after_parts 1 (drop place nodes) ≡ rest =
-      ap (λ (ns : List CutsNode). after_parts 1 (drop place ns)) is ∙ ap (λ (ns : List CutsNode). after_parts 1 ns) (drop_all_front front (nodes_of part ++ rest) place at)
+      ap (λ (ns : List CutNode). after_parts 1 (drop place ns)) is ∙ ap (λ (ns : List CutNode). after_parts 1 ns) (drop_all_front front (nodes_of part ++ rest) place at)
       ∙ after_part part 0 rest in
       record {
         grown = side.grown;
         added = side.added;
-        nodes_are = put ∙ ap (λ (ns : List CutsNode). ns ++ (Entry other ∷ after_parts 1 (drop place nodes))) before
-            ∙ ap (λ (ns : List CutsNode). front ++ (Entry other ∷ ns)) behind
-            ∙ ap (λ (ns : List CutsNode). front ++ (ns ++ rest)) (sym side.nodes_are);
+        nodes_are = put ∙ ap (λ (ns : List CutNode). ns ++ (Entry other ∷ after_parts 1 (drop place nodes))) before
+            ∙ ap (λ (ns : List CutNode). front ++ (Entry other ∷ ns)) behind
+            ∙ ap (λ (ns : List CutNode). front ++ (ns ++ rest)) (sym side.nodes_are);
       }
 
-  entry_kept : (m0 m1 : PageMap) (part : Part) (nodes front rest : List CutsNode) (place child n : ℕ) (p : Point)
-      → nodes ≡ front ++ (nodes_of part ++ rest) → place ≡ length front → place < length nodes → ((d : CutsNode) → Entry child ≡ get_or nodes place d)
+  entry_kept : (m0 m1 : PageMap) (part : Part) (nodes front rest : List CutNode) (place child n : ℕ) (p : Point)
+      → nodes ≡ front ++ (nodes_of part ++ rest) → place ≡ length front → place < length nodes → ((d : CutNode) → Entry child ≡ get_or nodes place d)
       → (first_page part ≡ Some child → IsAddedAs g m0 m1 n part p (Entry child ∷ []))
       → IsGrownIn g m0 m1 n part p nodes front rest
   entry_kept m0 m1 part nodes front rest place child n p is at lt read grows =
@@ -182,16 +182,16 @@ module _ {B : Type 0} (g : Ghosts B) where
       record {
         grown = side.grown;
         added = side.added;
-        nodes_are = is ∙ ap (λ (ns : List CutsNode). front ++ (ns ++ rest)) (entry_nodes part child e.0 ∙ sym side.nodes_are);
+        nodes_are = is ∙ ap (λ (ns : List CutNode). front ++ (ns ++ rest)) (entry_nodes part child e.0 ∙ sym side.nodes_are);
       }
 
   -- what was asked for was put into the place of the entry
-  pub entry_taken : (m0 m1 : PageMap) (part : Part) (nodes grown front rest : List CutsNode) (place child n : ℕ) (change : Change) (p : Point)
-      → nodes ≡ front ++ (nodes_of part ++ rest) → place ≡ length front → place < length nodes → ((d : CutsNode) → Entry child ≡ get_or nodes place d)
+  pub entry_taken : (m0 m1 : PageMap) (part : Part) (nodes grown front rest : List CutNode) (place child n : ℕ) (change : Change) (p : Point)
+      → nodes ≡ front ++ (nodes_of part ++ rest) → place ≡ length front → place < length nodes → ((d : CutNode) → Entry child ≡ get_or nodes place d)
       → (first_page part ≡ Some child → IsAddedAs g m0 m1 n part p (nodes_after change child)) → IsTaken nodes grown place change
       → IsGrownIn g m0 m1 n part p grown front rest
   entry_taken m0 m1 part nodes grown front rest place child n Same p is at lt read grows taken =
-      subst (λ (ns : List CutsNode). IsGrownIn g m0 m1 n part p ns front rest) (sym taken) (entry_kept m0 m1 part nodes front rest place child n p is at lt read grows)
+      subst (λ (ns : List CutNode). IsGrownIn g m0 m1 n part p ns front rest) (sym taken) (entry_kept m0 m1 part nodes front rest place child n p is at lt read grows)
   entry_taken m0 m1 part nodes grown front rest place child n (Moved other) p is at lt read grows taken =
       entry_moved m0 m1 part nodes grown front rest place child other n p is at lt read grows taken
   entry_taken m0 m1 part nodes grown front rest place child n (Raised cut low high) p is at lt read grows taken =

@@ -1,3 +1,4 @@
+pub mod Coming
 pub mod Going
 pub mod Within
 pub mod Begun

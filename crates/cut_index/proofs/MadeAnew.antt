@@ -6,8 +6,8 @@ use Rattle.bw_types.specs.declared.point.Point.{Point}
 use Rattle.page_ports.specs.Frame.{Replaces}
 use Rattle.page_ports.specs.FrameLaws.{Replaces-then}
 use Rattle.page_ports.specs.Pages.{PageMap}
-use Rattle.page_layout.specs.declared.cuts_page.CutsNode.{CutsNode}
-use Rattle.page_layout.specs.declared.cuts_page.CutsNode.TheVariants.{Entry}
+use Rattle.page_layout.specs.declared.cut_page.CutNode.{CutNode}
+use Rattle.page_layout.specs.declared.cut_page.CutNode.TheVariants.{Entry}
 use Rattle.dom_index.specs.Points.{AreKeysBelow, IsNewPoint}
 use Rattle.cut_parts.specs.Borders.{MayBeBuilt}
 use Rattle.cut_parts.specs.Damage.{after_parts}
@@ -40,7 +40,7 @@ built_in_any_order g m0 m1 page points fitted few first second built =
       begins = built.begins;
     }
 
-pub made_anew : {B : Type 0} (g : Ghosts B) (m0 m1 m2 : PageMap) (part : Part) (nodes grown front rest : List CutsNode) (place n child : ℕ) (p : Point)
+pub made_anew : {B : Type 0} (g : Ghosts B) (m0 m1 m2 : PageMap) (part : Part) (nodes grown front rest : List CutNode) (place n child : ℕ) (p : Point)
     → nodes ≡ front ++ (nodes_of part ++ rest) → place ≡ length front → MayTake g m0 n part p
     → Replaces (part_pages g m0 part) [] m0 m1 → IsBuiltAt g (p ∷ points_of part) m1 m2 child
     → grown ≡ take place nodes ++ (Entry child ∷ after_parts 1 (drop place nodes))
@@ -48,9 +48,9 @@ pub made_anew : {B : Type 0} (g : Ghosts B) (m0 m1 m2 : PageMap) (part : Part) (
 made_anew g m0 m1 m2 part nodes grown front rest place n child p is at take_p freed built set =
     let counted = parts_are_counted part n take_p.stood.shape in
     let many : length (p ∷ points_of part) ≡ n + 1 = omega (arith, counted) in
-    let before : take place nodes ≡ front = ap (λ (ns : List CutsNode). take place ns) is ∙ take_front front (nodes_of part ++ rest) place at in
+    let before : take place nodes ≡ front = ap (λ (ns : List CutNode). take place ns) is ∙ take_front front (nodes_of part ++ rest) place at in
     let behind : after_parts 1 (drop place nodes) ≡ rest =
-    ap (λ (ns : List CutsNode). after_parts 1 (drop place ns)) is ∙ ap (λ (ns : List CutsNode). after_parts 1 ns) (drop_all_front front (nodes_of part ++ rest) place at) ∙ after_part part 0 rest in
+    ap (λ (ns : List CutNode). after_parts 1 (drop place ns)) is ∙ ap (λ (ns : List CutNode). after_parts 1 ns) (drop_all_front front (nodes_of part ++ rest) place at) ∙ after_part part 0 rest in
     record {
       grown = built.part;
       added = record {
@@ -60,9 +60,9 @@ made_anew g m0 m1 m2 part nodes grown front rest place n child p is at take_p fr
         once = built.is.once;
         balance = λ _. built.is.balance;
       };
-      nodes_are = set ∙ ap (λ (ns : List CutsNode). ns ++ (Entry child ∷ after_parts 1 (drop place nodes))) before
-          ∙ ap (λ (ns : List CutsNode). front ++ (Entry child ∷ ns)) behind
-          ∙ ap (λ (ns : List CutsNode). front ++ (ns ++ rest)) (sym (entry_nodes built.part child built.begins));
+      nodes_are = set ∙ ap (λ (ns : List CutNode). ns ++ (Entry child ∷ after_parts 1 (drop place nodes))) before
+          ∙ ap (λ (ns : List CutNode). front ++ (Entry child ∷ ns)) behind
+          ∙ ap (λ (ns : List CutNode). front ++ (ns ++ rest)) (sym (entry_nodes built.part child built.begins));
     }
 
 -- the points of a part and a new one may be built, in whatever order they come

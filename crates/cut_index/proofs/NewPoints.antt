@@ -2,7 +2,7 @@
 use Rattle.std.proofs.Common.{◌≡◌, ℕ, ◌-◌, ◌^◌, ◌<◌, ◌≤◌, IsTrue, List, ◌∷◌, ◌++◌, length, get_or, ◌∙◌, arith, length-append}
 use Rattle.std.proofs.lemmas.List.Elements.{All-cons, All-map}
 use Rattle.std.proofs.lemmas.List.Kept.{AllPairs-cons}
-use Rattle.bw_types.specs.Classes.{without_dimension}
+use Rattle.bw_types.specs.Without.{without_dimension}
 use Rattle.bw_types.specs.declared.point.Point.{Point}
 use Rattle.dom_index.specs.Points.{AreKeysBelow, IsNewPoint, keys_differ}
 use Rattle.cut_parts.specs.Borders.{MayBeBuilt}

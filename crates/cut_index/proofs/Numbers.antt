@@ -3,13 +3,12 @@ use Rattle.std.proofs.Common.{◌≡◌, ℕ, zero, suc, ◌+◌, ◌-◌, ◌*�
 use Rattle.std.proofs.lemmas.Bool.{cases_lt, eq-eqb, le-leb, le-ltb, lt-leb, lt-ltb, ne_eqb}
 use Rattle.std.proofs.Math.Nat.{suc-mul}
 use Rattle.std.proofs.lemmas.Nat.{mul-le}
-use Rattle.cut_parts.specs.Depths.{depth, depth_within, most_of_side, share_above}
+use Rattle.bw_types.specs.Depths.{depth, depth_within, most_of_side, share_above}
+use Rattle.bw_types.specs.DepthLaws.{depth_grows, depth_step, shares_never_fall}
 use Rattle.cut_parts.specs.Parts.{IsBalancedCut}
 use Rattle.cut_parts.specs.Standing.{HaveLaws, cuts_share}
 use Rattle.cut_parts.specs.declared.border_tree.BorderTree.{Ghosts}
-use Rattle.cut_parts.proofs.Depths.{depth_grows, depth_step}
-use Rattle.cut_parts.proofs.Growth.{shares_never_fall}
-use Rattle.cut_index.specs.Growing.{border_growth, inner_growth, page_growth}
+use Rattle.cut_index.specs.Growing.{border_growth, inner_growth, page_growth, root_growth}
 
 -- a side of a cut is less deep
 side_depth : (m n : ℕ) → 64 < n → 5 * m ≤ 3 * n → m < n → suc (depth m) ≤ depth n
@@ -39,11 +38,20 @@ module _ {B : Type 0} (g : Ghosts B) (laws : HaveLaws g) where
       let anew = mul-le (m + 1) (share_above g.share (m + 1)) (n + 1) (share_above g.share (n + 1)) (omega arith) (shares_never_fall g.share laws.share_rises (m + 1) (n + 1) (omega arith)) in
       omega (arith, path, whole, anew)
 
-  page_few : (n : ℕ) → n ≤ 64 → page_growth g n ≡ 1
-  page_few n few = rw (le-leb n 64 few) refl
+  page_none : (n : ℕ) → n < 64 → page_growth g n ≡ 0
+  page_none n few = rw (lt-ltb n 64 few) refl
+
+  page_full : (n : ℕ) → n ≡ 64 → page_growth g n ≡ 1
+  page_full n full = rw (le-ltb n 64 (omega (arith, full)), le-leb n 64 (omega (arith, full))) refl
+
+  page_few : (n : ℕ) → n ≤ 64 → page_growth g n ≤ 1
+  page_few n few = elim (cases_lt n 64) [
+    | inl less ↦ let none = page_none n less in omega (arith, none)
+    | inr full ↦ let one = page_full n (omega (arith, few, full)) in omega (arith, one)
+  ]
 
   page_many : (n : ℕ) → 64 < n → page_growth g n ≡ 1 + inner_growth g n
-  page_many n many = rw (lt-leb n 64 many) refl
+  page_many n many = rw (le-ltb n 64 (omega (arith, many)), lt-leb n 64 many) refl
 
   pub anew_number : (n : ℕ) → (n + 1) * cuts_share g (n + 1) ≤ inner_growth g n
   anew_number n = omega arith
@@ -90,15 +98,32 @@ module _ {B : Type 0} (g : Ghosts B) (laws : HaveLaws g) where
   pub page_number : (n : ℕ) → 64 < n → inner_growth g n + 1 ≡ page_growth g n
   page_number n many = let page = page_many n many in omega (arith, page)
 
-  pub leaf_number : (n : ℕ) → n ≤ 64 → 1 ≡ page_growth g n
-  leaf_number n few = sym (page_few n few)
+  pub leaf_number : (n : ℕ) → n ≡ 64 → 1 ≡ page_growth g n
+  leaf_number n full = sym (page_full n full)
 
   pub inner_number : (n : ℕ) → 64 < n → inner_growth g n ≤ page_growth g n
   inner_number n many = let page = page_many n many in omega (arith, page)
 
-  -- the tree, with a new root
-  pub tree_number : (n : ℕ) → page_growth g n + 1 ≤ 3 + inner_growth g n
-  tree_number n = elim (cases_lt 64 n) [
-    | inl more ↦ let page = page_many n more in omega (arith, page)
-    | inr few ↦ let page = page_few n few in omega (arith, page)
+  -- the tree: its page, and a new root where that is split
+  pub root_none : (n : ℕ) → n < 64 → 0 ≡ root_growth g n
+  root_none n few = rw (lt-ltb n 64 few) refl
+
+  pub root_number : (n : ℕ) → 64 ≤ n → page_growth g n + 1 ≡ root_growth g n
+  root_number n many = rw (le-ltb n 64 many) refl
+
+  pub page_within : (n : ℕ) → page_growth g n ≤ root_growth g n
+  page_within n = elim (cases_lt n 64) [
+    | inl few ↦ let page = page_none n few in omega (arith, page)
+    | inr many ↦ let root = root_number n many in omega (arith, root)
+  ]
+
+  pub tree_number : (n : ℕ) → root_growth g n ≤ 3 + inner_growth g n
+  tree_number n = elim (cases_lt n 64) [
+    | inl few ↦ let none = root_none n few in omega (arith, none)
+    | inr some ↦
+        let root = root_number n some in
+        elim (cases_lt 64 n) [
+          | inl more ↦ let page = page_many n more in omega (arith, root, page)
+          | inr few ↦ let page = page_few n few in omega (arith, root, page)
+        ]
   ]

@@ -9,8 +9,8 @@ use Rattle.page_ports.specs.Frame.{AgreeOn, Replaces}
 use Rattle.page_ports.specs.FrameLaws.{Replaces-then}
 use Rattle.page_ports.specs.Pages.{PageMap}
 use Rattle.page_layout.specs.Footprint.{NamesNoneTwice}
-use Rattle.page_layout.specs.declared.cuts_page.CutsNode.{CutsNode}
-use Rattle.page_layout.specs.declared.cuts_page.CutsNode.TheVariants.{Cut, Entry}
+use Rattle.page_layout.specs.declared.cut_page.CutNode.{CutNode}
+use Rattle.page_layout.specs.declared.cut_page.CutNode.TheVariants.{Cut, Entry}
 use Rattle.cut_parts.specs.Parts.{Part, Leaf, Split, border_points, points_of}
 use Rattle.cut_parts.specs.Spelling.{HoldsCuts, at_page, first_page, from_home, nodes_in, nodes_of}
 use Rattle.cut_parts.specs.Standing.{BordersBalanced, HaveLaws, PartBalanced, PartStands, part_pages}
@@ -41,7 +41,7 @@ many_nodes (Leaf page points) many = absurd (omega (arith, many))
 many_nodes (Split (Some page) dimension key low border low_side high_side) many = absurd (omega (arith, many))
 many_nodes (Split None dimension key low border low_side high_side) many = refl
 
-nodes_split : (dimension key low : ℕ) (border : Tree) {first second : ℕ} {low_nodes high_nodes : List CutsNode} → low_nodes ≡ Entry first ∷ [] → high_nodes ≡ Entry second ∷ []
+nodes_split : (dimension key low : ℕ) (border : Tree) {first second : ℕ} {low_nodes high_nodes : List CutNode} → low_nodes ≡ Entry first ∷ [] → high_nodes ≡ Entry second ∷ []
     → Cut dimension key low border ∷ (low_nodes ++ high_nodes) ≡ Cut dimension key low border ∷ Entry first ∷ Entry second ∷ []
 nodes_split dimension key low border l h = λ i. Cut dimension key low border ∷ (l i ++ h i)
 
@@ -81,7 +81,7 @@ module _ {B : Type 0} (g : Ghosts B) (laws : HaveLaws g) where
         balance = λ before. balance_stays (g.balanced b) (Some page) side (part_balance g laws a b k side s agree before);
       }
 
-  move_sides : (a b : PageMap) (page n dimension key low : ℕ) (border : Tree) (low_side high_side : Part) (home_low home_high : Option ℕ) (new : List ℕ) (nodes : List CutsNode)
+  move_sides : (a b : PageMap) (page n dimension key low : ℕ) (border : Tree) (low_side high_side : Part) (home_low home_high : Option ℕ) (new : List ℕ) (nodes : List CutNode)
       → PartStands g a n (Split None dimension key low border low_side high_side) → NamesNoneTwice (page ∷ part_pages g a (Split None dimension key low border low_side high_side))
       → Replaces (page ∷ []) new a b → NamesNoneTwice new → MayMove b home_low low_side → MayMove b home_high high_side
       → IsPermutation (g.footprint a border ++ (from_home home_low (part_pages g a low_side) ++ from_home home_high (part_pages g a high_side))) (new ++ (g.footprint a border ++ (part_pages g a low_side ++ part_pages g a high_side)))
@@ -136,14 +136,14 @@ module _ {B : Type 0} (g : Ghosts B) (laws : HaveLaws g) where
   -- ---- the split of a page at its first cut, by the sides that are entries
 
   -- the nodes and the sides as the code finds them
-  abbrev FoundSides : List CutsNode → CutsNode → List CutsNode → List CutsNode → Type 0
+  abbrev FoundSides : List CutNode → CutNode → List CutNode → List CutNode → Type 0
   FoundSides nodes cut lows highs = (dimension key low : ℕ) (border : Tree) (low_side high_side : Part) → nodes ≡ nodes_of (Split None dimension key low border low_side high_side)
       → (cut ≡ Cut dimension key low border) × (lows ≡ nodes_of low_side) × (highs ≡ nodes_of high_side)
 
-  abbrev Begins : List CutsNode → Option ℕ → Type 0
+  abbrev Begins : List CutNode → Option ℕ → Type 0
   Begins nodes found = (side : Part) → nodes ≡ nodes_of side → found ≡ first_page side
 
-  pub split_low : (a b : PageMap) (page n child : ℕ) (part : Part) (nodes lows highs : List CutsNode) (cut : CutsNode) → first_page part ≡ None → nodes ≡ nodes_of part
+  pub split_low : (a b : PageMap) (page n child : ℕ) (part : Part) (nodes lows highs : List CutNode) (cut : CutNode) → first_page part ≡ None → nodes ≡ nodes_of part
       → PartStands g a n part → NamesNoneTwice (page ∷ part_pages g a part) → FoundSides nodes cut lows highs → Begins lows (Some child) → Begins highs None
       → HoldsCuts b page highs → Replaces (page ∷ []) (page ∷ []) a b → IsMovedAs g a b n page part (cut ∷ Entry child ∷ Entry page ∷ [])
   split_low a b page n child (Leaf first points) nodes lows highs cut inside is s once sides low_begins high_begins holds change = absurd cc
@@ -151,13 +151,13 @@ module _ {B : Type 0} (g : Ghosts B) (laws : HaveLaws g) where
   split_low a b page n child (Split None d k l t low_side high_side) nodes lows highs cut inside is s once sides low_begins high_begins holds change =
       let f = sides d k l t low_side high_side is in
       let high_inside : first_page high_side ≡ None = sym (high_begins high_side f.2) in
-      subst (λ (c : CutsNode). IsMovedAs g a b n page (Split None d k l t low_side high_side) (c ∷ Entry child ∷ Entry page ∷ [])) (sym f.0)
+      subst (λ (c : CutNode). IsMovedAs g a b n page (Split None d k l t low_side high_side) (c ∷ Entry child ∷ Entry page ∷ [])) (sym f.0)
       (move_sides a b page n d k l t low_side high_side None (Some page) (page ∷ []) (Cut d k l t ∷ Entry child ∷ Entry page ∷ []) s once change (refl, tt) tt
-      (high_inside, subst (λ (ns : List CutsNode). HoldsCuts b page ns) f.2 holds)
+      (high_inside, subst (λ (ns : List CutNode). HoldsCuts b page ns) f.2 holds)
       (high_first (g.footprint a t) (part_pages g a low_side) (part_pages g a high_side) page)
       (nodes_split d k l t (entry_nodes low_side child (sym (low_begins low_side f.1))) (own_nodes page high_side high_inside)))
 
-  pub split_high : (a b : PageMap) (page n child : ℕ) (part : Part) (nodes lows highs : List CutsNode) (cut : CutsNode) → first_page part ≡ None → nodes ≡ nodes_of part
+  pub split_high : (a b : PageMap) (page n child : ℕ) (part : Part) (nodes lows highs : List CutNode) (cut : CutNode) → first_page part ≡ None → nodes ≡ nodes_of part
       → PartStands g a n part → NamesNoneTwice (page ∷ part_pages g a part) → FoundSides nodes cut lows highs → Begins lows None → Begins highs (Some child)
       → HoldsCuts b page lows → Replaces (page ∷ []) (page ∷ []) a b → IsMovedAs g a b n page part (cut ∷ Entry page ∷ Entry child ∷ [])
   split_high a b page n child (Leaf first points) nodes lows highs cut inside is s once sides low_begins high_begins holds change = absurd cc
@@ -165,13 +165,13 @@ module _ {B : Type 0} (g : Ghosts B) (laws : HaveLaws g) where
   split_high a b page n child (Split None d k l t low_side high_side) nodes lows highs cut inside is s once sides low_begins high_begins holds change =
       let f = sides d k l t low_side high_side is in
       let low_inside : first_page low_side ≡ None = sym (low_begins low_side f.1) in
-      subst (λ (c : CutsNode). IsMovedAs g a b n page (Split None d k l t low_side high_side) (c ∷ Entry page ∷ Entry child ∷ [])) (sym f.0)
+      subst (λ (c : CutNode). IsMovedAs g a b n page (Split None d k l t low_side high_side) (c ∷ Entry page ∷ Entry child ∷ [])) (sym f.0)
       (move_sides a b page n d k l t low_side high_side (Some page) None (page ∷ []) (Cut d k l t ∷ Entry page ∷ Entry child ∷ []) s once change (refl, tt)
-      (low_inside, subst (λ (ns : List CutsNode). HoldsCuts b page ns) f.1 holds) tt
+      (low_inside, subst (λ (ns : List CutNode). HoldsCuts b page ns) f.1 holds) tt
       (low_first (g.footprint a t) (part_pages g a low_side) (part_pages g a high_side) page)
       (nodes_split d k l t (own_nodes page low_side low_inside) (entry_nodes high_side child (sym (high_begins high_side f.2)))))
 
-  pub split_both : (a b c : PageMap) (page new n : ℕ) (part : Part) (nodes lows highs : List CutsNode) (cut : CutsNode) → first_page part ≡ None → nodes ≡ nodes_of part
+  pub split_both : (a b c : PageMap) (page new n : ℕ) (part : Part) (nodes lows highs : List CutNode) (cut : CutNode) → first_page part ≡ None → nodes ≡ nodes_of part
       → PartStands g a n part → NamesNoneTwice (page ∷ part_pages g a part) → FoundSides nodes cut lows highs → Begins lows None → Begins highs None
       → HoldsCuts b page lows → Replaces (page ∷ []) (page ∷ []) a b → HoldsCuts c new highs → Replaces [] (new ∷ []) b c
       → IsMovedAs g a c n page part (cut ∷ Entry page ∷ Entry new ∷ [])
@@ -183,21 +183,21 @@ module _ {B : Type 0} (g : Ghosts B) (laws : HaveLaws g) where
       let high_inside : first_page high_side ≡ None = sym (high_begins high_side f.2) in
       let two = two_pages page new a b c change (some_there b page holds.bytes holds.there) made in
       let low_holds : HoldsCuts c page lows = record { bytes = holds.bytes; there = two.agree ∙ holds.there; spelled = holds.spelled; is = holds.is } in
-      subst (λ (x : CutsNode). IsMovedAs g a c n page (Split None d k l t low_side high_side) (x ∷ Entry page ∷ Entry new ∷ [])) (sym f.0)
+      subst (λ (x : CutNode). IsMovedAs g a c n page (Split None d k l t low_side high_side) (x ∷ Entry page ∷ Entry new ∷ [])) (sym f.0)
       (move_sides a c page n d k l t low_side high_side (Some page) (Some new) (page ∷ new ∷ []) (Cut d k l t ∷ Entry page ∷ Entry new ∷ []) s once two.change two.once
-      (low_inside, subst (λ (ns : List CutsNode). HoldsCuts c page ns) f.1 low_holds) (high_inside, subst (λ (ns : List CutsNode). HoldsCuts c new ns) f.2 new_holds)
+      (low_inside, subst (λ (ns : List CutNode). HoldsCuts c page ns) f.1 low_holds) (high_inside, subst (λ (ns : List CutNode). HoldsCuts c new ns) f.2 new_holds)
       (both_first (g.footprint a t) (part_pages g a low_side) (part_pages g a high_side) page new)
       (nodes_split d k l t (own_nodes page low_side low_inside) (own_nodes new high_side high_inside)))
 
   -- ---- a page that is put as it is, or freed
 
-  pub stays_home : (a b : PageMap) (page n : ℕ) (part : Part) (nodes : List CutsNode) → first_page part ≡ None → nodes ≡ nodes_of part → PartStands g a n part
+  pub stays_home : (a b : PageMap) (page n : ℕ) (part : Part) (nodes : List CutNode) → first_page part ≡ None → nodes ≡ nodes_of part → PartStands g a n part
       → NamesNoneTwice (page ∷ part_pages g a part) → HoldsCuts b page nodes → Replaces (page ∷ []) (page ∷ []) a b → IsMovedAs g a b n page part (Entry page ∷ [])
   stays_home a b page n part nodes inside is s once holds change =
       let others : List ℕ = part_pages g a part in
       let w = within (page ∷ []) (page ∷ []) others (page ∷ others) (page ∷ others) a b (IsPermutation-refl (page ∷ others)) (IsPermutation-refl (page ∷ others)) change once (refl, tt)
       (part_there g laws a n part s) in
-      let side = side_stays a b n (Some page) part s w.agree (inside, subst (λ (ns : List CutsNode). HoldsCuts b page ns) is holds) in
+      let side = side_stays a b n (Some page) part s w.agree (inside, subst (λ (ns : List CutNode). HoldsCuts b page ns) is holds) in
       record {
         moved = at_page (Some page) part;
         stood = side.stood;
@@ -227,7 +227,7 @@ module _ {B : Type 0} (g : Ghosts B) (laws : HaveLaws g) where
   -- ---- a page of cuts of which the part got a point inside
 
   -- the part in a page of cuts, without its page
-  pub inside_of : (m : PageMap) (page n : ℕ) (part : Part) (nodes : List CutsNode) (p : Point) → first_page part ≡ Some page → 64 < n → MayTake g m n part p
+  pub inside_of : (m : PageMap) (page n : ℕ) (part : Part) (nodes : List CutNode) (p : Point) → first_page part ≡ Some page → 64 < n → MayTake g m n part p
       → HoldsCuts m page nodes → MayTake g m n (at_page None part) p × (nodes ≡ nodes_of (at_page None part)) × NamesNoneTwice (page ∷ part_pages g m (at_page None part))
       × (part_pages g m part ≡ page ∷ part_pages g m (at_page None part)) × (points_of (at_page None part) ≡ points_of part)
   inside_of m page n (Leaf first points) nodes p begins many take holds = absurd (omega (arith, take.stood.shape, many))
@@ -253,7 +253,7 @@ module _ {B : Type 0} (g : Ghosts B) (laws : HaveLaws g) where
       )
 
   -- the part's page was put, split or freed after the addition inside
-  pub page_stored : (m0 m1 m2 : PageMap) (page n : ℕ) (part inner grown : Part) (p : Point) (nodes : List CutsNode) → IsSome (m0 page)
+  pub page_stored : (m0 m1 m2 : PageMap) (page n : ℕ) (part inner grown : Part) (p : Point) (nodes : List CutNode) → IsSome (m0 page)
       → NamesNoneTwice (page ∷ part_pages g m0 inner) → part_pages g m0 part ≡ page ∷ part_pages g m0 inner → points_of inner ≡ points_of part
       → (PartBalanced g m0 part → PartBalanced g m0 inner)
       → IsAdded g m0 m1 n inner grown p → IsMovedAs g m1 m2 (n + 1) page grown nodes → IsAddedAs g m0 m2 n part p nodes
@@ -273,7 +273,7 @@ module _ {B : Type 0} (g : Ghosts B) (laws : HaveLaws g) where
       }
 
   -- A page of cuts holds a part inside it, which may take the point.
-  pub record InPage (m : PageMap) (page n : ℕ) (part : Part) (nodes : List CutsNode) (p : Point) : Type 0 where
+  pub record InPage (m : PageMap) (page n : ℕ) (part : Part) (nodes : List CutNode) (p : Point) : Type 0 where
     pub inner : Part
     pub inside : first_page inner ≡ None
     pub is : nodes ≡ [] ++ (nodes_of inner ++ [])
@@ -283,12 +283,12 @@ module _ {B : Type 0} (g : Ghosts B) (laws : HaveLaws g) where
     pub same : points_of inner ≡ points_of part
     pub balance : PartBalanced g m part → PartBalanced g m inner
 
-  pub in_page : (m : PageMap) (page n : ℕ) (part : Part) (nodes : List CutsNode) (p : Point) → first_page part ≡ Some page → 64 < n → 3 ≤ length nodes
+  pub in_page : (m : PageMap) (page n : ℕ) (part : Part) (nodes : List CutNode) (p : Point) → first_page part ≡ Some page → 64 < n → 3 ≤ length nodes
       → MayTake g m n part p → HoldsCuts m page nodes → InPage m page n part nodes p
   in_page m page n part nodes p begins many some take holds =
       let i = inside_of m page n part nodes p begins many take holds in
       let inner : Part = at_page None part in
-      let long : length nodes ≡ length (nodes_of inner) = ap (λ (ns : List CutsNode). length ns) i.1 in
+      let long : length nodes ≡ length (nodes_of inner) = ap (λ (ns : List CutNode). length ns) i.1 in
       record {
         inner = inner;
         inside = many_nodes inner (omega (arith, some, long));
@@ -301,14 +301,14 @@ module _ {B : Type 0} (g : Ghosts B) (laws : HaveLaws g) where
       }
 
   -- The part inside a page got a point; the page is still there.
-  pub record GrownInPage (m0 m1 : PageMap) (page n : ℕ) (inner : Part) (nodes : List CutsNode) (p : Point) : Type 0 where
+  pub record GrownInPage (m0 m1 : PageMap) (page n : ℕ) (inner : Part) (nodes : List CutNode) (p : Point) : Type 0 where
     pub grown : Part
     pub added : IsAdded g m0 m1 n inner grown p
     pub is : nodes ≡ nodes_of grown
     pub once : NamesNoneTwice (page ∷ part_pages g m1 grown)
     pub here : IsSome (m1 page)
 
-  pub grown_in_page : (m0 m1 : PageMap) (page n : ℕ) (inner : Part) (nodes : List CutsNode) (p : Point) → NamesNoneTwice (page ∷ part_pages g m0 inner)
+  pub grown_in_page : (m0 m1 : PageMap) (page n : ℕ) (inner : Part) (nodes : List CutNode) (p : Point) → NamesNoneTwice (page ∷ part_pages g m0 inner)
       → IsSome (m0 page) → IsGrownIn g m0 m1 n inner p nodes [] [] → GrownInPage m0 m1 page n inner nodes p
   grown_in_page m0 m1 page n inner nodes p once here grew =
       let b = beside page (part_pages g m0 inner) (part_pages g m1 grew.grown) m0 m1 once grew.added.once grew.added.change here in
@@ -321,15 +321,15 @@ module _ {B : Type 0} (g : Ghosts B) (laws : HaveLaws g) where
       }
 
   -- a new page that holds the nodes of what a part has become
-  pub new_home : (m0 m1 m2 : PageMap) (n new : ℕ) (part : Part) (p : Point) (nodes : List CutsNode) → 2 ≤ length nodes → IsAddedAs g m0 m1 n part p nodes
+  pub new_home : (m0 m1 m2 : PageMap) (n new : ℕ) (part : Part) (p : Point) (nodes : List CutNode) → 2 ≤ length nodes → IsAddedAs g m0 m1 n part p nodes
       → HoldsCuts m2 new nodes → Replaces [] (new ∷ []) m1 m2 → IsAddedAs g m0 m2 n part p (Entry new ∷ [])
   new_home m0 m1 m2 n new part p nodes many got holds made =
       let others : List ℕ = part_pages g m1 got.grown in
-      let long : length (nodes_of got.grown) ≡ length nodes = ap (λ (ns : List CutsNode). length ns) got.nodes_are in
+      let long : length (nodes_of got.grown) ≡ length nodes = ap (λ (ns : List CutNode). length ns) got.nodes_are in
       let inside : first_page got.grown ≡ None = many_nodes got.grown (omega (arith, many, long)) in
       let w = within [] (new ∷ []) others others (new ∷ others) m1 m2 (IsPermutation-refl others) (IsPermutation-refl (new ∷ others)) made got.added.once (refl, tt)
       (part_there g laws m1 (n + 1) got.grown got.added.stood) in
-      let side = side_stays m1 m2 (n + 1) (Some new) got.grown got.added.stood w.agree (inside, subst (λ (ns : List CutsNode). HoldsCuts m2 new ns) (sym got.nodes_are) holds) in
+      let side = side_stays m1 m2 (n + 1) (Some new) got.grown got.added.stood w.agree (inside, subst (λ (ns : List CutNode). HoldsCuts m2 new ns) (sym got.nodes_are) holds) in
       record {
         grown = at_page (Some new) got.grown;
         added = record {

@@ -8,7 +8,7 @@ use Rattle.bw_types.specs.declared.tree.Tree.{Tree}
 use Rattle.page_ports.specs.Frame.{Replaces}
 use Rattle.page_ports.specs.Pages.{PageMap}
 use Rattle.page_layout.specs.Footprint.{NamesNoneTwice}
-use Rattle.page_layout.specs.declared.cuts_page.CutsNode.TheVariants.{Entry}
+use Rattle.page_layout.specs.declared.cut_page.CutNode.TheVariants.{Entry}
 use Rattle.dom_index.specs.Points.{IsNewPoint, keys_differ}
 use Rattle.cut_parts.specs.Borders.{MayBeBuilt, TakesPoint}
 use Rattle.cut_parts.specs.Parts.{Part, Leaf, points_of}

@@ -6,10 +6,10 @@ use Rattle.bw_types.specs.declared.point.Point.{Point}
 use Rattle.bw_types.specs.declared.tree.Tree.{Tree}
 use Rattle.page_ports.specs.Frame.{Replaces}
 use Rattle.page_ports.specs.Pages.{PageMap}
-use Rattle.page_layout.specs.CutsPage.{IsNodeTyped, cut_one, node_fits}
+use Rattle.page_layout.specs.CutPage.{IsNodeTyped, cut_one, node_fits}
 use Rattle.page_layout.specs.Footprint.{NamesNoneTwice}
-use Rattle.page_layout.specs.declared.cuts_page.CutsNode.{CutsNode}
-use Rattle.page_layout.specs.declared.cuts_page.CutsNode.TheVariants.{Entry}
+use Rattle.page_layout.specs.declared.cut_page.CutNode.{CutNode}
+use Rattle.page_layout.specs.declared.cut_page.CutNode.TheVariants.{Entry}
 use Rattle.dom_index.specs.Points.{IsNewPoint}
 use Rattle.cut_parts.specs.Borders.{MayBeBuilt}
 use Rattle.cut_parts.specs.Damage.{after_parts}
@@ -36,7 +36,7 @@ pub record IsLeafSplit (dims : ℕ) (before after : PageMap) (page high dimensio
   pub change : Replaces (page ∷ []) (page ∷ high ∷ []) before after
 
 -- the nodes by which a part stands in the page above that began with this page and got a point
-abbrev pub nodes_after : Change → ℕ → List CutsNode
+abbrev pub nodes_after : Change → ℕ → List CutNode
 nodes_after Same page = Entry page ∷ []
 nodes_after (Moved other) page = Entry other ∷ []
 nodes_after (Raised cut low high) page = cut ∷ Entry low ∷ Entry high ∷ []
@@ -82,20 +82,20 @@ pub record IsAdded {B : Type 0} (g : Ghosts B) (before after : PageMap) (n : ℕ
   pub balance : PartBalanced g before part → PartBalanced g after grown
 
 -- A part has one point more, and these nodes are its.
-pub record IsAddedAs {B : Type 0} (g : Ghosts B) (before after : PageMap) (n : ℕ) (part : Part) (point : Point) (nodes : List CutsNode) : Type 0 where
+pub record IsAddedAs {B : Type 0} (g : Ghosts B) (before after : PageMap) (n : ℕ) (part : Part) (point : Point) (nodes : List CutNode) : Type 0 where
   pub grown : Part
   pub added : IsAdded g before after n part grown point
   pub nodes_are : nodes_of grown ≡ nodes
 
 -- In these nodes, between a front and the others, stands a part that has one point more.
-pub record IsGrownIn {B : Type 0} (g : Ghosts B) (before after : PageMap) (n : ℕ) (part : Part) (point : Point) (nodes front rest : List CutsNode) : Type 0 where
+pub record IsGrownIn {B : Type 0} (g : Ghosts B) (before after : PageMap) (n : ℕ) (part : Part) (point : Point) (nodes front rest : List CutNode) : Type 0 where
   pub grown : Part
   pub added : IsAdded g before after n part grown point
   pub nodes_are : nodes ≡ front ++ (nodes_of grown ++ rest)
 
 -- The nodes of a page, which spelled a part inside it, went elsewhere: the same points and cuts, and the map changed exactly by
 -- the pages.
-pub record IsMovedAs {B : Type 0} (g : Ghosts B) (before after : PageMap) (n page : ℕ) (part : Part) (nodes : List CutsNode) : Type 0 where
+pub record IsMovedAs {B : Type 0} (g : Ghosts B) (before after : PageMap) (n page : ℕ) (part : Part) (nodes : List CutNode) : Type 0 where
   pub moved : Part
   pub stood : PartStands g after n moved
   pub points : points_of moved ≡ points_of part
@@ -111,7 +111,7 @@ ChangeFits (Moved page) = 3 ≤ page
 ChangeFits (Raised cut low high) = (cut_one cut ≡ 1) × IsTrue (node_fits cut) × IsNodeTyped cut × (3 ≤ low) × (3 ≤ high)
 
 -- What was asked for was put into the place of an entry.
-abbrev pub IsTaken : List CutsNode → List CutsNode → ℕ → Change → Type 0
+abbrev pub IsTaken : List CutNode → List CutNode → ℕ → Change → Type 0
 IsTaken nodes grown place Same = grown ≡ nodes
 IsTaken nodes grown place (Moved page) = grown ≡ take place nodes ++ (Entry page ∷ after_parts 1 (drop place nodes))
 IsTaken nodes grown place (Raised cut low high) = grown ≡ insert (insert (slice_set nodes place (Entry high)) place (Entry low)) place cut

@@ -1,12 +1,15 @@
 //! A point that goes down the cuts of a tree.
-ghost use Rattle.std.specs.Prelude.{◌≡◌, ◌+◌, ◌-◌, ◌^◌, ◌≤◌, ◌<◌, ◌++◌, ◌∷◌, [], ℕ, suc, List, length, get_or, Some, None, IsTrue, IfOk, OnOk};
+ghost use Rattle.std.specs.Prelude.{◌≡◌, ◌+◌, ◌-◌, ◌^◌, ◌≤◌, ◌<◌, ◌⊎◌, ◌++◌, ◌∷◌, [], ℕ, suc, List, length, get_or, drop, Some, None, Err, IsTrue, IfOk, OnOk};
 ghost use Rattle.page_ports.specs.Calls.{Changes};
 ghost use Rattle.bw_types.specs.Empty.{empty_tree};
-ghost use Rattle.page_layout.specs.CutsPage.{cut_one};
-ghost use Rattle.page_layout.specs.declared.cuts_page.CutsNode.{CutsNode};
-ghost use Rattle.page_layout.specs.declared.cuts_page.CutsNode.TheVariants as node;
+ghost use Rattle.page_layout.specs.CutPage.{cut_one};
+ghost use Rattle.page_layout.specs.declared.cut_page.CutNode.{CutNode};
+ghost use Rattle.page_layout.specs.declared.cut_page.CutNode.TheVariants as node;
 ghost use Rattle.dom_index.specs.Points.{AreKeysBelow};
+ghost use Rattle.cut_parts.specs.Borders.{OthersStay};
+ghost use Rattle.cut_parts.specs.Damage.{BeforeCut, BeforePage, BeforePart};
 ghost use Rattle.cut_parts.specs.Parts.{Part};
+ghost use Rattle.cut_parts.specs.Reach.{IsDamagedFrom, LeadsFrom};
 ghost use Rattle.cut_parts.specs.Spelling.{first_page, nodes_of};
 ghost use Rattle.cut_parts.specs.Standing.{PartBalanced};
 ghost use Rattle.cut_pages.specs.Nodes.{AreNodes};
@@ -18,13 +21,13 @@ use crate::anew::part_anew;
 use crate::border::border_add;
 use crate::change::Change;
 use crate::leaf::{LeafCut, leaf_add, leaf_split};
-use crate::sound::{entry_at, high_place, is_balanced, is_sound, node_at};
+use crate::sound::{entry_at, high_place, node_at};
 use crate::splitting::store;
 use crate::storing::stage_cuts;
 use bw_types::{Point, Tree};
-use cut_pages::{replace_by_cut, replace_part, set_cut};
+use cut_pages::{is_balanced, is_sound, replace_by_cut, replace_part, set_cut};
 use cut_parts::BorderTree;
-use page_layout::{CutsNode, CutsPage};
+use page_layout::{CutNode, CutPage};
 use page_ports::{Stage, StageFault};
 use std::alloc::Global;
 
@@ -45,6 +48,11 @@ pub fn page_add<B: BorderTree, S: Stage>(
         → MayTake B.BorderTree (S.map stage.old) count part point.now
         → IsAddedAs B.BorderTree (S.map stage.old) (S.map stage.new) count part point.now (nodes_after change page)) }
     ensures fits { IfOk result ChangeFits }
+    ensures few { count < 64 → IfOk result (λ change. change ≡ Change.Same) }
+    ensures apart { OnOk result (IsTrue (S.tells stage.old)
+        → OthersStay (LeadsFrom B.BorderTree point.now (S.map stage.old) count (BeforePage page)) (S.map stage.old) (S.map stage.new)) }
+    ensures damaged { (damaged : ℕ) → result ≡ Err (StageFault.Damaged damaged) → IsTrue (S.tells stage.old)
+        → IsDamagedFrom B.BorderTree point.now (S.map stage.old) count (BeforePage page) damaged ⊎ (¬ S.free_in_order stage.old) }
     ensures well { IsTrue (S.tells stage.old) → (part : Part) → first_page part ≡ Some page → MayTake B.BorderTree (S.map stage.old) count part point.now
         → PartBalanced B.BorderTree (S.map stage.old) part → GoesWell S.Pages (page_growth B.BorderTree count) stage.old stage.new result }
     ensures changes { Changes S.Pages (S.allotted stage.new + 1) stage.old stage.new result }
@@ -79,7 +87,7 @@ fn raised(page: u64, cut: &LeafCut) -> Change
     ensures { result ≡ Change.Raised (node.Cut cut.now.dimension cut.now.key 32 empty_tree) page cut.now.high }
 {
     Change::Raised {
-        cut: CutsNode::Cut {
+        cut: CutNode::Cut {
             dimension: cut.dimension,
             key: cut.key,
             low: 32,
@@ -102,7 +110,7 @@ fn part_add<B: BorderTree, S: Stage>(
     alloc: Global,
     stage: &mut S,
     page: u64,
-    cuts: &mut CutsPage,
+    cuts: &mut CutPage,
     place: usize,
     count: u32,
     point: &Point,
@@ -112,11 +120,15 @@ fn part_add<B: BorderTree, S: Stage>(
     requires version { point.now.version < 2 ^ 32 - 1 }
     requires nodes { AreNodes cuts.old.nodes.items }
     requires room { length cuts.old.nodes.items ≤ 127 }
-    ensures added { OnOk result (IsTrue (S.tells stage.old) → (part : Part) (front rest : List CutsNode)
+    ensures added { OnOk result (IsTrue (S.tells stage.old) → (part : Part) (front rest : List CutNode)
         → cuts.old.nodes.items ≡ front ++ (nodes_of part ++ rest) → place ≡ length front → MayTake B.BorderTree (S.map stage.old) count part point.now
         → IsGrownIn B.BorderTree (S.map stage.old) (S.map stage.new) count part point.now cuts.new.nodes.items front rest) }
     ensures nodes { OnOk result (AreNodes cuts.new.nodes.items) }
-    ensures well { IsTrue (S.tells stage.old) → (part : Part) (front rest : List CutsNode)
+    ensures apart { OnOk result (IsTrue (S.tells stage.old)
+        → OthersStay (LeadsFrom B.BorderTree point.now (S.map stage.old) count (BeforePart page (drop place cuts.old.nodes.items))) (S.map stage.old) (S.map stage.new)) }
+    ensures damaged { (damaged : ℕ) → result ≡ Err (StageFault.Damaged damaged) → IsTrue (S.tells stage.old)
+        → IsDamagedFrom B.BorderTree point.now (S.map stage.old) count (BeforePart page (drop place cuts.old.nodes.items)) damaged ⊎ (¬ S.free_in_order stage.old) }
+    ensures well { IsTrue (S.tells stage.old) → (part : Part) (front rest : List CutNode)
         → cuts.old.nodes.items ≡ front ++ (nodes_of part ++ rest) → place ≡ length front → MayTake B.BorderTree (S.map stage.old) count part point.now
         → PartBalanced B.BorderTree (S.map stage.old) part → GoesWell S.Pages (page_growth B.BorderTree count) stage.old stage.new result }
     ensures changes { Changes S.Pages (S.allotted stage.new + 1) stage.old stage.new result }
@@ -125,7 +137,7 @@ fn part_add<B: BorderTree, S: Stage>(
     match node_at(cuts, place) {
         None => Err(StageFault::Damaged(page)),
         Some(
-            CutsNode::Cut {
+            CutNode::Cut {
                 dimension: _,
                 key: _,
                 low: _,
@@ -137,7 +149,7 @@ fn part_add<B: BorderTree, S: Stage>(
                 Ok(()) => Ok(()),
             }
         }
-        Some(CutsNode::Entry { child }) => {
+        Some(CutNode::Entry { child }) => {
             match page_add::<B, S>(alloc, stage, child, count, point) {
                 Err(fault) => Err(fault),
                 Ok(change) => {
@@ -150,10 +162,10 @@ fn part_add<B: BorderTree, S: Stage>(
 }
 
 // Puts into the place of an entry what an addition below it asks for.
-fn take_change(cuts: &mut CutsPage, place: usize, change: &Change)
+fn take_change(cuts: &mut CutPage, place: usize, change: &Change)
     requires place { place < length cuts.old.nodes.items }
     requires room { length cuts.old.nodes.items ≤ 127 }
-    requires entry { (d : CutsNode) → cut_one (get_or cuts.old.nodes.items place d) ≡ 0 }
+    requires entry { (d : CutNode) → cut_one (get_or cuts.old.nodes.items place d) ≡ 0 }
     ensures taken { IsTaken cuts.old.nodes.items cuts.new.nodes.items place change.now }
     ensures nodes { AreNodes cuts.old.nodes.items → ChangeFits change.now → AreNodes cuts.new.nodes.items }
 {
@@ -170,7 +182,7 @@ fn cut_add<B: BorderTree, S: Stage>(
     alloc: Global,
     stage: &mut S,
     page: u64,
-    cuts: &mut CutsPage,
+    cuts: &mut CutPage,
     place: usize,
     count: u32,
     point: &Point,
@@ -180,12 +192,16 @@ fn cut_add<B: BorderTree, S: Stage>(
     requires version { point.now.version < 2 ^ 32 - 1 }
     requires nodes { AreNodes cuts.old.nodes.items }
     requires room { length cuts.old.nodes.items ≤ 127 }
-    ensures added { OnOk result (IsTrue (S.tells stage.old) → (part : Part) (front rest : List CutsNode)
+    ensures added { OnOk result (IsTrue (S.tells stage.old) → (part : Part) (front rest : List CutNode)
         → cuts.old.nodes.items ≡ front ++ (nodes_of part ++ rest) → place ≡ length front → MayTake B.BorderTree (S.map stage.old) count part point.now
         → first_page part ≡ None
         → IsGrownIn B.BorderTree (S.map stage.old) (S.map stage.new) count part point.now cuts.new.nodes.items front rest) }
     ensures nodes { OnOk result (AreNodes cuts.new.nodes.items) }
-    ensures well { IsTrue (S.tells stage.old) → (part : Part) (front rest : List CutsNode)
+    ensures apart { OnOk result (IsTrue (S.tells stage.old)
+        → OthersStay (LeadsFrom B.BorderTree point.now (S.map stage.old) count (BeforeCut page (drop place cuts.old.nodes.items))) (S.map stage.old) (S.map stage.new)) }
+    ensures damaged { (damaged : ℕ) → result ≡ Err (StageFault.Damaged damaged) → IsTrue (S.tells stage.old)
+        → IsDamagedFrom B.BorderTree point.now (S.map stage.old) count (BeforeCut page (drop place cuts.old.nodes.items)) damaged ⊎ (¬ S.free_in_order stage.old) }
+    ensures well { IsTrue (S.tells stage.old) → (part : Part) (front rest : List CutNode)
         → cuts.old.nodes.items ≡ front ++ (nodes_of part ++ rest) → place ≡ length front → MayTake B.BorderTree (S.map stage.old) count part point.now
         → first_page part ≡ None
         → PartBalanced B.BorderTree (S.map stage.old) part → GoesWell S.Pages (inner_growth B.BorderTree count) stage.old stage.new result }
@@ -193,7 +209,7 @@ fn cut_add<B: BorderTree, S: Stage>(
 {
     B::border_laws();
     let Some(
-        CutsNode::Cut {
+        CutNode::Cut {
             dimension,
             key,
             low,
@@ -228,7 +244,7 @@ fn cut_add<B: BorderTree, S: Stage>(
             set_cut(
                 cuts,
                 place,
-                CutsNode::Cut {
+                CutNode::Cut {
                     dimension,
                     key,
                     low: low + 1,

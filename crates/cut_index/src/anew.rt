@@ -1,18 +1,21 @@
 //! A part that is made anew.
-ghost use Rattle.std.specs.Prelude.{◌≡◌, ◌+◌, ◌-◌, ◌*◌, ◌^◌, ◌≤◌, ◌<◌, ◌++◌, ◌∷◌, [], ℕ, suc, List, length, drop, IsTrue, IfOk, OnOk, IsPermutation};
+ghost use Rattle.std.specs.Prelude.{◌≡◌, ◌+◌, ◌-◌, ◌*◌, ◌^◌, ◌≤◌, ◌<◌, ◌⊎◌, ◌++◌, ◌∷◌, [], ℕ, suc, List, length, drop, Err, IsTrue, IfOk, OnOk, IsPermutation};
 ghost use Rattle.bw_types.specs.declared.point.Point.{Point};
 ghost use Rattle.page_ports.specs.Calls.{Changes, Grows};
 ghost use Rattle.page_ports.specs.Frame.{Replaces};
 ghost use Rattle.page_layout.specs.Footprint.{NamesNoneTwice};
-ghost use Rattle.page_layout.specs.declared.cuts_page.CutsNode.{CutsNode};
+ghost use Rattle.page_layout.specs.declared.cut_page.CutNode.{CutNode};
 ghost use Rattle.dom_index.specs.Points.{AreKeysBelow};
-ghost use Rattle.cut_parts.specs.Borders.{MayBeBuilt};
+ghost use Rattle.cut_parts.specs.Borders.{MayBeBuilt, OthersStay};
+ghost use Rattle.cut_parts.specs.Damage.{BeforePart};
 ghost use Rattle.cut_parts.specs.Parts.{Part, points_of};
+ghost use Rattle.cut_parts.specs.Reach.{IsDamagedAnew, IsDamagedForCollect, IsDamagedForDrop, IsDropped, IsOfPartThere, MayNotBeBuilt};
 ghost use Rattle.cut_parts.specs.Spelling.{nodes_of};
 ghost use Rattle.cut_parts.specs.Standing.{PartStands, cuts_share, part_pages};
 ghost use Rattle.cut_pages.specs.Nodes.{AreNodes};
 ghost use Rattle.cut_index.specs.Additions.{IsGrownIn, MayTake};
 ghost use Rattle.cut_build.specs.Built.{IsBuiltAt};
+ghost use Rattle.cut_build.specs.Collected.{IsCollected};
 ghost use Rattle.cut_index.specs.Going.{GoesWell};
 
 use bw_types::Point;
@@ -20,7 +23,7 @@ use cut_build::{build_part, collect_nodes, drop_nodes};
 use cut_pages::replace_part;
 use cut_parts::BorderTree;
 use cut_points::may_be_built;
-use page_layout::CutsPage;
+use page_layout::CutPage;
 use page_ports::{Stage, StageFault};
 use std::alloc::Global;
 
@@ -32,7 +35,7 @@ pub(crate) fn part_anew<B: BorderTree, S: Stage>(
     alloc: Global,
     stage: &mut S,
     page: u64,
-    cuts: &mut CutsPage,
+    cuts: &mut CutPage,
     place: usize,
     count: u32,
     point: &Point,
@@ -41,11 +44,15 @@ pub(crate) fn part_anew<B: BorderTree, S: Stage>(
     requires nodes { AreNodes cuts.old.nodes.items }
     requires keys { AreKeysBelow (suc B.DIMS) point.now.keys }
     requires version { point.now.version < 2 ^ 32 - 1 }
-    ensures added { OnOk result (IsTrue (S.tells stage.old) → (part : Part) (front rest : List CutsNode)
+    ensures added { OnOk result (IsTrue (S.tells stage.old) → (part : Part) (front rest : List CutNode)
         → cuts.old.nodes.items ≡ front ++ (nodes_of part ++ rest) → place ≡ length front → MayTake B.BorderTree (S.map stage.old) count part point.now
         → IsGrownIn B.BorderTree (S.map stage.old) (S.map stage.new) count part point.now cuts.new.nodes.items front rest) }
     ensures nodes { OnOk result (AreNodes cuts.new.nodes.items) }
-    ensures well { IsTrue (S.tells stage.old) → (part : Part) (front rest : List CutsNode)
+    ensures apart { OnOk result (IsTrue (S.tells stage.old)
+        → OthersStay (IsOfPartThere B.BorderTree (S.map stage.old) count (drop place cuts.old.nodes.items)) (S.map stage.old) (S.map stage.new)) }
+    ensures damaged { (damaged : ℕ) → result ≡ Err (StageFault.Damaged damaged) → IsTrue (S.tells stage.old)
+        → IsDamagedAnew B.BorderTree point.now damaged (S.map stage.old) count page (drop place cuts.old.nodes.items) ⊎ (¬ S.free_in_order stage.old) }
+    ensures well { IsTrue (S.tells stage.old) → (part : Part) (front rest : List CutNode)
         → cuts.old.nodes.items ≡ front ++ (nodes_of part ++ rest) → place ≡ length front → MayTake B.BorderTree (S.map stage.old) count part point.now
         → GoesWell S.Pages ((count + 1) * cuts_share B.BorderTree (count + 1)) stage.old stage.new result }
     ensures changes { Changes S.Pages (S.allotted stage.new + 1) stage.old stage.new result }
@@ -80,6 +87,8 @@ fn build_again<B: BorderTree, S: Stage>(
     ensures number { IfOk result (λ child. 3 ≤ child) }
     ensures built { IfOk result (λ child. IsTrue (S.tells stage.old) → (few : List Point) → IsPermutation points.old few
         → IsBuiltAt B.BorderTree few (S.map stage.old) (S.map stage.new) child) }
+    ensures damaged { (damaged : ℕ) → result ≡ Err (StageFault.Damaged damaged) → IsTrue (S.tells stage.old)
+        → ((damaged ≡ page) × MayNotBeBuilt (suc B.DIMS) points.old) ⊎ (¬ S.free_in_order stage.old) }
     ensures well { IsTrue (S.tells stage.old) → MayBeBuilt (suc B.DIMS) points.old
         → GoesWell S.Pages (length points.old * cuts_share B.BorderTree (length points.old)) stage.old stage.new result }
     ensures grows { Grows S.Pages (S.allotted stage.new + 1) stage.old stage.new result }
@@ -98,16 +107,23 @@ fn build_again<B: BorderTree, S: Stage>(
 fn take_part<B: BorderTree, S: Stage>(
     stage: &mut S,
     page: u64,
-    cuts: &CutsPage,
+    cuts: &CutPage,
     place: usize,
     count: u32,
     points: &mut Vec<Point>,
 ) -> Result<(), StageFault>
     requires place { place < length cuts.now.nodes.items }
-    ensures taken { OnOk result (IsTrue (S.tells stage.old) → (part : Part) (rest : List CutsNode) → drop place cuts.now.nodes.items ≡ nodes_of part ++ rest
+    ensures taken { OnOk result (IsTrue (S.tells stage.old) → (part : Part) (rest : List CutNode) → drop place cuts.now.nodes.items ≡ nodes_of part ++ rest
         → PartStands B.BorderTree (S.map stage.old) count part → NamesNoneTwice (part_pages B.BorderTree (S.map stage.old) part)
         → (points.new.items ≡ points.old.items ++ points_of part) × Replaces (part_pages B.BorderTree (S.map stage.old) part) [] (S.map stage.old) (S.map stage.new)) }
-    ensures well { IsTrue (S.tells stage.old) → (part : Part) (rest : List CutsNode) → drop place cuts.now.nodes.items ≡ nodes_of part ++ rest
+    ensures there { OnOk result (IsTrue (S.tells stage.old)
+        → IsCollected (S.map stage.old) count (drop place cuts.now.nodes.items) points.old.items points.new.items) }
+    ensures gone { OnOk result (IsTrue (S.tells stage.old)
+        → IsDropped B.BorderTree (S.map stage.old) (S.map stage.old) (S.map stage.new) count (drop place cuts.now.nodes.items)) }
+    ensures damaged { (damaged : ℕ) → result ≡ Err (StageFault.Damaged damaged) → IsTrue (S.tells stage.old)
+        → IsDamagedForCollect (suc B.DIMS) (S.map stage.old) count (BeforePart page (drop place cuts.now.nodes.items)) damaged
+        ⊎ IsDamagedForDrop B.BorderTree (S.map stage.old) count (BeforePart page (drop place cuts.now.nodes.items)) damaged }
+    ensures well { IsTrue (S.tells stage.old) → (part : Part) (rest : List CutNode) → drop place cuts.now.nodes.items ≡ nodes_of part ++ rest
         → PartStands B.BorderTree (S.map stage.old) count part → NamesNoneTwice (part_pages B.BorderTree (S.map stage.old) part)
         → GoesWell S.Pages 0 stage.old stage.new result }
     ensures changes { Changes S.Pages 0 stage.old stage.new result }

@@ -1,11 +1,12 @@
 //! The border of a cut whose low side gets a point.
-ghost use Rattle.std.specs.Prelude.{◌≡◌, ◌+◌, ◌-◌, ◌*◌, ◌^◌, ◌≤◌, ◌<◌, ◌∷◌, ℕ, suc, List, length, Option, IsTrue, IfOk};
+ghost use Rattle.std.specs.Prelude.{◌≡◌, ◌+◌, ◌-◌, ◌*◌, ◌^◌, ◌≤◌, ◌<◌, ◌⊎◌, ◌∷◌, ℕ, suc, List, length, Option, Err, IsTrue, IfOk};
 ghost use Rattle.bw_types.specs.declared.point.Point.{Point};
 ghost use Rattle.page_ports.specs.Calls.{Changes};
 ghost use Rattle.page_layout.specs.TreeValue.{IsTreeTyped, tree_fits};
 ghost use Rattle.dom_index.specs.Points.{AreKeysBelow, IsNewPoint};
-ghost use Rattle.cut_parts.specs.Borders.{MayBeBuilt};
+ghost use Rattle.cut_parts.specs.Borders.{MayBeBuilt, OthersStay};
 ghost use Rattle.cut_parts.specs.Parts.{Part, border_points, points_of};
+ghost use Rattle.cut_parts.specs.Reach.{BorderMayLeave, IsDamagedAtBorder, IsDamagedBegun, MayNotBeBuilt};
 ghost use Rattle.cut_parts.specs.Spelling.{first_page};
 ghost use Rattle.cut_parts.specs.Standing.{PartStands};
 ghost use Rattle.cut_index.specs.Additions.{BorderBegun, BorderGrown, BorderTakes};
@@ -43,6 +44,9 @@ pub(crate) fn border_add<B: BorderTree, S: Stage>(
     ensures grown { IfOk result (λ grown. IsTrue (S.tells stage.old) → (side : Part)
         → BorderTakes B.BorderTree (S.map stage.old) leaf dimension low border.now side point.now
         → BorderGrown B.BorderTree (S.map stage.old) (S.map stage.new) dimension low border.now grown (points_of side) point.now) }
+    ensures apart { IfOk result (λ grown. IsTrue (S.tells stage.old) → BorderMayLeave B.BorderTree (S.map stage.old) low border.now (S.map stage.new)) }
+    ensures damaged { (damaged : ℕ) → result ≡ Err (StageFault.Damaged damaged) → IsTrue (S.tells stage.old)
+        → IsDamagedAtBorder B.BorderTree point.now damaged (S.map stage.old) page leaf dimension low border.now ⊎ (¬ S.free_in_order stage.old) }
     ensures well { IsTrue (S.tells stage.old) → (side : Part) → BorderTakes B.BorderTree (S.map stage.old) leaf dimension low border.now side point.now
         → (64 < low → B.balanced (S.map stage.old) border.now) → GoesWell S.Pages (border_growth B.BorderTree low) stage.old stage.new result }
     ensures fits { IfOk result (λ grown. IsTrue (tree_fits border.now) → IsTrue (tree_fits grown)) }
@@ -78,6 +82,9 @@ fn begin_border<B: BorderTree, S: Stage>(
     requires dimension { dimension < suc B.DIMS }
     ensures begun { IfOk result (λ grown. IsTrue (S.tells stage.old) → (side : Part) → PartStands B.BorderTree (S.map stage.old) 64 side → leaf ≡ first_page side
         → BorderBegun B.BorderTree (S.map stage.old) (S.map stage.new) dimension grown (points_of side) point.now) }
+    ensures apart { IfOk result (λ grown. IsTrue (S.tells stage.old) → OthersStay (λ p. ⊥) (S.map stage.old) (S.map stage.new)) }
+    ensures damaged { (damaged : ℕ) → result ≡ Err (StageFault.Damaged damaged) → IsTrue (S.tells stage.old)
+        → IsDamagedBegun (suc B.DIMS) point.now damaged (S.map stage.old) page leaf ⊎ (¬ S.free_in_order stage.old) }
     ensures well { IsTrue (S.tells stage.old) → (side : Part) → PartStands B.BorderTree (S.map stage.old) 64 side → leaf ≡ first_page side
         → MayBeBuilt (suc B.DIMS) (point.now ∷ points_of side) → GoesWell S.Pages (65 * B.share 65) stage.old stage.new result }
     ensures fits { IfOk result (λ grown. IsTrue (tree_fits grown)) }
@@ -112,6 +119,9 @@ fn build_border<B: BorderTree, S: Stage>(
     requires number { length points.old ≡ 65 }
     ensures begun { IfOk result (λ grown. IsTrue (S.tells stage.old) → (others : List Point) (point : Point) → points.old ≡ point ∷ others
         → BorderBegun B.BorderTree (S.map stage.old) (S.map stage.new) dimension grown others point) }
+    ensures apart { IfOk result (λ grown. IsTrue (S.tells stage.old) → OthersStay (λ p. ⊥) (S.map stage.old) (S.map stage.new)) }
+    ensures damaged { (damaged : ℕ) → result ≡ Err (StageFault.Damaged damaged) → IsTrue (S.tells stage.old)
+        → ((damaged ≡ page) × MayNotBeBuilt (suc B.DIMS) points.old) ⊎ (¬ S.free_in_order stage.old) }
     ensures well { IsTrue (S.tells stage.old) → MayBeBuilt (suc B.DIMS) points.old → GoesWell S.Pages (65 * B.share 65) stage.old stage.new result }
     ensures fits { IfOk result (λ grown. IsTrue (tree_fits grown)) }
     ensures typed { IfOk result (λ grown. IsTreeTyped grown) }

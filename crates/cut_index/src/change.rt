@@ -1,4 +1,4 @@
-use page_layout::CutsNode;
+use page_layout::CutNode;
 
 /// What an addition below a page asks of the page above it: nothing; another page in the entry; or a cut and the pages of its
 /// two sides in the place of the entry.
@@ -6,5 +6,5 @@ use page_layout::CutsNode;
 pub enum Change {
     Same,
     Moved { page: u64 },
-    Raised { cut: CutsNode, low: u64, high: u64 },
+    Raised { cut: CutNode, low: u64, high: u64 },
 }

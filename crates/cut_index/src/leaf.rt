@@ -1,10 +1,11 @@
 //! A point that is added to a leaf.
-ghost use Rattle.std.specs.Prelude.{◌≡◌, ◌+◌, ◌≤◌, ◌<◌, ◌==◌, ◌++◌, ◌∷◌, [], false, ℕ, suc, List, length, take, drop, IsTrue, IsSome, IfOk, OnOk};
+ghost use Rattle.std.specs.Prelude.{◌≡◌, ◌+◌, ◌≤◌, ◌<◌, ◌⊎◌, ◌==◌, ◌++◌, ◌∷◌, [], false, ℕ, suc, List, length, take, drop, Err, IsTrue, IsSome, IfOk, OnOk};
 ghost use Rattle.bw_types.specs.declared.point.Point.{Point};
 ghost use Rattle.page_ports.specs.Calls.{Grows};
 ghost use Rattle.page_ports.specs.Frame.{Replaces};
 ghost use Rattle.cut_parts.specs.Spelling.{HoldsLeaf};
 ghost use Rattle.cut_parts.specs.Borders.{MayBeBuilt};
+ghost use Rattle.cut_parts.specs.Reach.{IsNoLeafWith, MayNotBeBuilt};
 ghost use Rattle.cut_index.specs.Additions.{IsLeafSplit};
 ghost use Rattle.cut_index.specs.Going.{GoesWell};
 
@@ -27,6 +28,8 @@ pub(crate) fn leaf_add<S: Stage>(
     ensures put { OnOk result (IsTrue (S.tells stage.old) → (points : List Point) → HoldsLeaf (S.map stage.old) page points
         → HoldsLeaf (S.map stage.new) page (points ++ (point.now ∷ []))) }
     ensures change { OnOk result (IsTrue (S.tells stage.old) → Replaces (page ∷ []) (page ∷ []) (S.map stage.old) (S.map stage.new)) }
+    ensures damaged { (damaged : ℕ) → result ≡ Err (StageFault.Damaged damaged) → IsTrue (S.tells stage.old)
+        → (damaged ≡ page) × ((points : List Point) → HoldsLeaf (S.map stage.old) page points → length points ≡ count → ⊥) }
     ensures well { IsTrue (S.tells stage.old) → (points : List Point) → HoldsLeaf (S.map stage.old) page points → length points ≡ count
         → GoesWell S.Pages 0 stage.old stage.new result }
     ensures grows { Grows S.Pages 0 stage.old stage.new result }
@@ -63,6 +66,10 @@ pub(crate) fn leaf_split<B: BorderTree, S: Stage>(
         → IsLeafSplit (suc B.DIMS) (S.map stage.old) (S.map stage.new) page cut.high cut.dimension cut.key points point.now) }
     ensures dimension { IfOk result (λ cut. cut.dimension < suc B.DIMS) }
     ensures number { IfOk result (λ cut. 3 ≤ cut.high) }
+    ensures change { IfOk result (λ cut. IsTrue (S.tells stage.old) → Replaces (page ∷ []) (page ∷ cut.high ∷ []) (S.map stage.old) (S.map stage.new)) }
+    ensures damaged { (damaged : ℕ) → result ≡ Err (StageFault.Damaged damaged) → IsTrue (S.tells stage.old)
+        → ((damaged ≡ page) × (((points : List Point) → HoldsLeaf (S.map stage.old) page points → length points ≡ 64 → ⊥)
+        ⊎ IsNoLeafWith (suc B.DIMS) (S.map stage.old) page point.now)) ⊎ (¬ S.free_in_order stage.old) }
     ensures well { IsTrue (S.tells stage.old) → (points : List Point) → HoldsLeaf (S.map stage.old) page points → length points ≡ 64
         → MayBeBuilt (suc B.DIMS) (point.now ∷ points) → GoesWell S.Pages 1 stage.old stage.new result }
     ensures grows { Grows S.Pages 1 stage.old stage.new result }
@@ -90,6 +97,9 @@ fn split_points<B: BorderTree, S: Stage>(
         → IsLeafSplit (suc B.DIMS) (S.map stage.old) (S.map stage.new) page cut.high cut.dimension cut.key others point) }
     ensures dimension { IfOk result (λ cut. cut.dimension < suc B.DIMS) }
     ensures number { IfOk result (λ cut. 3 ≤ cut.high) }
+    ensures change { IfOk result (λ cut. IsTrue (S.tells stage.old) → Replaces (page ∷ []) (page ∷ cut.high ∷ []) (S.map stage.old) (S.map stage.new)) }
+    ensures damaged { (damaged : ℕ) → result ≡ Err (StageFault.Damaged damaged) → IsTrue (S.tells stage.old) → IsSome (S.map stage.old page)
+        → ((damaged ≡ page) × MayNotBeBuilt (suc B.DIMS) points.old) ⊎ (¬ S.free_in_order stage.old) }
     ensures well { IsTrue (S.tells stage.old) → IsSome (S.map stage.old page) → MayBeBuilt (suc B.DIMS) points.old
         → GoesWell S.Pages 1 stage.old stage.new result }
     ensures grows { Grows S.Pages 1 stage.old stage.new result }

@@ -1,9 +1,10 @@
 //! A page after its part got a point: put, split at its first cut, or freed.
-ghost use Rattle.std.specs.Prelude.{None, Some, ◌≡◌, ◌≤◌, ◌<◌, ◌∷◌, [], ℕ, List, length, IsTrue, IsSome, IfOk, IfSome};
+ghost use Rattle.std.specs.Prelude.{None, Some, ◌≡◌, ◌≤◌, ◌<◌, ◌⊎◌, ◌∷◌, [], ℕ, List, length, Err, IsTrue, IsSome, IfOk, IfSome};
 ghost use Rattle.page_ports.specs.Calls.{Changes, Grows};
 ghost use Rattle.page_ports.specs.Frame.{Replaces};
 ghost use Rattle.page_ports.specs.Pages.{PageMap};
 ghost use Rattle.page_layout.specs.Footprint.{NamesNoneTwice};
+ghost use Rattle.cut_parts.specs.Borders.{OthersStay};
 ghost use Rattle.cut_parts.specs.Parts.{Part};
 ghost use Rattle.cut_parts.specs.Spelling.{HoldsCuts, first_page, nodes_of};
 ghost use Rattle.cut_parts.specs.Standing.{PartStands, part_pages};
@@ -15,18 +16,18 @@ use crate::change::Change;
 use crate::storing::{free_again, put_again};
 use cut_pages::{Sides, make_cuts, split_first_cut};
 use cut_parts::BorderTree;
-use page_layout::{CutsNode, CutsPage};
+use page_layout::{CutNode, CutPage};
 use page_ports::{Stage, StageFault};
 
 // The page with which the part begins that these nodes spell.
-fn page_of(cuts: &CutsPage) -> Option<u64>
+fn page_of(cuts: &CutPage) -> Option<u64>
     ensures begins { (part : Part) → cuts.now.nodes.items ≡ nodes_of part → result ≡ first_page part }
     ensures fits { AreNodes cuts.now.nodes.items → IfSome result (λ page. 3 ≤ page) }
     ensures alone { AreNodes cuts.now.nodes.items → IfSome result (λ page. length cuts.now.nodes.items ≡ 1) }
     ensures none { AreNodes cuts.now.nodes.items → result ≡ None → 3 ≤ length cuts.now.nodes.items }
 {
     match cuts.nodes.as_slice().first() {
-        Some(CutsNode::Entry { child }) => Some(*child),
+        Some(CutNode::Entry { child }) => Some(*child),
         _ => None,
     }
 }
@@ -36,13 +37,16 @@ fn page_of(cuts: &CutsPage) -> Option<u64>
 pub(crate) fn store<B: BorderTree, S: Stage>(
     stage: &mut S,
     page: u64,
-    cuts: &CutsPage,
+    cuts: &CutPage,
 ) -> Result<Change, StageFault>
     requires { AreNodes cuts.now.nodes.items }
     ensures stored { IfOk result (λ change. IsTrue (S.tells stage.old) → (n : ℕ) (part : Part) → cuts.now.nodes.items ≡ nodes_of part
         → PartStands B.BorderTree (S.map stage.old) n part → NamesNoneTwice (page ∷ part_pages B.BorderTree (S.map stage.old) part)
         → IsMovedAs B.BorderTree (S.map stage.old) (S.map stage.new) n page part (nodes_after change page)) }
     ensures fits { 3 ≤ page → IfOk result ChangeFits }
+    ensures apart { IfOk result (λ change. IsTrue (S.tells stage.old) → OthersStay (λ p. p ≡ page) (S.map stage.old) (S.map stage.new)) }
+    ensures damaged { (damaged : ℕ) → result ≡ Err (StageFault.Damaged damaged) → IsTrue (S.tells stage.old)
+        → ((damaged ≡ page) × (S.map stage.old page ≡ None)) ⊎ (¬ S.free_in_order stage.old) }
     ensures well { IsTrue (S.tells stage.old) → IsSome (S.map stage.old page) → GoesWell S.Pages 1 stage.old stage.new result }
     ensures changes { Changes S.Pages 1 stage.old stage.new result }
 {
@@ -70,7 +74,7 @@ pub(crate) fn store<B: BorderTree, S: Stage>(
 fn page_split<B: BorderTree, S: Stage>(
     stage: &mut S,
     page: u64,
-    cuts: &CutsPage,
+    cuts: &CutPage,
 ) -> Result<Change, StageFault>
     requires nodes { AreNodes cuts.now.nodes.items }
     requires many { 127 < length cuts.now.nodes.items }
@@ -79,6 +83,9 @@ fn page_split<B: BorderTree, S: Stage>(
         → PartStands B.BorderTree (S.map stage.old) n part → NamesNoneTwice (page ∷ part_pages B.BorderTree (S.map stage.old) part)
         → IsMovedAs B.BorderTree (S.map stage.old) (S.map stage.new) n page part (nodes_after change page)) }
     ensures fits { 3 ≤ page → IfOk result ChangeFits }
+    ensures apart { IfOk result (λ change. IsTrue (S.tells stage.old) → OthersStay (λ p. p ≡ page) (S.map stage.old) (S.map stage.new)) }
+    ensures damaged { (damaged : ℕ) → result ≡ Err (StageFault.Damaged damaged) → IsTrue (S.tells stage.old)
+        → ((damaged ≡ page) × (S.map stage.old page ≡ None)) ⊎ (¬ S.free_in_order stage.old) }
     ensures well { IsTrue (S.tells stage.old) → IsSome (S.map stage.old page) → GoesWell S.Pages 1 stage.old stage.new result }
     ensures grows { Grows S.Pages 1 stage.old stage.new result }
 {
@@ -127,14 +134,17 @@ fn page_split<B: BorderTree, S: Stage>(
 fn put_both<S: Stage>(
     stage: &mut S,
     page: u64,
-    lows: &CutsPage,
-    highs: &CutsPage,
+    lows: &CutPage,
+    highs: &CutPage,
 ) -> Result<u64, StageFault>
     requires lows { AreNodes lows.now.nodes.items × (3 ≤ length lows.now.nodes.items) × (length lows.now.nodes.items ≤ 127) }
     requires highs { AreNodes highs.now.nodes.items × (3 ≤ length highs.now.nodes.items) × (length highs.now.nodes.items ≤ 127) }
     ensures put { IfOk result (λ high. IsTrue (S.tells stage.old) → (between : PageMap) × HoldsCuts between page lows.now.nodes.items
         × Replaces (page ∷ []) (page ∷ []) (S.map stage.old) between × HoldsCuts (S.map stage.new) high highs.now.nodes.items × Replaces [] (high ∷ []) between (S.map stage.new)) }
     ensures number { IfOk result (λ high. 3 ≤ high) }
+    ensures apart { IfOk result (λ high. IsTrue (S.tells stage.old) → OthersStay (λ p. p ≡ page) (S.map stage.old) (S.map stage.new)) }
+    ensures damaged { (damaged : ℕ) → result ≡ Err (StageFault.Damaged damaged) → IsTrue (S.tells stage.old)
+        → ((damaged ≡ page) × (S.map stage.old page ≡ None)) ⊎ (¬ S.free_in_order stage.old) }
     ensures well { IsTrue (S.tells stage.old) → IsSome (S.map stage.old page) → GoesWell S.Pages 1 stage.old stage.new result }
     ensures grows { Grows S.Pages 1 stage.old stage.new result }
 {

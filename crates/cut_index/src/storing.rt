@@ -1,9 +1,9 @@
 //! Reading and putting pages of a stage on the way of an addition.
-ghost use Rattle.std.specs.Prelude.{◌≡◌, ◌≤◌, ◌∷◌, [], ℕ, List, length, IsTrue, IsSome, IfOk, OnOk};
+ghost use Rattle.std.specs.Prelude.{◌≡◌, ◌≤◌, ◌∷◌, [], ℕ, List, length, None, Err, IsTrue, IsSome, IfOk, OnOk};
 ghost use Rattle.bw_types.specs.declared.point.Point.{Point};
 ghost use Rattle.page_ports.specs.Calls.{Changes, Grows};
 ghost use Rattle.page_ports.specs.Frame.{Replaces};
-ghost use Rattle.page_layout.specs.declared.cuts_page.CutsNode.{CutsNode};
+ghost use Rattle.page_layout.specs.declared.cut_page.CutNode.{CutNode};
 ghost use Rattle.cut_parts.specs.Spelling.{HoldsCuts, HoldsLeaf};
 ghost use Rattle.cut_pages.specs.Nodes.{AreNodes};
 ghost use Rattle.cut_index.specs.Going.{GoesWell};
@@ -11,16 +11,18 @@ ghost use Rattle.cut_index.specs.Going.{GoesWell};
 use arrayvec::ArrayVec;
 use bw_types::Point;
 use cut_pages::{put_cuts, read_cuts, read_leaf};
-use page_layout::CutsPage;
+use page_layout::CutPage;
 use page_ports::{PageFault, Stage, StageFault, blank_page};
 
 /// The nodes that a page holds. `Damaged` carries the page, where it holds none.
-pub(crate) fn stage_cuts<S: Stage>(stage: &mut S, page: u64) -> Result<CutsPage, StageFault>
+pub(crate) fn stage_cuts<S: Stage>(stage: &mut S, page: u64) -> Result<CutPage, StageFault>
     ensures found { IfOk result (λ cuts. IsTrue (S.tells stage.old) → HoldsCuts (S.map stage.old) page cuts.nodes.items) }
     ensures nodes { IfOk result (λ cuts. AreNodes cuts.nodes.items) }
     ensures many { IfOk result (λ cuts. (3 ≤ length cuts.nodes.items) × (length cuts.nodes.items ≤ 127)) }
     ensures map { S.map stage.new ≡ S.map stage.old }
-    ensures well { IsTrue (S.tells stage.old) → (nodes : List CutsNode) → HoldsCuts (S.map stage.old) page nodes → GoesWell S.Pages 0 stage.old stage.new result }
+    ensures damaged { (damaged : ℕ) → result ≡ Err (StageFault.Damaged damaged)
+        → (damaged ≡ page) × (IsTrue (S.tells stage.old) → (nodes : List CutNode) → HoldsCuts (S.map stage.old) page nodes → ⊥) }
+    ensures well { IsTrue (S.tells stage.old) → (nodes : List CutNode) → HoldsCuts (S.map stage.old) page nodes → GoesWell S.Pages 0 stage.old stage.new result }
     ensures grows { Grows S.Pages 0 stage.old stage.new result }
 {
     match read_cuts(stage, page) {
@@ -39,6 +41,8 @@ pub(crate) fn stage_leaf<S: Stage>(
     ensures found { IfOk result (λ points. IsTrue (S.tells stage.old) → HoldsLeaf (S.map stage.old) page points.items) }
     ensures counted { IfOk result (λ points. length points.items ≡ count) }
     ensures map { S.map stage.new ≡ S.map stage.old }
+    ensures damaged { (damaged : ℕ) → result ≡ Err (StageFault.Damaged damaged)
+        → (damaged ≡ page) × (IsTrue (S.tells stage.old) → (points : List Point) → HoldsLeaf (S.map stage.old) page points → length points ≡ count → ⊥) }
     ensures well { IsTrue (S.tells stage.old) → (points : List Point) → HoldsLeaf (S.map stage.old) page points → length points ≡ count
         → GoesWell S.Pages 0 stage.old stage.new result }
     ensures grows { Grows S.Pages 0 stage.old stage.new result }
@@ -54,6 +58,8 @@ pub(crate) fn stage_leaf<S: Stage>(
 pub(crate) fn look_again<S: Stage>(stage: &mut S, page: u64) -> Result<(), StageFault>
     ensures there { OnOk result (IsTrue (S.tells stage.old) → IsSome (S.map stage.new page)) }
     ensures map { S.map stage.new ≡ S.map stage.old }
+    ensures damaged { (damaged : ℕ) → result ≡ Err (StageFault.Damaged damaged) → IsTrue (S.tells stage.old)
+        → (damaged ≡ page) × (S.map stage.old page ≡ None) }
     ensures well { IsTrue (S.tells stage.old) → IsSome (S.map stage.old page) → GoesWell S.Pages 0 stage.old stage.new result }
     ensures grows { Grows S.Pages 0 stage.old stage.new result }
 {
@@ -69,12 +75,14 @@ pub(crate) fn look_again<S: Stage>(stage: &mut S, page: u64) -> Result<(), Stage
 pub(crate) fn put_again<S: Stage>(
     stage: &mut S,
     page: u64,
-    cuts: &CutsPage,
+    cuts: &CutPage,
 ) -> Result<(), StageFault>
     requires nodes { AreNodes cuts.now.nodes.items }
     requires many { (3 ≤ length cuts.now.nodes.items) × (length cuts.now.nodes.items ≤ 127) }
     ensures put { OnOk result (IsTrue (S.tells stage.old) → HoldsCuts (S.map stage.new) page cuts.now.nodes.items) }
     ensures change { OnOk result (IsTrue (S.tells stage.old) → Replaces (page ∷ []) (page ∷ []) (S.map stage.old) (S.map stage.new)) }
+    ensures damaged { (damaged : ℕ) → result ≡ Err (StageFault.Damaged damaged) → IsTrue (S.tells stage.old)
+        → (damaged ≡ page) × (S.map stage.old page ≡ None) }
     ensures well { IsTrue (S.tells stage.old) → IsSome (S.map stage.old page) → GoesWell S.Pages 0 stage.old stage.new result }
     ensures grows { Grows S.Pages 0 stage.old stage.new result }
 {
@@ -90,6 +98,8 @@ pub(crate) fn put_again<S: Stage>(
 /// Frees a page, which is got again before.
 pub(crate) fn free_again<S: Stage>(stage: &mut S, page: u64) -> Result<(), StageFault>
     ensures freed { OnOk result (IsTrue (S.tells stage.old) → Replaces (page ∷ []) [] (S.map stage.old) (S.map stage.new)) }
+    ensures damaged { (damaged : ℕ) → result ≡ Err (StageFault.Damaged damaged) → IsTrue (S.tells stage.old)
+        → (damaged ≡ page) × (S.map stage.old page ≡ None) }
     ensures well { IsTrue (S.tells stage.old) → IsSome (S.map stage.old page) → GoesWell S.Pages 0 stage.old stage.new result }
     ensures changes { Changes S.Pages 0 stage.old stage.new result }
 {

@@ -1,18 +1,20 @@
 //! A point that is added to a tree of cuts.
-ghost use Rattle.std.specs.Prelude.{◌≡◌, ◌≢◌, ◌+◌, ◌-◌, ◌^◌, ◌≤◌, ◌<◌, ◌∷◌, [], ℕ, suc, nat_le, if◌then◌else◌, List, length, Some, Err, IsTrue, IfOk, OnOk, OnErr};
+ghost use Rattle.std.specs.Prelude.{◌≡◌, ◌≢◌, ◌+◌, ◌-◌, ◌^◌, ◌≤◌, ◌<◌, ◌⊎◌, ◌∷◌, [], ℕ, suc, nat_le, if◌then◌else◌, List, length, Some, Err, IsTrue, IfOk, OnOk, OnErr};
 ghost use Rattle.bw_types.specs.declared.point.Point.{Point};
 ghost use Rattle.page_ports.specs.Calls.{Changes, Grows};
 ghost use Rattle.page_ports.specs.Frame.{Replaces};
 ghost use Rattle.page_layout.specs.TreeValue.{IsTreeTyped, tree_fits};
-ghost use Rattle.page_layout.specs.declared.cuts_page.CutsNode.TheVariants.{Entry};
+ghost use Rattle.page_layout.specs.declared.cut_page.CutNode.TheVariants.{Entry};
 ghost use Rattle.dom_index.specs.Points.{AreKeysBelow, IsNewPoint};
-ghost use Rattle.cut_parts.specs.Borders.{TakesPoint};
+ghost use Rattle.cut_parts.specs.Borders.{OthersStay, TakesPoint};
+ghost use Rattle.cut_parts.specs.Damage.{BeforePage};
 ghost use Rattle.cut_parts.specs.Parts.{Part};
+ghost use Rattle.cut_parts.specs.Reach.{IsDamagedForAdd, IsDamagedFrom, Leads, LeadsFrom};
 ghost use Rattle.cut_parts.specs.Spelling.{HoldsCuts, HoldsLeaf, first_page};
 ghost use Rattle.cut_parts.specs.Standing.{CutsBalanced, CutsStand, PartBalanced, cuts_growth, tree_pages};
 ghost use Rattle.cut_index.specs.Additions.{ChangeFits, IsAddedAs, MayTake};
 ghost use Rattle.cut_index.specs.Going.{GoesWell};
-ghost use Rattle.cut_index.specs.Growing.{page_growth};
+ghost use Rattle.cut_index.specs.Growing.{root_growth};
 ghost use Rattle.cut_index.specs.declared.change.Change.TheVariants.{Raised};
 
 use crate::adding::page_add;
@@ -21,7 +23,7 @@ use arrayvec::ArrayVec;
 use bw_types::{Point, Tree};
 use cut_pages::{make_cuts, make_leaf};
 use cut_parts::BorderTree;
-use page_layout::{CutsNode, CutsPage};
+use page_layout::{CutNode, CutPage};
 use page_ports::{Stage, StageFault};
 use std::alloc::Global;
 
@@ -33,10 +35,19 @@ const MOST_POINTS: u32 = 0x8000_0000;
 /// have more than three fifths of its points, the part of this cut is made anew, and the addition ends with it. A leaf of 64 points
 /// and a page of 64 entries are split.
 ///
+/// The first point takes one page number at most, and a further one none for as long as the tree has fewer than 64.
+///
 /// After a refusal the tree value is as it was, and the stage is to be abandoned. `Disk` comes only where the count of faults rose,
 /// `PageLimit` only where as many page numbers are given out as the limit allows, and `NoMemory` where the stage or the call finds
-/// none. `Damaged` never comes where the tree stands and is balanced, the point is new and the free pages are in order; it carries
-/// the root where the tree has `2^31` points.
+/// none. `Damaged` never comes where the tree stands and is balanced, the point is new and the free pages are in order; else it
+/// carries
+///
+/// - the root, where the tree has `2^31` points, or where that is no number of a page;
+/// - a page on the way of the point that holds no leaf of as many points as are told of it, or no cuts, or a cut that is not sound;
+///   one with whose points and the new one none may be built; or one that is gone after what was done below it;
+/// - what an addition to a border on the way calls damaged, or the leaf from which one would begin;
+/// - where a part is made anew, what collecting or dropping it calls damaged, or its page, where none may be built of its points;
+/// - any page, where the free pages are not in order.
 pub fn tree_add<B: BorderTree, S: Stage>(
     alloc: Global,
     stage: &mut S,
@@ -48,10 +59,14 @@ pub fn tree_add<B: BorderTree, S: Stage>(
     ensures added { OnOk result (IsTrue (S.tells stage.old) → (points : List Point) → CutsStand B.BorderTree (S.map stage.old) tree.old points
         → IsNewPoint (suc B.DIMS) points point.now
         → TakesPoint (CutsStand B.BorderTree) (tree_pages B.BorderTree) (CutsBalanced B.BorderTree) (S.map stage.old) (S.map stage.new) tree.old tree.new points point.now) }
+    // Whatever the pages hold, those to which the tree does not lead stay as they are.
+    ensures apart { OnOk result (IsTrue (S.tells stage.old) → OthersStay (Leads B.BorderTree (S.map stage.old) tree.old) (S.map stage.old) (S.map stage.new)) }
     ensures count { OnOk result (tree.new.count ≡ tree.old.count + 1) }
     ensures rules { OnOk result (IsTrue (tree_fits tree.old) → IsTrue (tree_fits tree.new)) }
     ensures typed { IsTreeTyped tree.new }
     ensures unchanged { OnErr result (tree.new ≡ tree.old) }
+    ensures damaged { (page : ℕ) → result ≡ Err (StageFault.Damaged page) → IsTrue (S.tells stage.old)
+        → IsDamagedForAdd B.BorderTree (S.map stage.old) tree.old point.now page ⊎ (¬ S.free_in_order stage.old) }
     ensures sound { (points : List Point) (page : ℕ) → IsTrue (S.tells stage.old) → CutsStand B.BorderTree (S.map stage.old) tree.old points
         → IsNewPoint (suc B.DIMS) points point.now → CutsBalanced B.BorderTree (S.map stage.old) tree.old → S.free_in_order stage.old
         → result ≢ Err (StageFault.Damaged page) }
@@ -59,6 +74,9 @@ pub fn tree_add<B: BorderTree, S: Stage>(
     ensures growth { IsTrue (S.tells stage.old) → (points : List Point) → CutsStand B.BorderTree (S.map stage.old) tree.old points
         → IsNewPoint (suc B.DIMS) points point.now → CutsBalanced B.BorderTree (S.map stage.old) tree.old
         → Changes S.Pages (cuts_growth B.BorderTree (length points)) stage.old stage.new result }
+    ensures small { IsTrue (S.tells stage.old) → (points : List Point) → CutsStand B.BorderTree (S.map stage.old) tree.old points
+        → IsNewPoint (suc B.DIMS) points point.now → CutsBalanced B.BorderTree (S.map stage.old) tree.old → length points < 64
+        → Changes S.Pages (1 - length points) stage.old stage.new result }
 {
     B::border_laws();
     three_keys(point);
@@ -134,8 +152,12 @@ fn root_add<B: BorderTree, S: Stage>(
         → MayTake B.BorderTree (S.map stage.old) count part point.now
         → IsAddedAs B.BorderTree (S.map stage.old) (S.map stage.new) count part point.now (Entry first ∷ [])) }
     ensures number { IfOk result (λ first. 3 ≤ first) }
+    ensures apart { OnOk result (IsTrue (S.tells stage.old)
+        → OthersStay (LeadsFrom B.BorderTree point.now (S.map stage.old) count (BeforePage root)) (S.map stage.old) (S.map stage.new)) }
+    ensures damaged { (damaged : ℕ) → result ≡ Err (StageFault.Damaged damaged) → IsTrue (S.tells stage.old)
+        → IsDamagedFrom B.BorderTree point.now (S.map stage.old) count (BeforePage root) damaged ⊎ (¬ S.free_in_order stage.old) }
     ensures well { IsTrue (S.tells stage.old) → (part : Part) → first_page part ≡ Some root → MayTake B.BorderTree (S.map stage.old) count part point.now
-        → PartBalanced B.BorderTree (S.map stage.old) part → GoesWell S.Pages (page_growth B.BorderTree count + 1) stage.old stage.new result }
+        → PartBalanced B.BorderTree (S.map stage.old) part → GoesWell S.Pages (root_growth B.BorderTree count) stage.old stage.new result }
     ensures changes { Changes S.Pages (S.allotted stage.new + 1) stage.old stage.new result }
 {
     B::border_laws();
@@ -151,7 +173,7 @@ fn root_add<B: BorderTree, S: Stage>(
 }
 
 // A new root page of one cut.
-fn new_root<S: Stage>(stage: &mut S, cut: &CutsNode, low: u64, high: u64) -> Result<u64, StageFault>
+fn new_root<S: Stage>(stage: &mut S, cut: &CutNode, low: u64, high: u64) -> Result<u64, StageFault>
     requires { ChangeFits (Raised cut.now low high) }
     ensures made { IfOk result (λ page. IsTrue (S.tells stage.old) → HoldsCuts (S.map stage.new) page (cut.now ∷ Entry low ∷ Entry high ∷ [])
         × Replaces [] (page ∷ []) (S.map stage.old) (S.map stage.new)) }
@@ -166,12 +188,12 @@ fn new_root<S: Stage>(stage: &mut S, cut: &CutsNode, low: u64, high: u64) -> Res
 }
 
 // The nodes of one cut between two entries.
-fn one_cut(cut: &CutsNode, low: u64, high: u64) -> CutsPage
+fn one_cut(cut: &CutNode, low: u64, high: u64) -> CutPage
     ensures { result.nodes.items ≡ cut.now ∷ Entry low ∷ Entry high ∷ [] }
 {
     let mut nodes = ArrayVec::new();
     nodes.push(*cut);
-    nodes.push(CutsNode::Entry { child: low });
-    nodes.push(CutsNode::Entry { child: high });
-    CutsPage { nodes }
+    nodes.push(CutNode::Entry { child: low });
+    nodes.push(CutNode::Entry { child: high });
+    CutPage { nodes }
 }

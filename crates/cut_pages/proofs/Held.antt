@@ -2,37 +2,37 @@
 use Rattle.std.proofs.Common.{◌≡◌, ℕ, ◌≤◌, List, Some, length, sym, ap, ◌∙◌, subst, arith}
 use Rattle.bw_types.specs.declared.point.Point.{Point}
 use Rattle.page_ports.specs.Pages.{PageMap}
-use Rattle.page_layout.specs.CutsPage.{IsCutsPage, IsTyped, cuts_page_in, cuts_page_page}
-use Rattle.page_layout.specs.CutsPageLaws.{cuts_page_in-page, entries-filled}
+use Rattle.page_layout.specs.CutPage.{IsCutPage, IsTyped, cut_page_in, cut_page_page}
+use Rattle.page_layout.specs.CutPageLaws.{cut_page_in-page, entries-filled}
 use Rattle.page_layout.specs.PointLeaf as leaf
 use Rattle.page_layout.specs.PointLeafLaws.{point_leaf_in-page}
 use Rattle.page_layout.specs.Spelled.{Spells, SpellsNone}
-use Rattle.page_layout.specs.declared.cuts_page.CutsNode.{CutsNode}
-use Rattle.page_layout.specs.declared.cuts_page.CutsPage.{CutsPage}
+use Rattle.page_layout.specs.declared.cut_page.CutNode.{CutNode}
+use Rattle.page_layout.specs.declared.cut_page.CutPage.{CutPage}
 use Rattle.page_layout.specs.declared.point_leaf.PointLeaf.{PointLeaf}
-use Rattle.cut_parts.specs.Spelling.{HoldsCuts, HoldsLeaf, cuts_pages, is_cuts, is_leaf, nodes_in, point_pages, points_in}
+use Rattle.cut_parts.specs.Spelling.{HoldsCuts, HoldsLeaf, pages_of_cuts, is_cuts, is_leaf, nodes_in, point_pages, points_in}
 use Rattle.cut_pages.specs.Nodes.{AreNodes, LeavesHoldPoints, PagesHoldNodes}
 
-pub cuts_held : (pages : PageMap) (page : ℕ) (cuts : CutsPage) → pages page ≡ Some (cuts_page_page cuts) → Spells cuts_pages cuts (cuts_page_page cuts)
+pub cuts_held : (pages : PageMap) (page : ℕ) (cuts : CutPage) → pages page ≡ Some (cut_page_page cuts) → Spells pages_of_cuts cuts (cut_page_page cuts)
     → HoldsCuts pages page cuts.nodes.items
 unfolding is_cuts nodes_in
 cuts_held pages page cuts there spells =
-    let back : cuts_page_in (cuts_page_page cuts) ≡ cuts = cuts_page_in-page cuts spells.typed spells.rules in
+    let back : cut_page_in (cut_page_page cuts) ≡ cuts = cut_page_in-page cuts spells.typed spells.rules in
     record {
-      bytes = cuts_page_page cuts;
+      bytes = cut_page_page cuts;
       there = there;
-      spelled = subst (λ (c : CutsPage). Spells cuts_pages c (cuts_page_page cuts)) (sym back) spells;
-      is = ap (λ (c : CutsPage). c.nodes.items) back;
+      spelled = subst (λ (c : CutPage). Spells pages_of_cuts c (cut_page_page cuts)) (sym back) spells;
+      is = ap (λ (c : CutPage). c.nodes.items) back;
     }
 
-pub no_cuts_held : (pages : PageMap) (page : ℕ) (nodes : List CutsNode) → SpellsNone cuts_pages pages page → HoldsCuts pages page nodes → ⊥
+pub no_cuts_held : (pages : PageMap) (page : ℕ) (nodes : List CutNode) → SpellsNone pages_of_cuts pages page → HoldsCuts pages page nodes → ⊥
 unfolding is_cuts nodes_in
-no_cuts_held pages page nodes none held = none (cuts_page_in held.bytes) held.bytes held.there held.spelled
+no_cuts_held pages page nodes none held = none (cut_page_in held.bytes) held.bytes held.there held.spelled
 
-pub cuts_are_nodes : (cuts : CutsPage) → IsCutsPage cuts → IsTyped cuts → AreNodes cuts.nodes.items
+pub cuts_are_nodes : (cuts : CutPage) → IsCutPage cuts → IsTyped cuts → AreNodes cuts.nodes.items
 cuts_are_nodes cuts rules typed = record { filled = rules.filled; fit = rules.nodes; typed = typed }
 
-pub so_many_nodes : (cuts : CutsPage) → IsCutsPage cuts → (3 ≤ length cuts.nodes.items) × (length cuts.nodes.items ≤ 127)
+pub so_many_nodes : (cuts : CutPage) → IsCutPage cuts → (3 ≤ length cuts.nodes.items) × (length cuts.nodes.items ≤ 127)
 so_many_nodes cuts rules =
     let sized = entries-filled 1 cuts.nodes.items rules.filled in
     (omega (arith, sized, rules.some), omega (arith, sized, rules.few))
@@ -71,11 +71,11 @@ pub pages_hold_nodes : PagesHoldNodes
 unfolding is_cuts nodes_in
 pages_hold_nodes pages page nodes others held other =
     let same : held.bytes ≡ other.bytes = cc in
-    let cuts : CutsPage = cuts_page_in held.bytes in
+    let cuts : CutPage = cut_page_in held.bytes in
     let are : AreNodes nodes = subst AreNodes held.is (cuts_are_nodes cuts held.spelled.rules held.spelled.typed) in
     let many = so_many_nodes cuts held.spelled.rules in
-    let long = ap (λ (ns : List CutsNode). length ns) held.is in
-    (sym held.is ∙ ap (λ (bs : List ℕ). (cuts_page_in bs).nodes.items) same ∙ other.is, are, omega (arith, many.0, long), omega (arith, many.1, long))
+    let long = ap (λ (ns : List CutNode). length ns) held.is in
+    (sym held.is ∙ ap (λ (bs : List ℕ). (cut_page_in bs).nodes.items) same ∙ other.is, are, omega (arith, many.0, long), omega (arith, many.1, long))
 
 pub leaves_hold_points : LeavesHoldPoints
 unfolding is_leaf points_in

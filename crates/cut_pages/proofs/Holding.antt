@@ -4,35 +4,35 @@ use Rattle.std.specs.Prelude.{IfOk, None, OnOk, Some, Result, Ok, Err}
 use Rattle.bw_types.specs.declared.point.Point.{Point}
 use Rattle.page_ports.specs.declared.page.StageFault.{StageFault}
 use Rattle.page_ports.specs.Pages.{PageMap, put_page}
-use Rattle.page_layout.specs.CutsPage as cuts
-use Rattle.page_layout.specs.CutsPageLaws.{cuts_page_in-page, entries-filled}
+use Rattle.page_layout.specs.CutPage as cuts
+use Rattle.page_layout.specs.CutPageLaws.{cut_page_in-page, entries-filled}
 use Rattle.page_layout.specs.PointLeaf as leaf
 use Rattle.page_layout.specs.PointLeafLaws.{point_leaf_in-page}
-use Rattle.page_layout.specs.declared.cuts_page.CutsPage.{CutsPage}
+use Rattle.page_layout.specs.declared.cut_page.CutPage.{CutPage}
 use Rattle.page_layout.specs.declared.point_leaf.PointLeaf.{PointLeaf}
 use Rattle.cut_parts.specs.Spelling.{HoldsCuts, HoldsLeaf, is_cuts, is_leaf, nodes_in, points_in}
 use Rattle.cut_pages.specs.Nodes.{AreNodes}
 
 -- Nodes that are not too many and not an entry alone are those of a page.
-pub is_page : (page : CutsPage) → AreNodes page.nodes.items → 3 ≤ length page.nodes.items → length page.nodes.items ≤ 127 → cuts.IsCutsPage page
+pub is_page : (page : CutPage) → AreNodes page.nodes.items → 3 ≤ length page.nodes.items → length page.nodes.items ≤ 127 → cuts.IsCutPage page
 is_page page are some few =
     let sized = entries-filled 1 page.nodes.items are.filled in
     record { some = omega (arith, sized); few = omega (arith, sized); filled = are.filled; nodes = are.fit }
 
-pub holds_cuts : (map : PageMap) (page : ℕ) (value : CutsPage) → cuts.IsCutsPage value → cuts.IsTyped value → map page ≡ Some (cuts.cuts_page_page value)
+pub holds_cuts : (map : PageMap) (page : ℕ) (value : CutPage) → cuts.IsCutPage value → cuts.IsTyped value → map page ≡ Some (cuts.cut_page_page value)
     → HoldsCuts map page value.nodes.items
 unfolding is_cuts nodes_in
 holds_cuts map page value rules typed there =
-    let back : cuts.cuts_page_in (cuts.cuts_page_page value) ≡ value = cuts_page_in-page value typed rules in
+    let back : cuts.cut_page_in (cuts.cut_page_page value) ≡ value = cut_page_in-page value typed rules in
     record {
-      bytes = cuts.cuts_page_page value;
+      bytes = cuts.cut_page_page value;
       there = there;
       spelled = record {
-        spelled = ap cuts.cuts_page_page (sym back);
-        rules = subst cuts.IsCutsPage (sym back) rules;
+        spelled = ap cuts.cut_page_page (sym back);
+        rules = subst cuts.IsCutPage (sym back) rules;
         typed = subst cuts.IsTyped (sym back) typed;
       };
-      is = ap (λ (p : CutsPage). p.nodes.items) back;
+      is = ap (λ (p : CutPage). p.nodes.items) back;
     }
 
 pub holds_leaf : (map : PageMap) (page : ℕ) (value : PointLeaf) (points : List Point) → value.points.items ≡ points → value.next ≡ 0
@@ -61,20 +61,20 @@ put_there before after page bytes put =
     let there : put_page before page bytes page ≡ Some bytes = rw named refl in
     ap (λ (map : PageMap). map page) put ∙ there
 
-pub made_cuts : (result : Result ℕ StageFault) (tells : Bool) (before after : PageMap) (value : CutsPage) → AreNodes value.nodes.items
+pub made_cuts : (result : Result ℕ StageFault) (tells : Bool) (before after : PageMap) (value : CutPage) → AreNodes value.nodes.items
     → 3 ≤ length value.nodes.items → length value.nodes.items ≤ 127
-    → IfOk result (λ page. IsTrue tells → (before page ≡ None) × (after page ≡ Some (cuts.cuts_page_page value)) × ((p : ℕ) → (page == p) ≡ false → after p ≡ before p))
+    → IfOk result (λ page. IsTrue tells → (before page ≡ None) × (after page ≡ Some (cuts.cut_page_page value)) × ((p : ℕ) → (page == p) ≡ false → after p ≡ before p))
     → IfOk result (λ page. IsTrue tells → HoldsCuts after page value.nodes.items)
 made_cuts (Err fault) tells before after value are some few made = made
 made_cuts (Ok page) tells before after value are some few made = λ told. holds_cuts after page value (is_page value are some few) are.typed (made told).1
 
-pub put_cuts : {X : Type 0} (result : Result X StageFault) (tells : Bool) (before after : PageMap) (page : ℕ) (value : CutsPage) → AreNodes value.nodes.items
+pub put_cuts : {X : Type 0} (result : Result X StageFault) (tells : Bool) (before after : PageMap) (page : ℕ) (value : CutPage) → AreNodes value.nodes.items
     → 3 ≤ length value.nodes.items → length value.nodes.items ≤ 127
-    → OnOk result (IsTrue tells → after ≡ put_page before page (cuts.cuts_page_page value))
+    → OnOk result (IsTrue tells → after ≡ put_page before page (cuts.cut_page_page value))
     → OnOk result (IsTrue tells → HoldsCuts after page value.nodes.items)
 put_cuts (Err fault) tells before after page value are some few put = put
 put_cuts (Ok done) tells before after page value are some few put = λ told.
-    holds_cuts after page value (is_page value are some few) are.typed (put_there before after page (cuts.cuts_page_page value) (put told))
+    holds_cuts after page value (is_page value are some few) are.typed (put_there before after page (cuts.cut_page_page value) (put told))
 
 -- A leaf that is made of points.
 pub record IsLeafOf (value : PointLeaf) (points : List Point) : Type 0 where

@@ -4,3 +4,5 @@ pub mod Places
 pub mod Changes
 pub mod Walking
 pub mod Holding
+pub mod Entries
+pub mod ByHand

@@ -1,4 +1,4 @@
-//! Pages of cuts and leaves of points: read, walked in place, changed in memory and put.
+//! Pages of cuts and leaves of points: read, walked in place, searched, changed in memory and put.
 //!
 //! What a page holds is told by `HoldsCuts` and `HoldsLeaf` of cut_parts. A page that holds neither is damaged where a call comes
 //! to it. No call takes memory.
@@ -10,12 +10,18 @@ mod nodes;
 mod parts;
 mod putting;
 mod reading;
+mod searching;
+mod sound;
 mod splitting;
+#[cfg(test)]
+mod tests;
 
 pub use changing::{replace_by_cut, replace_part, set_cut};
 pub use laws::{pages_hold_one, parts_fill_places};
 pub use nodes::Nodes;
-pub use parts::part_length;
+pub use parts::{after_part, part_length};
 pub use putting::{make_cuts, make_leaf, put_cuts, put_leaf};
 pub use reading::{leaf_sum, read_cuts, read_leaf, view_cuts};
+pub use searching::{find, region_of};
+pub use sound::{is_balanced, is_sound};
 pub use splitting::{Sides, split_first_cut};

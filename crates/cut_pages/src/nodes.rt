@@ -1,10 +1,10 @@
 //! The nodes of a page of cuts, walked where they stand.
 ghost use Rattle.std.specs.Prelude.{◌≡◌, ◌∷◌, ◌<◌, [], IfSome, List, length, drop};
-ghost use Rattle.page_layout.specs.declared.cuts_page.CutsNode.{CutsNode};
+ghost use Rattle.page_layout.specs.declared.cut_page.CutNode.{CutNode};
 ghost use Rattle.cut_parts.specs.Damage.{after_parts};
 ghost use Rattle.cut_pages.specs.Places.{IsPlace};
 
-use page_layout::{CutsNode, CutsPage, CutsStep, View};
+use page_layout::{CutNode, CutPage, CutStep, View};
 use std::marker::Model;
 
 /// Nodes of a page of cuts, from a place on, read where they stand.
@@ -12,7 +12,7 @@ use std::marker::Model;
 /// In contracts these are the list of the nodes from that place on.
 #[derive(Drop)]
 pub struct Nodes<'a> {
-    cuts: &'a View<'a, CutsPage>,
+    cuts: &'a View<'a, CutPage>,
     at: Place,
 }
 
@@ -25,7 +25,7 @@ struct Place {
 }
 
 impl<'a> Model for Nodes<'a> {
-    ghost Value = { List CutsNode };
+    ghost Value = { List CutNode };
 
     ghost view = { λ n. drop n.at.place n.cuts.now.nodes.items };
 
@@ -33,7 +33,7 @@ impl<'a> Model for Nodes<'a> {
 }
 
 // The node at a place, and the place behind it.
-fn node_at(cuts: &View<CutsPage>, at: Place) -> (CutsNode, Place)
+fn node_at(cuts: &View<CutPage>, at: Place) -> (CutNode, Place)
     requires place { IsPlace cuts.now.nodes.items at.place at.before }
     requires within { at.place < length cuts.now.nodes.items }
     ensures node { drop at.place cuts.now.nodes.items ≡ result.0 ∷ drop result.1.place cuts.now.nodes.items }
@@ -42,19 +42,19 @@ fn node_at(cuts: &View<CutsPage>, at: Place) -> (CutsNode, Place)
     cuts.keeps_rules();
     let next = at.place + 1;
     match cuts.step(at.place) {
-        CutsStep::Leads { child } => (
-            CutsNode::Entry { child },
+        CutStep::Leads { child } => (
+            CutNode::Entry { child },
             Place {
                 place: next,
                 before: at.before,
             },
         ),
-        CutsStep::Parts {
+        CutStep::Parts {
             dimension,
             key,
             low,
         } => (
-            CutsNode::Cut {
+            CutNode::Cut {
                 dimension,
                 key,
                 low,
@@ -69,7 +69,7 @@ fn node_at(cuts: &View<CutsPage>, at: Place) -> (CutsNode, Place)
 }
 
 // The place behind the part whose nodes begin at a place. Borders are not read.
-fn behind_part(cuts: &View<CutsPage>, at: Place) -> Place
+fn behind_part(cuts: &View<CutPage>, at: Place) -> Place
     requires { IsPlace cuts.now.nodes.items at.place at.before }
     ensures place { IsPlace cuts.now.nodes.items result.place result.before }
     ensures after { drop result.place cuts.now.nodes.items ≡ after_parts 1 (drop at.place cuts.now.nodes.items) }
@@ -81,8 +81,8 @@ fn behind_part(cuts: &View<CutsPage>, at: Place) -> Place
     let mut before = at.before;
     while parts > 0 && place < count {
         match cuts.step(place) {
-            CutsStep::Leads { child: _ } => parts -= 1,
-            CutsStep::Parts {
+            CutStep::Leads { child: _ } => parts -= 1,
+            CutStep::Parts {
                 dimension: _,
                 key: _,
                 low: _,
@@ -98,7 +98,7 @@ fn behind_part(cuts: &View<CutsPage>, at: Place) -> Place
 
 impl<'a> Nodes<'a> {
     /// All nodes of the page.
-    pub fn on(cuts: &'a View<'a, CutsPage>) -> Nodes<'a>
+    pub fn on(cuts: &'a View<'a, CutPage>) -> Nodes<'a>
         ensures { result ≡ cuts.now.nodes.items }
     {
         Nodes {
@@ -111,7 +111,7 @@ impl<'a> Nodes<'a> {
     }
 
     /// The first node, and the others; none where there are none.
-    pub fn split_first(&self) -> Option<(CutsNode, Nodes<'a>)>
+    pub fn split_first(&self) -> Option<(CutNode, Nodes<'a>)>
         ensures first { IfSome result (λ split. self.now ≡ split.0 ∷ split.1) }
         ensures none { result ≡ None → self.now ≡ [] }
     {

@@ -3,11 +3,11 @@ ghost use Rattle.std.specs.Prelude.{◌≡◌, ◌+◌, ◌≤◌, ◌++◌, dro
 ghost use Rattle.cut_parts.specs.Damage.{after_parts};
 
 use arrayvec::ArrayVec;
-use page_layout::{CutsNode, CutsPage};
+use page_layout::{CutNode, CutPage};
 
 /// How many nodes the first part has; all, where they end before it does. It counts the places that are to be filled: at first
 /// one, for the whole part.
-pub fn part_length(nodes: &[CutsNode]) -> usize
+pub fn part_length(nodes: &[CutNode]) -> usize
     ensures rest { drop result nodes.now ≡ after_parts 1 nodes.now }
     ensures few { result ≤ length nodes.now }
 {
@@ -17,8 +17,8 @@ pub fn part_length(nodes: &[CutsNode]) -> usize
             return i;
         }
         match node {
-            CutsNode::Entry { child: _ } => places -= 1,
-            CutsNode::Cut {
+            CutNode::Entry { child: _ } => places -= 1,
+            CutNode::Cut {
                 dimension: _,
                 key: _,
                 low: _,
@@ -30,15 +30,23 @@ pub fn part_length(nodes: &[CutsNode]) -> usize
 }
 
 /// The nodes of the first part, and those after it.
-pub(crate) fn split_part(nodes: &[CutsNode]) -> (&[CutsNode], &[CutsNode])
+pub(crate) fn split_part(nodes: &[CutNode]) -> (&[CutNode], &[CutNode])
     ensures whole { nodes.now ≡ result.0.now ++ result.1.now }
     ensures after { result.1.now ≡ after_parts 1 nodes.now }
 {
     nodes.split_at(part_length(nodes))
 }
 
+/// The nodes after the first part: those of the high side, where these are the nodes of a cut's sides.
+pub fn after_part(nodes: &[CutNode]) -> &[CutNode]
+    ensures { result.now ≡ after_parts 1 nodes.now }
+{
+    let (_, after) = split_part(nodes);
+    after
+}
+
 /// Puts copies of the nodes behind others.
-pub(crate) fn append(nodes: &mut ArrayVec<CutsNode, 129>, more: &[CutsNode])
+pub(crate) fn append(nodes: &mut ArrayVec<CutNode, 129>, more: &[CutNode])
     requires { length nodes.old.items + length more.now ≤ 129 }
     ensures { nodes.new.items ≡ nodes.old.items ++ more.now }
 {
@@ -48,11 +56,11 @@ pub(crate) fn append(nodes: &mut ArrayVec<CutsNode, 129>, more: &[CutsNode])
 }
 
 /// The nodes in a page of their own.
-pub(crate) fn page_of(nodes: &[CutsNode]) -> CutsPage
+pub(crate) fn page_of(nodes: &[CutNode]) -> CutPage
     requires { length nodes.now ≤ 129 }
     ensures { result.nodes.items ≡ nodes.now }
 {
     let mut copy = ArrayVec::new();
     append(&mut copy, nodes);
-    CutsPage { nodes: copy }
+    CutPage { nodes: copy }
 }

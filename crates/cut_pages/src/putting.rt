@@ -9,13 +9,13 @@ ghost use Rattle.cut_pages.specs.Nodes.{AreNodes};
 use arrayvec::ArrayVec;
 use bw_types::Point;
 use page_access::{make_page, put_page};
-use page_layout::{CutsPage, PointLeaf};
+use page_layout::{CutPage, PointLeaf};
 use page_ports::{Stage, StageFault};
 
 /// Overwrites a page with nodes.
 ///
 /// `Damaged` and `PageLimit` never come where the map is told.
-pub fn put_cuts<S: Stage>(stage: &mut S, page: u64, cuts: &CutsPage) -> Result<(), StageFault>
+pub fn put_cuts<S: Stage>(stage: &mut S, page: u64, cuts: &CutPage) -> Result<(), StageFault>
     requires nodes { AreNodes cuts.now.nodes.items }
     requires many { (3 ≤ length cuts.now.nodes.items) × (length cuts.now.nodes.items ≤ 127) }
     requires in_map { IsTrue (S.tells stage.old) → IsSome (S.map stage.old page) }
@@ -30,7 +30,7 @@ pub fn put_cuts<S: Stage>(stage: &mut S, page: u64, cuts: &CutsPage) -> Result<(
 /// A new page that holds nodes.
 ///
 /// `Damaged` comes only where the free pages are not in order.
-pub fn make_cuts<S: Stage>(stage: &mut S, cuts: &CutsPage) -> Result<u64, StageFault>
+pub fn make_cuts<S: Stage>(stage: &mut S, cuts: &CutPage) -> Result<u64, StageFault>
     requires nodes { AreNodes cuts.now.nodes.items }
     requires many { (3 ≤ length cuts.now.nodes.items) × (length cuts.now.nodes.items ≤ 127) }
     ensures number { IfOk result (λ page. 3 ≤ page) }

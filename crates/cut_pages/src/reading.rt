@@ -4,13 +4,13 @@ ghost use Rattle.bw_types.specs.Dominance.{dominance_sum};
 ghost use Rattle.bw_types.specs.declared.point.Point.{Point};
 ghost use Rattle.page_ports.specs.Calls.{OnlyReads};
 ghost use Rattle.page_layout.specs.PointLeaf as leaf;
-ghost use Rattle.page_layout.specs.declared.cuts_page.CutsNode.{CutsNode};
+ghost use Rattle.page_layout.specs.declared.cut_page.CutNode.{CutNode};
 ghost use Rattle.cut_parts.specs.Spelling.{HoldsCuts, HoldsLeaf};
 ghost use Rattle.cut_pages.specs.Nodes.{AreNodes};
 
 use dom_index::sum_on;
 use page_access::{read_page, view_page};
-use page_layout::{CutsPage, PointLeaf, View};
+use page_layout::{CutPage, PointLeaf, View};
 use page_ports::{Page, PageFault, Pages, blank_page};
 
 /// The nodes that a page holds, to be walked in place by `Nodes`: its bytes are put into these.
@@ -20,13 +20,13 @@ pub fn view_cuts<'a, P: Pages>(
     pages: &mut P,
     page: u64,
     bytes: &'a mut Page,
-) -> Result<View<'a, CutsPage>, PageFault>
+) -> Result<View<'a, CutPage>, PageFault>
     ensures found { IfOk result (λ cuts. IsTrue (P.tells pages.old) → HoldsCuts (P.map pages.old) page cuts.nodes.items) }
     ensures damaged { (p : ℕ) → result ≡ Err (PageFault.Damaged p)
-        → (p ≡ page) × (IsTrue (P.tells pages.old) → (nodes : List CutsNode) → HoldsCuts (P.map pages.old) page nodes → ⊥) }
+        → (p ≡ page) × (IsTrue (P.tells pages.old) → (nodes : List CutNode) → HoldsCuts (P.map pages.old) page nodes → ⊥) }
     ensures reads { OnlyReads P.Pages 1 pages.old pages.new result }
 {
-    match view_page::<CutsPage, P>(pages, page, bytes) {
+    match view_page::<CutPage, P>(pages, page, bytes) {
         Err(fault) => Err(fault),
         Ok(cuts) => Ok(cuts),
     }
@@ -35,15 +35,15 @@ pub fn view_cuts<'a, P: Pages>(
 /// The nodes that a page holds.
 ///
 /// `Damaged` carries this page. It comes exactly where the page holds no cuts, save where the device failed first.
-pub fn read_cuts<P: Pages>(pages: &mut P, page: u64) -> Result<CutsPage, PageFault>
+pub fn read_cuts<P: Pages>(pages: &mut P, page: u64) -> Result<CutPage, PageFault>
     ensures found { IfOk result (λ cuts. IsTrue (P.tells pages.old) → HoldsCuts (P.map pages.old) page cuts.nodes.items) }
     ensures nodes { IfOk result (λ cuts. AreNodes cuts.nodes.items) }
     ensures many { IfOk result (λ cuts. (3 ≤ length cuts.nodes.items) × (length cuts.nodes.items ≤ 127)) }
     ensures damaged { (p : ℕ) → result ≡ Err (PageFault.Damaged p)
-        → (p ≡ page) × (IsTrue (P.tells pages.old) → (nodes : List CutsNode) → HoldsCuts (P.map pages.old) page nodes → ⊥) }
+        → (p ≡ page) × (IsTrue (P.tells pages.old) → (nodes : List CutNode) → HoldsCuts (P.map pages.old) page nodes → ⊥) }
     ensures reads { OnlyReads P.Pages 1 pages.old pages.new result }
 {
-    match read_page::<CutsPage, P>(pages, page) {
+    match read_page::<CutPage, P>(pages, page) {
         Err(fault) => Err(fault),
         Ok(cuts) => Ok(cuts),
     }

@@ -2,24 +2,24 @@
 ghost use Rattle.std.specs.Prelude.{◌≡◌, ◌++◌, ◌≤◌, ◌∷◌, ℕ, None, IfSome, IsSome, IsTrue, length};
 ghost use Rattle.cut_parts.specs.Parts.{Part, Split};
 ghost use Rattle.cut_parts.specs.Spelling.{nodes_of};
-ghost use Rattle.page_layout.specs.CutsPage.{IsNodeTyped, cut_one, node_fits};
-ghost use Rattle.page_layout.specs.declared.cuts_page.CutsNode.TheVariants.{Cut};
+ghost use Rattle.page_layout.specs.CutPage.{IsNodeTyped, cut_one, node_fits};
+ghost use Rattle.page_layout.specs.declared.cut_page.CutNode.TheVariants.{Cut};
 ghost use Rattle.bw_types.specs.declared.tree.Tree.{Tree};
 ghost use Rattle.cut_pages.specs.Nodes.{AreNodes};
 
 use crate::parts::{page_of, split_part};
-use page_layout::{CutsNode, CutsPage};
+use page_layout::{CutNode, CutPage};
 
 /// The first cut, and the nodes of its sides.
 #[derive(Debug, Drop)]
 pub struct Sides {
-    pub cut: CutsNode,
-    pub low: CutsPage,
-    pub high: CutsPage,
+    pub cut: CutNode,
+    pub low: CutPage,
+    pub high: CutPage,
 }
 
 /// The first cut of the nodes of a page, with its border, and the nodes of its two sides; none where they do not begin with a cut.
-pub fn split_first_cut(page: &CutsPage) -> Option<Sides>
+pub fn split_first_cut(page: &CutPage) -> Option<Sides>
     ensures split { (dimension key low : ℕ) (border : Tree) (low_side high_side : Part)
         → page.now.nodes.items ≡ nodes_of (Split None dimension key low border low_side high_side)
         → IfSome result (λ sides. (sides.cut ≡ Cut dimension key low border) × (sides.low.nodes.items ≡ nodes_of low_side) × (sides.high.nodes.items ≡ nodes_of high_side)) × IsSome result }
@@ -31,8 +31,8 @@ pub fn split_first_cut(page: &CutsPage) -> Option<Sides>
 {
     let (first, rest) = page.nodes.as_slice().split_first()?;
     match first {
-        CutsNode::Entry { child: _ } => None,
-        CutsNode::Cut {
+        CutNode::Entry { child: _ } => None,
+        CutNode::Cut {
             dimension: _,
             key: _,
             low: _,

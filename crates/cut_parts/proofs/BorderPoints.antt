@@ -5,7 +5,7 @@ use Rattle.std.proofs.lemmas.Bool.{cases_lt}
 use Rattle.std.proofs.lemmas.List.{get_or-take, get_or_default, get_or_past, length-take}
 use Rattle.std.proofs.lemmas.List.Elements.{All-map}
 use Rattle.std.proofs.lemmas.List.Kept.{AllPairs-cons}
-use Rattle.bw_types.specs.Classes.{keys_without, without_dimension}
+use Rattle.bw_types.specs.Without.{keys_without, without_dimension}
 use Rattle.bw_types.specs.declared.point.Point.{Point}
 use Rattle.dom_index.specs.Points.{AreKeysBelow, keys_differ}
 use Rattle.cut_parts.specs.Borders.{MayBeBuilt}

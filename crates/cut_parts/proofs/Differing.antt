@@ -1,7 +1,7 @@
 -- Points that differ in their keys still do without a dimension.
 use Rattle.std.proofs.Common.{◌≡◌, ◌≢◌, ℕ, zero, suc, ◌+◌, ◌-◌, ◌<◌, ◌≤◌, ◌==◌, not, nat_lt, if◌then◌else◌, Bool, true, IsTrue, inl, inr, List, [], ◌∷◌, ◌++◌, slice_index, refl, ap, ◌∙◌, subst, arith}
 use Rattle.std.proofs.lemmas.Bool.{and_parts, cases_eq, cases_lt, le-ltb, lt-ltb}
-use Rattle.bw_types.specs.Classes.{keys_without, without_dimension}
+use Rattle.bw_types.specs.Without.{keys_without, without_dimension}
 use Rattle.bw_types.specs.Tally.{each_below}
 use Rattle.bw_types.specs.declared.point.Point.{Point}
 use Rattle.dom_index.specs.Points.{keys_differ}

@@ -11,8 +11,8 @@ use Rattle.cut_parts.specs.Standing.{BordersBalanced, HaveLaws, PartBalanced, Pa
 use Rattle.cut_parts.specs.declared.border_tree.BorderTree.{Ghosts}
 use Rattle.cut_parts.specs.Parts.{Part, Leaf, Split, BordersStand, border_points, points_of}
 use Rattle.cut_parts.specs.Spelling.{Holds, HomeHolds, IsSpelled, from_home, is_cuts, is_leaf, nodes_in, nodes_of, pages_of, points_in}
-use Rattle.page_layout.specs.declared.cuts_page.CutsNode.{CutsNode}
-use Rattle.page_layout.specs.declared.cuts_page.CutsNode.TheVariants.{Cut}
+use Rattle.page_layout.specs.declared.cut_page.CutNode.{CutNode}
+use Rattle.page_layout.specs.declared.cut_page.CutNode.TheVariants.{Cut}
 
 -- ---- lists of pages
 
@@ -50,7 +50,7 @@ agree_inner : (home : Option ℕ) (others : List ℕ) (a b : PageMap) → AgreeO
 agree_inner (Some page) others a b h = agree_rest page others a b h
 agree_inner None others a b h = h
 
-home_same : (home : Option ℕ) (nodes : List CutsNode) (others : List ℕ) (a b : PageMap) → AgreeOn (from_home home others) a b
+home_same : (home : Option ℕ) (nodes : List CutNode) (others : List ℕ) (a b : PageMap) → AgreeOn (from_home home others) a b
     → HomeHolds a home nodes → HomeHolds b home nodes
 home_same (Some page) nodes others a b h holds = holds_same is_cuts nodes_in a b page nodes (agree_first page others a b h) holds
 home_same None nodes others a b h holds = tt
@@ -68,7 +68,7 @@ spelled_same border_pages a b (Split home dimension key low border low_side high
       spelled_same border_pages a b high_side s.2 (agree_right lows highs a b sides),
     )
 
-there_home : (home : Option ℕ) (nodes : List CutsNode) (others : List ℕ) (a : PageMap) → HomeHolds a home nodes
+there_home : (home : Option ℕ) (nodes : List CutNode) (others : List ℕ) (a : PageMap) → HomeHolds a home nodes
     → AreInMap a others → AreInMap a (from_home home others)
 there_home (Some page) nodes others a holds rest = there_first a page holds.bytes others holds.there rest
 there_home None nodes others a holds rest = rest

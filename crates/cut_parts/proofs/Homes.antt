@@ -5,7 +5,7 @@ use Rattle.bw_types.specs.declared.tree.Tree.{Tree}
 use Rattle.page_ports.specs.Pages.{PageMap}
 use Rattle.cut_parts.specs.Parts.{Part, Leaf, Split, BordersStand, HasShape, IsParted, points_of}
 use Rattle.cut_parts.specs.Spelling.{Holds, IsSpelled, at_page, first_page, is_cuts, nodes_in, nodes_of, pages_of}
-use Rattle.page_layout.specs.declared.cuts_page.CutsNode.TheVariants.{Entry}
+use Rattle.page_layout.specs.declared.cut_page.CutNode.TheVariants.{Entry}
 
 pub points_stay : (home : Option ℕ) (part : Part) → points_of (at_page home part) ≡ points_of part
 points_stay home (Leaf page points) = refl

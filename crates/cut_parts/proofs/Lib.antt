@@ -1,7 +1,6 @@
 pub mod Sums
 pub mod Values
 pub mod Depths
-pub mod Growth
 pub mod Halves
 pub mod Differing
 pub mod Orders
@@ -12,3 +11,4 @@ pub mod Frames
 pub mod Telling
 pub mod Regions
 pub mod Trees
+pub mod Staying

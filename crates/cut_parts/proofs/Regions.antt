@@ -5,7 +5,7 @@ use Rattle.std.proofs.lemmas.List.{get_or-set_other, get_or-set_same, length-set
 use Rattle.bw_types.specs.Regions.{Holds}
 use Rattle.bw_types.specs.declared.point.Point.{Point}
 use Rattle.bw_types.specs.declared.region.Region.{Region}
-use Rattle.page_layout.specs.Regions.{above_cut, below_cut}
+use Rattle.bw_types.specs.Regions.{above_cut, below_cut}
 use Rattle.cut_parts.specs.Parts.{Leaf, Split, points_of}
 use Rattle.cut_parts.proofs.Depths.{parts_are_counted}
 use Rattle.cut_parts.specs.Regions.{RegionsFollow}
@@ -16,7 +16,8 @@ use Rattle.cut_parts.proofs.Halves.{some_points}
 no_point : Point
 no_point = record { keys = []; version = 0; weight = 0 }
 
-below_holds : (dims : ℕ) (region : Region) (dimension key : ℕ) (keys : List ℕ) → dimension < dims → dims ≤ length region.high → Holds dims region keys
+-- The part of a region on the keys' side of a cut holds the keys where the region does.
+pub below_holds : (dims : ℕ) (region : Region) (dimension key : ℕ) (keys : List ℕ) → dimension < dims → dims ≤ length region.high → Holds dims region keys
     → slice_index keys dimension < key → Holds dims (below_cut region dimension key) keys
 below_holds dims region dimension key keys lt long h below = record {
   from_low = h.from_low;
@@ -32,7 +33,7 @@ below_holds dims region dimension key keys lt long h below = record {
   ];
 }
 
-above_holds : (dims : ℕ) (region : Region) (dimension key : ℕ) (keys : List ℕ) → dimension < dims → dims ≤ length region.low → Holds dims region keys
+pub above_holds : (dims : ℕ) (region : Region) (dimension key : ℕ) (keys : List ℕ) → dimension < dims → dims ≤ length region.low → Holds dims region keys
     → key ≤ slice_index keys dimension → Holds dims (above_cut region dimension key) keys
 above_holds dims region dimension key keys lt long h from = record {
   from_low = λ i less. elim (cases_eq i dimension) [

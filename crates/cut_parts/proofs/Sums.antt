@@ -5,7 +5,7 @@ use Rattle.std.proofs.Math.Nat.{add-mod}
 use Rattle.std.proofs.lemmas.Bool.{and_right, and_left, le-leb, lt-leb}
 use Rattle.std.proofs.lemmas.List.Sums.{sum_by-cons, sum_by-append}
 use Rattle.std.specs.List.{All}
-use Rattle.bw_types.specs.Classes.{keys_without, without_dimension}
+use Rattle.bw_types.specs.Without.{keys_without, without_dimension}
 use Rattle.bw_types.specs.Dominance.{keys_at_most, is_dominated, dominated_weight, dominance_sum}
 use Rattle.bw_types.specs.declared.point.Point.{Point}
 use Rattle.cut_parts.specs.Parts.{border_points}

@@ -9,16 +9,15 @@ use Rattle.bw_types.specs.declared.tree.Tree.{Tree}
 use Rattle.page_ports.specs.Frame.{AgreeOn, AreInMap}
 use Rattle.page_ports.specs.Pages.{PageMap}
 use Rattle.page_layout.specs.Footprint.{NamesNoneTwice}
-use Rattle.page_layout.specs.declared.cuts_page.CutsNode.{CutsNode}
-use Rattle.page_layout.specs.declared.cuts_page.CutsNode.TheVariants.{Entry}
+use Rattle.page_layout.specs.declared.cut_page.CutNode.{CutNode}
+use Rattle.page_layout.specs.declared.cut_page.CutNode.TheVariants.{Entry}
+use Rattle.bw_types.specs.DepthLaws.{cost_above, growths_never_fall, shares_never_fall}
 use Rattle.cut_parts.specs.Borders.{HoldForTrees}
 use Rattle.cut_parts.specs.Parts.{Part, Leaf, Split, points_of}
 use Rattle.cut_parts.specs.Spelling.{first_page, nodes_of, part_in}
 use Rattle.cut_parts.specs.Standing.{CutsBalanced, CutsStand, HaveLaws, IsPartOf, PartBalanced, cuts_cost, cuts_growth, cuts_share, levels_of, part_pages, tree_pages, tree_part}
 use Rattle.cut_parts.specs.declared.border_tree.BorderTree.{Ghosts}
-use Rattle.cut_parts.proofs.Depths.{cost_above}
 use Rattle.cut_parts.proofs.Frames.{part_balance, part_same, part_there}
-use Rattle.cut_parts.proofs.Growth.{growths_never_fall, shares_never_fall}
 use Rattle.cut_parts.proofs.Orders.{may_in_any_order}
 use Rattle.cut_parts.proofs.Telling.{told_part}
 
@@ -33,8 +32,8 @@ module _ {B : Type 0} (g : Ghosts B) where
   pub tree_is : (a : PageMap) (tree : Tree) (points : List Point) (part : Part) → IsPartOf g a tree points part → tree_part a tree ≡ part
   tree_is a tree points part is =
       let steps : ℕ = 2 * tree.count in
-      ap (λ (ns : List CutsNode). (part_in a steps tree.count ns).0) (sym (entry_nodes part tree.root is.begins) ∙ sym (append-nil (nodes_of part)))
-      ∙ ap (λ (x : Part × List CutsNode). x.0) (told_part a steps tree.count part [] (omega arith) is.stood.shape is.stood.spelled)
+      ap (λ (ns : List CutNode). (part_in a steps tree.count ns).0) (sym (entry_nodes part tree.root is.begins) ∙ sym (append-nil (nodes_of part)))
+      ∙ ap (λ (x : Part × List CutNode). x.0) (told_part a steps tree.count part [] (omega arith) is.stood.shape is.stood.spelled)
 
   pub own_pages : (a : PageMap) (tree : Tree) (points : List Point) (part : Part) → 1 ≤ tree.count → IsPartOf g a tree points part
       → tree_pages g a tree ≡ part_pages g a part

@@ -3,7 +3,7 @@ use Rattle.std.proofs.Common.{◌≡◌, ℕ, suc, ◌-◌, ◌≤◌, List, len
 use Rattle.std.proofs.lemmas.Bool.{cases_lt, lt-ltb, le-ltb, le-leb, lt-leb}
 use Rattle.std.proofs.lemmas.List.Elements.{All-append}
 use Rattle.std.specs.List.{All}
-use Rattle.bw_types.specs.Classes.{keys_without}
+use Rattle.bw_types.specs.Without.{keys_without}
 use Rattle.bw_types.specs.Dominance.{dominance_sum}
 use Rattle.bw_types.specs.declared.point.Point.{Point}
 use Rattle.cut_parts.specs.Parts.{Part, Leaf, Split, IsParted, border_points, points_of}

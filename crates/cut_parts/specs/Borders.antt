@@ -1,5 +1,5 @@
 -- What a kind of trees owes to the trees of one dimension more, whose borders they are.
-use Rattle.std.specs.Prelude.{◌≡◌, ℕ, ◌-◌, ◌^◌, ◌<◌, ◌≤◌, List, [], ◌∷◌, length, AllPairs, IsTrue, IsPermutation, Result, Ok, Err}
+use Rattle.std.specs.Prelude.{◌≡◌, ℕ, ◌-◌, ◌^◌, ◌<◌, ◌≤◌, List, [], ◌∷◌, length, AllPairs, IsSome, IsTrue, IsPermutation, Result, Ok, Err}
 use Rattle.std.specs.List.{All}
 use Rattle.bw_types.specs.Empty.{empty_tree}
 use Rattle.bw_types.specs.declared.point.Point.{Point}
@@ -10,13 +10,17 @@ use Rattle.page_ports.specs.declared.page.PageFault.{PageFault}
 use Rattle.page_ports.specs.declared.page.PageFault.TheVariants.{Damaged, Disk}
 use Rattle.page_layout.specs.Footprint.{NamesNoneTwice}
 use Rattle.dom_index.specs.Points.{AreKeysBelow, keys_differ}
-use Rattle.cut_parts.specs.Depths.{IsCost, NeverFalls}
+use Rattle.bw_types.specs.Depths.{IsCost, NeverFalls}
 
 -- A call that sums answers this total, save where the device failed.
 abbrev pub IsSum : Result ℕ PageFault → ℕ → Type 0
 IsSum (Ok value) total = value ≡ total
 IsSum (Err Disk) total = Unit {0}
 IsSum (Err (Damaged page)) total = ⊥
+
+-- The pages that were there, and of which this does not hold, are as they were.
+abbrev pub OthersStay : (ℕ → Type 0) → PageMap → PageMap → Type 0
+OthersStay may before after = (page : ℕ) → IsSome (before page) → ¬ may page → after page ≡ before page
 
 -- No two of the points share a key in one of the dimensions.
 abbrev pub ShareNoKey : ℕ → List Point → Type 0

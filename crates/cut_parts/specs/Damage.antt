@@ -1,18 +1,18 @@
 -- What a sum calls damaged.
 use Rattle.std.specs.Prelude.{◌≡◌, ℕ, zero, suc, ◌-◌, ◌<◌, ◌≤◌, ◌⊎◌, List, [], ◌∷◌, length, slice_index}
-use Rattle.bw_types.specs.Classes.{keys_without}
+use Rattle.bw_types.specs.Without.{keys_without}
 use Rattle.bw_types.specs.Empty.{empty_tree}
 use Rattle.bw_types.specs.declared.point.Point.{Point}
 use Rattle.bw_types.specs.declared.tree.Tree.{Tree}
 use Rattle.page_ports.specs.Pages.{PageMap}
-use Rattle.page_layout.specs.declared.cuts_page.CutsNode.{CutsNode}
-use Rattle.page_layout.specs.declared.cuts_page.CutsNode.TheVariants.{Entry, Cut}
+use Rattle.page_layout.specs.declared.cut_page.CutNode.{CutNode}
+use Rattle.page_layout.specs.declared.cut_page.CutNode.TheVariants.{Entry, Cut}
 use Rattle.cut_parts.specs.Parts.{IsBalancedCut}
 use Rattle.cut_parts.specs.Spelling.{HoldsCuts, HoldsLeaf}
 use Rattle.cut_parts.specs.declared.border_tree.BorderTree.{Ghosts}
 
 -- the nodes after so many parts
-abbrev pub after_parts : ℕ → List CutsNode → List CutsNode
+abbrev pub after_parts : ℕ → List CutNode → List CutNode
 after_parts zero nodes = nodes
 after_parts (suc parts) [] = []
 after_parts (suc parts) (Entry child ∷ nodes) = after_parts parts nodes
@@ -29,8 +29,8 @@ pub record IsSoundCut (dims n dimension low : ℕ) (border : Tree) : Type 0 wher
 -- Where a call stands in a tree: before a page, or in a page, before the nodes of a part.
 pub data Spot : Type 0 where
   BeforePage : (page : ℕ) → Spot
-  BeforePart : (page : ℕ) (nodes : List CutsNode) → Spot
-  BeforeCut : (page : ℕ) (nodes : List CutsNode) → Spot
+  BeforePart : (page : ℕ) (nodes : List CutNode) → Spot
+  BeforeCut : (page : ℕ) (nodes : List CutNode) → Spot
 
 -- A call on the way of the keys that stands there, before a part of n points, comes within so many steps to the damaged page:
 -- one that holds no leaf of as many points, or no cuts where there are more; one with a cut that is not sound; or one that is
@@ -39,8 +39,8 @@ abbrev pub IsDamagedWithin : {B : Type 0} → Ghosts B → ℕ → PageMap → �
 IsDamagedWithin g zero pages n spot keys version damaged = ⊥
 IsDamagedWithin g (suc steps) pages n (BeforePage page) keys version damaged =
     ((n ≤ 64) × (damaged ≡ page) × ((points : List Point) → HoldsLeaf pages page points → length points ≡ n → ⊥))
-    ⊎ (((64 < n) × (damaged ≡ page) × ((nodes : List CutsNode) → HoldsCuts pages page nodes → ⊥))
-    ⊎ ((64 < n) × ((nodes : List CutsNode) × HoldsCuts pages page nodes × IsDamagedWithin g steps pages n (BeforeCut page nodes) keys version damaged)))
+    ⊎ (((64 < n) × (damaged ≡ page) × ((nodes : List CutNode) → HoldsCuts pages page nodes → ⊥))
+    ⊎ ((64 < n) × ((nodes : List CutNode) × HoldsCuts pages page nodes × IsDamagedWithin g steps pages n (BeforeCut page nodes) keys version damaged)))
 IsDamagedWithin g (suc steps) pages n (BeforePart page []) keys version damaged = damaged ≡ page
 IsDamagedWithin g (suc steps) pages n (BeforePart page (Entry child ∷ nodes)) keys version damaged =
     IsDamagedWithin g steps pages n (BeforePage child) keys version damaged

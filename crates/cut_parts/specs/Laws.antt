@@ -1,12 +1,12 @@
 -- What holds of parts.
 use Rattle.std.specs.Prelude.{◌≡◌, ℕ, suc, ◌+◌, ◌%◌, ◌^◌, ◌<◌, ◌≤◌, List, ◌++◌, length, false, slice_index, IsPermutation}
 use Rattle.std.specs.List.{All}
-use Rattle.bw_types.specs.Classes.{keys_without, without_dimension}
+use Rattle.bw_types.specs.Without.{keys_without, without_dimension}
 use Rattle.bw_types.specs.Dominance.{dominance_sum, is_dominated}
 use Rattle.bw_types.specs.declared.point.Point.{Point}
 use Rattle.bw_types.specs.declared.tree.Tree.{Tree}
 use Rattle.cut_parts.specs.Borders.{MayBeBuilt}
-use Rattle.cut_parts.specs.Depths.{IsCost, NeverFalls, added_pages, depth, growth_above, pages_a_point, query_reads, reads_within, share_above}
+use Rattle.bw_types.specs.Depths.{IsCost, depth, reads_within}
 use Rattle.cut_parts.specs.Parts.{Part, BordersCost, BordersTell, HasShape, IsParted, border_points, cuts_on_path, gets_of, points_of, value_of}
 
 -- From below a cut no point of its high side is dominated; from the cut on a point of its low side is exactly where it is without the cut's dimension.
@@ -55,29 +55,6 @@ PathsAreShort = (part : Part) (n : ℕ) → HasShape n part → cuts_on_path par
 abbrev pub GetsAreFew : Type 0
 GetsAreFew = (cost : ℕ → ℕ) (border_gets : Tree → List ℕ → ℕ) (part : Part) (n : ℕ) (keys : List ℕ) → IsCost cost → HasShape n part
     → BordersCost border_gets cost part → gets_of border_gets part keys ≤ reads_within cost n n
-
--- The stated numbers grow with the number of points, and where there is a point they are not 0.
-abbrev pub ReadsAreCosts : Type 0
-ReadsAreCosts = (d : ℕ) → IsCost (query_reads d)
-
--- So do those of building and of an addition, where those of the borders do.
-abbrev pub SharesNeverFall : Type 0
-SharesNeverFall = (share : ℕ → ℕ) → NeverFalls share → NeverFalls (share_above share)
-
-abbrev pub GrowthsNeverFall : Type 0
-GrowthsNeverFall = (growth share : ℕ → ℕ) → NeverFalls growth → NeverFalls share → NeverFalls (growth_above growth share)
-
--- A query over 0, 1, 2 and 3 dimensions among 1, 33, 1000 and 40000 points.
-abbrev pub ReadsWorkedAt : ℕ → ℕ → ℕ → ℕ → ℕ → Type 0
-ReadsWorkedAt n a b c d = (query_reads 0 n ≡ a) × (query_reads 1 n ≡ b) × (query_reads 2 n ≡ c) × (query_reads 3 n ≡ d)
-
-abbrev pub ReadsWorked : Type 0
-ReadsWorked = ReadsWorkedAt 1 1 2 1 1 × ReadsWorkedAt 33 2 4 1 1 × ReadsWorkedAt 1000 2 5 32 88 × ReadsWorkedAt 40000 4 8 83 467
-
--- Depths, and the pages of building and adding in two dimensions.
-abbrev pub GrowthWorked : Type 0
-GrowthWorked = (depth 64 ≡ 0) × (depth 65 ≡ 1) × (depth 108 ≡ 1) × (depth 182 ≡ 3) × (depth 1000 ≡ 6) × (depth 10000 ≡ 10) × (depth 200000 ≡ 16)
-    × (pages_a_point 2 1000 ≡ 146) × (added_pages 2 1000 ≡ 147859)
 
 -- Points may be built in any order.
 abbrev pub AnyOrderMayBeBuilt : Type 0

@@ -3,7 +3,7 @@ use Rattle.std.specs.Prelude.{ℕ, ◌≤◌, length}
 use Rattle.std.specs.List.{All}
 use Rattle.bw_types.specs.Regions.{Holds}
 use Rattle.bw_types.specs.declared.region.Region.{Region}
-use Rattle.page_layout.specs.Regions.{IsInside, above_cut, below_cut}
+use Rattle.bw_types.specs.Regions.{IsInside, above_cut, below_cut}
 use Rattle.cut_parts.specs.Parts.{Part, Leaf, Split, HasShape, IsParted, points_of}
 
 -- Each cut lies strictly inside its region, and the points of each leaf lie in the leaf's.

@@ -7,30 +7,30 @@ use Rattle.std.specs.Option.{option_map_or}
 use Rattle.bw_types.specs.declared.point.Point.{Point}
 use Rattle.bw_types.specs.declared.tree.Tree.{Tree}
 use Rattle.page_ports.specs.Pages.{PageMap}
-use Rattle.page_layout.specs.CutsPage as cuts
+use Rattle.page_layout.specs.CutPage as cuts
 use Rattle.page_layout.specs.PointLeaf as leaf
 use Rattle.page_layout.specs.Spelled.{Spells}
-use Rattle.page_layout.specs.declared.cuts_page.CutsNode.{CutsNode}
-use Rattle.page_layout.specs.declared.cuts_page.CutsNode.TheVariants.{Entry, Cut}
-use Rattle.page_layout.specs.declared.cuts_page.CutsPage.{CutsPage}
+use Rattle.page_layout.specs.declared.cut_page.CutNode.{CutNode}
+use Rattle.page_layout.specs.declared.cut_page.CutNode.TheVariants.{Entry, Cut}
+use Rattle.page_layout.specs.declared.cut_page.CutPage.{CutPage}
 use Rattle.page_layout.specs.declared.point_leaf.PointLeaf.{PointLeaf}
 use Rattle.page_layout.specs.declared.spelled.Spelled.{Ghosts}
 use Rattle.cut_parts.specs.Parts.{Part, Leaf, Split}
 
 -- what pages spell as cuts, and as points
-abbrev pub cuts_pages : Ghosts CutsPage
-cuts_pages = record { keeps = cuts.IsCutsPage; is_typed = cuts.IsTyped; spelling = cuts.cuts_page_page; value_in = cuts.cuts_page_in }
+abbrev pub pages_of_cuts : Ghosts CutPage
+pages_of_cuts = record { keeps = cuts.IsCutPage; is_typed = cuts.IsTyped; spelling = cuts.cut_page_page; value_in = cuts.cut_page_in }
 
 abbrev pub point_pages : Ghosts PointLeaf
 point_pages = record { keeps = leaf.IsPointLeaf; is_typed = leaf.IsTyped; spelling = leaf.point_leaf_page; value_in = leaf.point_leaf_in }
 
 -- These bytes spell a page of cuts.
 unfoldable pub is_cuts : List ℕ → Type 0
-is_cuts bytes = Spells cuts_pages (cuts.cuts_page_in bytes) bytes
+is_cuts bytes = Spells pages_of_cuts (cuts.cut_page_in bytes) bytes
 
 -- the nodes that they spell
-unfoldable pub nodes_in : List ℕ → List CutsNode
-nodes_in bytes = (cuts.cuts_page_in bytes).nodes.items
+unfoldable pub nodes_in : List ℕ → List CutNode
+nodes_in bytes = (cuts.cut_page_in bytes).nodes.items
 
 -- These bytes spell a leaf of points, which names no next page.
 unfoldable pub is_leaf : List ℕ → Type 0
@@ -48,7 +48,7 @@ pub record Holds {V : Type 0} (spells : List ℕ → Type 0) (value_in : List �
   pub is : value_in bytes ≡ value
 
 -- The page holds these nodes.
-abbrev pub HoldsCuts : PageMap → ℕ → List CutsNode → Type 0
+abbrev pub HoldsCuts : PageMap → ℕ → List CutNode → Type 0
 HoldsCuts pages page nodes = Holds is_cuts nodes_in pages page nodes
 
 -- The page holds these points, and names no next page.
@@ -56,12 +56,12 @@ abbrev pub HoldsLeaf : PageMap → ℕ → List Point → Type 0
 HoldsLeaf pages page points = Holds is_leaf points_in pages page points
 
 -- nodes in the page above: an entry where they begin a page of their own
-abbrev pub at_home : Option ℕ → List CutsNode → List CutsNode
+abbrev pub at_home : Option ℕ → List CutNode → List CutNode
 at_home (Some page) nodes = Entry page ∷ []
 at_home None nodes = nodes
 
 -- the nodes by which a part stands in the page above it
-abbrev pub nodes_of : Part → List CutsNode
+abbrev pub nodes_of : Part → List CutNode
 nodes_of (Leaf page points) = Entry page ∷ []
 nodes_of (Split home dimension key low border low_side high_side) =
     at_home home (Cut dimension key low border ∷ (nodes_of low_side ++ nodes_of high_side))
@@ -88,7 +88,7 @@ first_page (Leaf page points) = Some page
 first_page (Split home dimension key low border low_side high_side) = home
 
 -- Where there is a home, its page holds these nodes.
-abbrev pub HomeHolds : PageMap → Option ℕ → List CutsNode → Type 0
+abbrev pub HomeHolds : PageMap → Option ℕ → List CutNode → Type 0
 HomeHolds pages (Some page) nodes = HoldsCuts pages page nodes
 HomeHolds pages None nodes = Unit {0}
 
@@ -100,7 +100,7 @@ IsSpelled pages (Split home dimension key low border low_side high_side) =
     × IsSpelled pages low_side × IsSpelled pages high_side
 
 -- The first part that nodes spell, of n points, and the nodes after it. Steps: twice the points are enough.
-abbrev pub part_in : PageMap → ℕ → ℕ → List CutsNode → Part × List CutsNode
+abbrev pub part_in : PageMap → ℕ → ℕ → List CutNode → Part × List CutNode
 part_in pages zero n nodes = (Leaf 0 [], [])
 part_in pages (suc steps) n [] = (Leaf 0 [], [])
 part_in pages (suc steps) n (Entry child ∷ nodes) = (
@@ -110,6 +110,6 @@ part_in pages (suc steps) n (Entry child ∷ nodes) = (
   nodes,
 )
 part_in pages (suc steps) n (Cut dimension key low border ∷ nodes) =
-    let low_side : Part × List CutsNode = part_in pages steps low nodes in
-    let high_side : Part × List CutsNode = part_in pages steps (n - low) low_side.1 in
+    let low_side : Part × List CutNode = part_in pages steps low nodes in
+    let high_side : Part × List CutNode = part_in pages steps (n - low) low_side.1 in
     (Split None dimension key low border low_side.0 high_side.0, high_side.1)

@@ -7,9 +7,9 @@ use Rattle.bw_types.specs.declared.point.Point.{Point}
 use Rattle.bw_types.specs.declared.tree.Tree.{Tree}
 use Rattle.page_ports.specs.Pages.{PageMap}
 use Rattle.page_layout.specs.Footprint.{NamesNoneTwice}
-use Rattle.page_layout.specs.declared.cuts_page.CutsNode.TheVariants.{Entry}
+use Rattle.page_layout.specs.declared.cut_page.CutNode.TheVariants.{Entry}
 use Rattle.cut_parts.specs.Borders.{HoldForTrees, MayBeBuilt}
-use Rattle.cut_parts.specs.Depths.{growth_above, reads_within, share_above}
+use Rattle.bw_types.specs.Depths.{growth_above, reads_within, share_above}
 use Rattle.cut_parts.specs.Parts.{Part, Leaf, Split, BordersStand, HasShape, IsParted, points_of}
 use Rattle.cut_parts.specs.Spelling.{IsSpelled, first_page, pages_of, part_in}
 use Rattle.cut_parts.specs.declared.border_tree.BorderTree.{Ghosts}

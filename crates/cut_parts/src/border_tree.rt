@@ -1,14 +1,14 @@
 //! A kind of trees that are the borders of trees of one dimension more.
-ghost use Rattle.std.specs.Prelude.{◌≡◌, ◌≢◌, ◌+◌, ◌-◌, ◌*◌, ◌^◌, ◌<◌, ◌≤◌, ℕ, List, [], ◌∷◌, length, Err, IsTrue, IfOk, OnOk, OnErr, IsPermutation};
+ghost use Rattle.std.specs.Prelude.{◌≡◌, ◌≢◌, ◌+◌, ◌-◌, ◌*◌, ◌^◌, ◌<◌, ◌≤◌, ◌⊎◌, ℕ, List, [], ◌∷◌, length, Err, IsTrue, IfOk, OnOk, OnErr, IsPermutation};
 ghost use Rattle.bw_types.specs.Dominance.{dominance_sum};
 ghost use Rattle.bw_types.specs.declared.point.Point.{Point};
 ghost use Rattle.bw_types.specs.declared.tree.Tree.{Tree};
 ghost use Rattle.page_ports.specs.Calls.{Changes, Grows, OnlyReads};
-ghost use Rattle.page_ports.specs.Frame.{Replaces};
+ghost use Rattle.page_ports.specs.Frame.{AreInMap, Replaces};
 ghost use Rattle.page_ports.specs.Pages.{PageMap};
 ghost use Rattle.page_layout.specs.TreeValue.{IsTreeTyped, tree_fits};
 ghost use Rattle.dom_index.specs.Points.{AreKeysBelow, IsNewPoint};
-ghost use Rattle.cut_parts.specs.Borders.{HoldForTrees, IsBuiltOf, IsSum, MayBeBuilt, TakesPoint};
+ghost use Rattle.cut_parts.specs.Borders.{HoldForTrees, IsBuiltOf, IsSum, MayBeBuilt, OthersStay, TakesPoint};
 
 use bw_types::{Point, Tree};
 use page_ports::{PageFault, Pages, Stage, StageFault};
@@ -44,6 +44,15 @@ pub trait BorderTree {
 
     /// What a sum at these keys and this version calls damaged.
     ghost damaged_for_sum: { PageMap → Tree → List ℕ → ℕ → ℕ → Type 0 };
+
+    /// An addition to the tree may change this page, whatever the pages hold.
+    ghost may_change: { PageMap → Tree → ℕ → Type 0 };
+
+    /// What an addition of this point may call damaged, beside the free pages.
+    ghost damaged_for_add: { PageMap → Tree → Point → ℕ → Type 0 };
+
+    /// What dropping the tree may call damaged.
+    ghost damaged_for_drop: { PageMap → Tree → ℕ → Type 0 };
 
     /// The sum of the weights of the points whose version and keys are at or below those given, modulo `2^128`.
     ///
@@ -81,10 +90,15 @@ pub trait BorderTree {
         requires version { point.now.version < 2 ^ 32 - 1 }
         ensures added { OnOk result (IsTrue (S.tells stage.old) → (points : List Point) → stands (S.map stage.old) tree.old points
             → IsNewPoint DIMS points point.now → TakesPoint stands footprint balanced (S.map stage.old) (S.map stage.new) tree.old tree.new points point.now) }
+        // Whatever the pages hold, those that an addition may not change stay as they are.
+        ensures apart { OnOk result (IsTrue (S.tells stage.old)
+            → OthersStay (may_change (S.map stage.old) tree.old) (S.map stage.old) (S.map stage.new)) }
         ensures count { OnOk result (tree.new.count ≡ tree.old.count + 1) }
         ensures rules { OnOk result (IsTrue (tree_fits tree.old) → IsTrue (tree_fits tree.new)) }
         ensures typed { IsTreeTyped tree.new }
         ensures unchanged { OnErr result (tree.new ≡ tree.old) }
+        ensures damaged { (page : ℕ) → result ≡ Err (StageFault.Damaged page) → IsTrue (S.tells stage.old)
+            → damaged_for_add (S.map stage.old) tree.old point.now page ⊎ (¬ S.free_in_order stage.old) }
         ensures sound { (points : List Point) (page : ℕ) → IsTrue (S.tells stage.old) → stands (S.map stage.old) tree.old points
             → IsNewPoint DIMS points point.now → balanced (S.map stage.old) tree.old → S.free_in_order stage.old → result ≢ Err (StageFault.Damaged page) }
         // However many page numbers are given out, where the tree does not stand.
@@ -120,6 +134,13 @@ pub trait BorderTree {
     fn drop_tree<S: Stage>(stage: &mut S, tree: &Tree) -> Result<(), StageFault>
         ensures dropped { OnOk result (IsTrue (S.tells stage.old) → (points : List Point) → stands (S.map stage.old) tree.now points
             → Replaces (footprint (S.map stage.old) tree.now) [] (S.map stage.old) (S.map stage.new)) }
+        // Whatever the pages hold, and of whatever map this was before other pages were freed: the tree's pages were all still there,
+        // and are gone; nothing else changed.
+        ensures gone { OnOk result (IsTrue (S.tells stage.old) → (first : PageMap) (freed : List ℕ) → Replaces freed [] first (S.map stage.old)
+            → AreInMap (S.map stage.old) (footprint first tree.now)
+            × Replaces (footprint first tree.now) [] (S.map stage.old) (S.map stage.new)) }
+        ensures damaged { (page : ℕ) → result ≡ Err (StageFault.Damaged page) → IsTrue (S.tells stage.old)
+            → (first : PageMap) (freed : List ℕ) → Replaces freed [] first (S.map stage.old) → damaged_for_drop first tree.now page }
         ensures sound { (points : List Point) (page : ℕ) → IsTrue (S.tells stage.old) → stands (S.map stage.old) tree.now points
             → result ≢ Err (StageFault.Damaged page) }
         ensures changes { Changes S.Pages 0 stage.old stage.new result };

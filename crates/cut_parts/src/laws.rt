@@ -3,10 +3,10 @@ ghost use Rattle.std.specs.Prelude.{◌≡◌, ◌≤◌, ◌*◌, ◌++◌, ◌
 ghost use Rattle.bw_types.specs.declared.tree.Tree.{Tree};
 ghost use Rattle.page_ports.specs.Frame.{AgreeOn, AreInMap};
 ghost use Rattle.page_ports.specs.Pages.{PageMap};
-ghost use Rattle.page_layout.specs.declared.cuts_page.CutsNode.{CutsNode};
-ghost use Rattle.page_layout.specs.declared.cuts_page.CutsNode.TheVariants.{Entry};
+ghost use Rattle.page_layout.specs.declared.cut_page.CutNode.{CutNode};
+ghost use Rattle.page_layout.specs.declared.cut_page.CutNode.TheVariants.{Entry};
 ghost use Rattle.cut_parts.specs.Borders.{HoldForTrees};
-ghost use Rattle.cut_parts.specs.Laws.{AnyOrderMayBeBuilt, BorderMayBeBuilt, GetsAreFew, GrowthWorked, GrowthsNeverFall, HighSideIsBeyond, LowSideGoesWithout, PartsAreCounted, PathsAreShort, ReadsAreCosts, ReadsWorked, SharesNeverFall, SidesMayBeBuilt, SumBelowCut, SumByParts, SumFromCut, ValuesAreSums};
+ghost use Rattle.cut_parts.specs.Laws.{AnyOrderMayBeBuilt, BorderMayBeBuilt, GetsAreFew, HighSideIsBeyond, LowSideGoesWithout, PartsAreCounted, PathsAreShort, SidesMayBeBuilt, SumBelowCut, SumByParts, SumFromCut, ValuesAreSums};
 ghost use Rattle.cut_parts.specs.Parts.{Part, HasShape, points_of};
 ghost use Rattle.cut_parts.specs.Regions.{RegionsFollow};
 ghost use Rattle.cut_parts.specs.Spelling.{HoldsCuts, IsSpelled, at_page, first_page, nodes_of, pages_of, part_in};
@@ -34,19 +34,6 @@ pub fn parts_are_low()
     ensures counted { PartsAreCounted }
     ensures paths { PathsAreShort }
     ensures gets { GetsAreFew }
-    ensures costs { ReadsAreCosts }
-{}
-
-/// The numbers of pages never fall as the points grow more.
-pub fn pages_grow()
-    ensures shares { SharesNeverFall }
-    ensures growths { GrowthsNeverFall }
-{}
-
-/// Depths and numbers of pages, computed from the definitions.
-pub fn pages_are_worked()
-    ensures reads { ReadsWorked }
-    ensures growth { GrowthWorked }
 {}
 
 /// Which points may be built where others may.
@@ -81,7 +68,7 @@ pub fn part_laws<B: BorderTree>()
     ensures balance { (a b : PageMap) (n : ℕ) (part : Part) → PartStands B.BorderTree a n part → AgreeOn (part_pages B.BorderTree a part) a b
         → PartBalanced B.BorderTree a part → PartBalanced B.BorderTree b part }
     ensures in_map { (a : PageMap) (n : ℕ) (part : Part) → PartStands B.BorderTree a n part → AreInMap a (part_pages B.BorderTree a part) }
-    ensures told { (a : PageMap) (steps n : ℕ) (part : Part) (rest : List CutsNode) → 2 * n ≤ steps → HasShape n part → IsSpelled a part
+    ensures told { (a : PageMap) (steps n : ℕ) (part : Part) (rest : List CutNode) → 2 * n ≤ steps → HasShape n part → IsSpelled a part
         → part_in a steps n (nodes_of part ++ rest) ≡ (part, rest) }
 {
     B::border_laws();

@@ -6,8 +6,8 @@ use Rattle.std.proofs.lemmas.Bool.{cases_eq, cases_lt, eq-eqb, ne_eqb, and_parts
 use Rattle.std.proofs.lemmas.List.Sorted.{IsNonDecreasingBy-from_all_adjacent}
 use Rattle.bw_types.specs.Tally.{each_below}
 use Rattle.bw_types.specs.declared.point.Point.{Point}
-use Rattle.kdb_pages.specs.Medians.{key_of, KeysDiffer}
-use Rattle.kdb_pages.proofs.Ordering.{ascending, keys_differ}
+use Rattle.cut_points.specs.Medians.{key_of, KeysDiffer}
+use Rattle.cut_points.proofs.Ordering.{ascending, keys_differ}
 use Rattle.cut_parts.specs.Borders.{ShareNoKey}
 
 -- Each point's key is below that of the next one.

@@ -4,7 +4,7 @@ use Rattle.std.specs.List.{All}
 use Rattle.std.proofs.lemmas.Bool.{cases_eq}
 use Rattle.std.proofs.lemmas.List.{get_or-drop, length-drop}
 use Rattle.bw_types.specs.declared.point.Point.{Point}
-use Rattle.kdb_pages.specs.Medians.{IsMedian, key_of}
+use Rattle.cut_points.specs.Medians.{IsMedian, key_of}
 
 pub high_half : (dimension half key : ℕ) (points : List Point) → IsMedian dimension points half key → All (λ p. key ≤ slice_index p.keys dimension) (drop half points)
 high_half dimension half key points median = λ k none lt.

@@ -1,3 +1,4 @@
+pub mod Ordering
 pub mod Apart
 pub mod Spreads
 pub mod Halving

@@ -3,7 +3,7 @@ use Rattle.std.proofs.Common.{◌≡◌, ℕ, suc, ◌+◌, ◌<◌, List, [], �
 use Rattle.std.proofs.Math.Seq.{take-suc}
 use Rattle.std.specs.Prelude.{max, min}
 use Rattle.bw_types.specs.declared.point.Point.{Point}
-use Rattle.kdb_pages.specs.Medians.{key_of}
+use Rattle.cut_points.specs.Medians.{key_of}
 use Rattle.cut_points.specs.Widest.{greatest_key, least_key}
 
 greatest_of_more : (dimension : ℕ) (points : List Point) (point : Point)

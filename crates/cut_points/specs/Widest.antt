@@ -1,7 +1,7 @@
 -- In which dimension points lie widest.
 use Rattle.std.specs.Prelude.{ℕ, ◌-◌, ◌<◌, ◌≤◌, List, [], ◌∷◌, max, min}
 use Rattle.bw_types.specs.declared.point.Point.{Point}
-use Rattle.kdb_pages.specs.Medians.{key_of}
+use Rattle.cut_points.specs.Medians.{key_of}
 
 -- the greatest of the points' keys of the dimension; 0 where there is no point
 abbrev pub greatest_key : ℕ → List Point → ℕ

@@ -1,6 +1,6 @@
 //! Points without one of their dimensions, as the border of a cut in that dimension keeps them.
 ghost use Rattle.std.specs.Prelude.{◌≡◌, ◌<◌, IfOk};
-ghost use Rattle.bw_types.specs.Classes.{keys_without, without_dimension};
+ghost use Rattle.bw_types.specs.Without.{keys_without, without_dimension};
 ghost use Rattle.cut_parts.specs.Parts as parts;
 
 use bw_types::Point;

@@ -1,7 +1,7 @@
 //! Whether a tree may be built of points.
 ghost use Rattle.std.specs.Prelude.{◌≡◌, ◌<◌, ◌≤◌, ◌-◌, ◌^◌, ◌↔◌, IsTrue, length, IsPermutation};
 ghost use Rattle.std.specs.List.{All, AllAdjacentBelow};
-ghost use Rattle.kdb_pages.specs.Medians.{KeysDiffer, key_of};
+ghost use Rattle.cut_points.specs.Medians.{KeysDiffer, key_of};
 ghost use Rattle.cut_parts.specs.Borders.{MayBeBuilt, ShareNoKey};
 ghost use Rattle.cut_points.specs.Fitting.{IsPointBelow};
 

@@ -7,6 +7,7 @@
 mod borders;
 mod fitting;
 mod median;
+mod middle;
 #[cfg(test)]
 mod tests;
 mod widest;

@@ -4,6 +4,7 @@ ghost use Rattle.std.specs.List.{All};
 ghost use Rattle.cut_parts.specs.Borders.{MayBeBuilt};
 ghost use Rattle.cut_points.specs.Widest.{IsWidest};
 
+use crate::middle::middle_key;
 use crate::widest::widest;
 use bw_types::Point;
 
@@ -23,6 +24,6 @@ pub fn median_cut(points: &mut [Point], dims: u8) -> (u8, u64)
     ensures high { All (λ p. result.1 ≤ slice_index p.keys result.0) (drop (length points.new / 2) points.new) }
 {
     let dimension = widest(points, dims);
-    let key = kdb_pages::median_cut(points, dimension);
+    let key = middle_key(points, dimension);
     (dimension, key)
 }

@@ -1,16 +1,17 @@
 -- The pages read for a cut, from those read for its sides.
 use Rattle.std.proofs.Common.{◌≡◌, ℕ, zero, suc, ◌+◌, ◌-◌, ◌<◌, ◌≤◌, List, length, inl, inr, sym, subst, arith}
 use Rattle.std.proofs.lemmas.Bool.{cases_lt}
-use Rattle.bw_types.specs.Classes.{without_dimension}
+use Rattle.bw_types.specs.DepthLaws.{reads_low, within_step}
+use Rattle.bw_types.specs.Without.{without_dimension}
 use Rattle.bw_types.specs.declared.point.Point.{Point}
 use Rattle.bw_types.specs.declared.tree.Tree.{Tree}
 use Rattle.page_ports.specs.Pages.{PageMap}
-use Rattle.page_layout.specs.declared.cuts_page.CutsNode.{CutsNode}
-use Rattle.cut_parts.specs.Depths.{IsCost, most_of_side, reads_within}
+use Rattle.page_layout.specs.declared.cut_page.CutNode.{CutNode}
+use Rattle.bw_types.specs.Depths.{IsCost, most_of_side, reads_within}
 use Rattle.cut_parts.specs.Parts.{Part, Leaf, Split, HasShape, border_points, points_of}
 use Rattle.cut_parts.specs.Standing.{CutsBalanced, IsPartOf, PartBalanced, PartStands, levels_of}
 use Rattle.cut_parts.specs.declared.border_tree.BorderTree.{Ghosts}
-use Rattle.cut_parts.proofs.Depths.{parts_are_counted, reads_low, within_step}
+use Rattle.cut_parts.proofs.Depths.{parts_are_counted}
 use Rattle.cut_parts.proofs.Halves.{length_mapped}
 use Rattle.cut_parts.proofs.Nodes.{IsCutOf}
 use Rattle.cut_parts.proofs.Trees.{tree_is}
@@ -43,7 +44,7 @@ module _ {B : Type 0} (g : Ghosts B) (m : PageMap) (is : IsCost g.cost) where
   abbrev reads : ℕ → ℕ
   reads n = reads_within g.cost n n
 
-  pub cut_cost_low : (part : Part) (dimension key low n : ℕ) (border : Tree) (nodes rest : List CutsNode) (old new : ℕ) (c : IsCutOf part dimension key low border nodes rest)
+  pub cut_cost_low : (part : Part) (dimension key low n : ℕ) (border : Tree) (nodes rest : List CutNode) (old new : ℕ) (c : IsCutOf part dimension key low border nodes rest)
       → (Stands low c.low_side → Balanced c.low_side → new ≤ old + reads low) → Stands n part → Balanced part → new ≤ old + (reads n - 1)
   cut_cost_low part dimension key low n border nodes rest old new c side =
       subst (λ (p : Part). Stands n p → Balanced p → new ≤ old + (reads n - 1)) (sym c.is) (λ s b.
@@ -51,7 +52,7 @@ module _ {B : Type 0} (g : Ghosts B) (m : PageMap) (is : IsCost g.cost) where
       let step = within_step g.cost is n low s.shape.0.many s.shape.0.low_share in
       omega (arith, inner, step))
 
-  pub cut_cost_high : (part : Part) (dimension key low n : ℕ) (border : Tree) (nodes rest : List CutsNode) (old mid new : ℕ) (c : IsCutOf part dimension key low border nodes rest)
+  pub cut_cost_high : (part : Part) (dimension key low n : ℕ) (border : Tree) (nodes rest : List CutNode) (old mid new : ℕ) (c : IsCutOf part dimension key low border nodes rest)
       → (low ≤ 64 → Stands low c.low_side → Balanced c.low_side → mid ≤ old + reads low)
       → (64 < low → g.stands m border (border_points dimension (points_of c.low_side)) → g.balanced m border → mid ≤ old + g.cost (length (border_points dimension (points_of c.low_side))))
       → (Stands (n - low) c.high_side → Balanced c.high_side → new ≤ mid + reads (n - low)) → Stands n part → Balanced part → new ≤ old + (reads n - 1)

@@ -1,6 +1,6 @@
 -- Keys without a dimension stay below the end of regions.
 use Rattle.std.proofs.Common.{◌≡◌, ℕ, suc, ◌-◌, ◌<◌, List, subst, arith}
-use Rattle.bw_types.specs.Classes.{keys_without}
+use Rattle.bw_types.specs.Without.{keys_without}
 use Rattle.dom_index.specs.Points.{AreKeysBelow}
 use Rattle.cut_parts.proofs.BorderPoints.{still_below}
 

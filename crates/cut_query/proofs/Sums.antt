@@ -3,14 +3,14 @@ use Rattle.std.proofs.Common.{◌≡◌, ℕ, suc, ◌+◌, ◌-◌, ◌%◌, �
 use Rattle.std.specs.Prelude.{IsPermutation}
 use Rattle.std.proofs.lemmas.Bool.{cases_lt}
 use Rattle.std.proofs.lemmas.List.Sorted.{sum_by-IsPermutation}
-use Rattle.bw_types.specs.Classes.{keys_without, without_dimension}
+use Rattle.bw_types.specs.Without.{keys_without, without_dimension}
 use Rattle.bw_types.specs.Dominance.{dominance_sum, is_dominated}
 use Rattle.bw_types.specs.declared.point.Point.{Point}
 use Rattle.bw_types.specs.declared.tree.Tree.{Tree}
 use Rattle.page_ports.specs.Pages.{PageMap}
 use Rattle.page_ports.specs.declared.page.PageFault.{PageFault}
 use Rattle.page_ports.specs.declared.page.PageFault.TheVariants.{Damaged, Disk}
-use Rattle.page_layout.specs.declared.cuts_page.CutsNode.{CutsNode}
+use Rattle.page_layout.specs.declared.cut_page.CutNode.{CutNode}
 use Rattle.cut_parts.specs.Borders.{IsSum}
 use Rattle.cut_parts.specs.Parts.{Part, Leaf, Split, border_points, points_of}
 use Rattle.cut_parts.specs.Spelling.{HoldsCuts, HoldsLeaf, first_page, is_cuts, is_leaf, nodes_in, nodes_of, points_in}
@@ -40,7 +40,7 @@ any_total Disk a b is = tt
 any_total (Damaged page) a b is = is
 
 -- a part has a node
-pub some_node : (part : Part) (nodes rest : List CutsNode) → nodes ≡ [] → nodes ≡ nodes_of part ++ rest → ⊥
+pub some_node : (part : Part) (nodes rest : List CutNode) → nodes ≡ [] → nodes ≡ nodes_of part ++ rest → ⊥
 some_node (Leaf page points) nodes rest none is = cc
 some_node (Split (Some page) dimension key low border low_side high_side) nodes rest none is = cc
 some_node (Split None dimension key low border low_side high_side) nodes rest none is = cc
@@ -70,7 +70,7 @@ module _ {B : Type 0} (g : Ghosts B) (m : PageMap) where
       holds_one is_leaf points_in m page points others holds (subst (λ (p : ℕ). HoldsLeaf m p others) same s.spelled)
 
   -- the sum of a cut, at keys below it
-  pub cut_below : (part : Part) (dimension key low n version : ℕ) (border : Tree) (nodes rest : List CutsNode) (keys : List ℕ) (result : Result ℕ PageFault)
+  pub cut_below : (part : Part) (dimension key low n version : ℕ) (border : Tree) (nodes rest : List CutNode) (keys : List ℕ) (result : Result ℕ PageFault)
       → (c : IsCutOf part dimension key low border nodes rest) → suc g.DIMS ≤ length keys → suc g.DIMS ≤ 3 → slice_index keys dimension < key
       → (Stands low c.low_side → IsSum result (dominance_sum (suc g.DIMS) (points_of c.low_side) keys version))
       → Stands n part → IsSum result (dominance_sum (suc g.DIMS) (points_of part) keys version)
@@ -82,7 +82,7 @@ module _ {B : Type 0} (g : Ghosts B) (m : PageMap) where
       (sum (low_stands None dimension key low n border c.low_side c.high_side s)))
 
   -- the sum of a cut, from it on
-  pub cut_from : (part : Part) (dimension key low n version : ℕ) (border : Tree) (nodes rest : List CutsNode) (keys : List ℕ) (below above : ℕ)
+  pub cut_from : (part : Part) (dimension key low n version : ℕ) (border : Tree) (nodes rest : List CutNode) (keys : List ℕ) (below above : ℕ)
       → (c : IsCutOf part dimension key low border nodes rest) → suc g.DIMS ≤ length keys → suc g.DIMS ≤ 3 → key ≤ slice_index keys dimension
       → (low ≤ 64 → Stands low c.low_side → below ≡ dominance_sum (suc g.DIMS) (points_of c.low_side) keys version)
       → (64 < low → g.stands m border (border_points dimension (points_of c.low_side))
@@ -104,7 +104,7 @@ module _ {B : Type 0} (g : Ghosts B) (m : PageMap) where
       ])
 
   -- a cut whose low side was refused, and one whose high side was
-  pub refused_low : (part : Part) (dimension key low n : ℕ) (border : Tree) (nodes rest : List CutsNode) (fault : PageFault) (leaves edges total : ℕ)
+  pub refused_low : (part : Part) (dimension key low n : ℕ) (border : Tree) (nodes rest : List CutNode) (fault : PageFault) (leaves edges total : ℕ)
       → (c : IsCutOf part dimension key low border nodes rest) → (low ≤ 64 → Stands low c.low_side → IsSum (Err fault) leaves)
       → (64 < low → g.stands m border (border_points dimension (points_of c.low_side)) → IsSum (Err fault) edges) → Stands n part → IsSum (Err fault) total
   refused_low part dimension key low n border nodes rest fault leaves edges total c leaf edge =
@@ -114,14 +114,14 @@ module _ {B : Type 0} (g : Ghosts B) (m : PageMap) where
         | inr few ↦ any_total fault leaves total (leaf few (low_stands None dimension key low n border c.low_side c.high_side s))
       ])
 
-  pub refused_high : (part : Part) (dimension key low n : ℕ) (border : Tree) (nodes rest : List CutsNode) (fault : PageFault) (highs total : ℕ)
+  pub refused_high : (part : Part) (dimension key low n : ℕ) (border : Tree) (nodes rest : List CutNode) (fault : PageFault) (highs total : ℕ)
       → (c : IsCutOf part dimension key low border nodes rest) → (Stands (n - low) c.high_side → IsSum (Err fault) highs) → Stands n part → IsSum (Err fault) total
   refused_high part dimension key low n border nodes rest fault highs total c high =
       subst (λ (p : Part). Stands n p → IsSum (Err fault) total) (sym c.is) (λ s.
       any_total fault highs total (high (high_stands None dimension key low n border c.low_side c.high_side s)))
 
   -- The cut of a part that stands is sound.
-  pub cut_sound : HaveLaws g → (part : Part) (dimension key low n : ℕ) (border : Tree) (nodes rest : List CutsNode)
+  pub cut_sound : HaveLaws g → (part : Part) (dimension key low n : ℕ) (border : Tree) (nodes rest : List CutNode)
       → (c : IsCutOf part dimension key low border nodes rest) → Stands n part → IsSoundCut (suc g.DIMS) n dimension low border
   cut_sound laws part dimension key low n border nodes rest c =
       subst (λ (p : Part). Stands n p → IsSoundCut (suc g.DIMS) n dimension low border) (sym c.is) (λ s.
@@ -137,7 +137,7 @@ module _ {B : Type 0} (g : Ghosts B) (m : PageMap) where
       })
 
   -- A part of more than 64 points that begins with this page is a cut, whose nodes the page holds.
-  pub record IsCutAt (page n : ℕ) (part : Part) (nodes : List CutsNode) : Type 0 where
+  pub record IsCutAt (page n : ℕ) (part : Part) (nodes : List CutNode) : Type 0 where
     pub cut : Part
     pub nodes_are : nodes ≡ nodes_of cut ++ []
     pub inside : first_page cut ≡ None
@@ -145,7 +145,7 @@ module _ {B : Type 0} (g : Ghosts B) (m : PageMap) where
     pub points : points_of cut ≡ points_of part
     pub borders : PartBalanced g m part → PartBalanced g m cut
 
-  pub cut_at : (part : Part) (page n : ℕ) (nodes : List CutsNode) → first_page part ≡ Some page → 64 < n → HoldsCuts m page nodes
+  pub cut_at : (part : Part) (page n : ℕ) (nodes : List CutNode) → first_page part ≡ Some page → 64 < n → HoldsCuts m page nodes
       → Stands n part → IsCutAt page n part nodes
   cut_at (Leaf first points) page n nodes begins many holds s = absurd (omega (arith, s.shape, many))
   cut_at (Split None dimension key low border low_side high_side) page n nodes begins many holds s = absurd cc

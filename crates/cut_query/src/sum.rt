@@ -1,14 +1,14 @@
 //! The sum of a tree, of a part, and of a cut.
 ghost use Rattle.std.specs.Prelude.{◌≡◌, ◌+◌, ◌-◌, ◌<◌, ◌≤◌, ◌⊎◌, ◌++◌, ◌↔◌, ℕ, suc, List, length, Some, None, Err, IsTrue, OnOk};
-ghost use Rattle.bw_types.specs.Classes.{keys_without};
+ghost use Rattle.bw_types.specs.Without.{keys_without};
 ghost use Rattle.bw_types.specs.Dominance.{dominance_sum};
 ghost use Rattle.bw_types.specs.declared.point.Point.{Point};
 ghost use Rattle.page_ports.specs.Calls.{OnlyReads};
-ghost use Rattle.page_layout.specs.declared.cuts_page.CutsNode.{CutsNode};
+ghost use Rattle.page_layout.specs.declared.cut_page.CutNode.{CutNode};
 ghost use Rattle.dom_index.specs.Points.{AreKeysBelow};
 ghost use Rattle.cut_parts.specs.Borders.{IsSum};
 ghost use Rattle.cut_parts.specs.Damage.{BeforeCut, BeforePage, BeforePart, IsDamagedForSum, IsDamagedOnWay, IsSoundCut};
-ghost use Rattle.cut_parts.specs.Depths.{IsCost, reads_within};
+ghost use Rattle.bw_types.specs.Depths.{IsCost, reads_within};
 ghost use Rattle.cut_parts.specs.Parts.{Part, IsBalancedCut, points_of};
 ghost use Rattle.cut_parts.specs.Spelling.{first_page, nodes_of};
 ghost use Rattle.cut_parts.specs.Standing.{CutsBalanced, CutsStand, PartBalanced, PartStands, cuts_cost};
@@ -17,7 +17,7 @@ use bw_types::Tree;
 use cut_pages::{Nodes, leaf_sum, view_cuts};
 use cut_parts::BorderTree;
 use cut_points::drop_key;
-use page_layout::CutsNode;
+use page_layout::CutNode;
 use page_ports::{PageFault, Pages, blank_page};
 
 /// The sum of the weights of the points whose version and keys are at or below those given, modulo `2^128`. It takes no memory.
@@ -135,26 +135,26 @@ fn part_sum<B: BorderTree, P: Pages>(
     version: u32,
 ) -> Result<u128, PageFault>
     requires keys { AreKeysBelow (suc B.DIMS) keys.now }
-    ensures sum { IsTrue (P.tells pages.old) → (part : Part) (rest : List CutsNode) → nodes.now ≡ nodes_of part ++ rest
+    ensures sum { IsTrue (P.tells pages.old) → (part : Part) (rest : List CutNode) → nodes.now ≡ nodes_of part ++ rest
         → PartStands B.BorderTree (P.map pages.old) count part → IsSum result (dominance_sum (suc B.DIMS) (points_of part) keys.now version) }
     ensures damaged { (damaged : ℕ) → result ≡ Err (PageFault.Damaged damaged) → IsTrue (P.tells pages.old)
         → IsDamagedOnWay B.BorderTree (P.map pages.old) count (BeforePart page nodes.now) keys.now version damaged }
     ensures whole { OnOk result (IsTrue (P.tells pages.old) → (damaged : ℕ)
         → ¬ IsDamagedOnWay B.BorderTree (P.map pages.old) count (BeforePart page nodes.now) keys.now version damaged) }
     ensures reads { OnlyReads P.Pages (P.gets pages.new) pages.old pages.new result }
-    ensures cost { IsTrue (P.tells pages.old) → IsCost B.cost → (part : Part) (rest : List CutsNode) → nodes.now ≡ nodes_of part ++ rest
+    ensures cost { IsTrue (P.tells pages.old) → IsCost B.cost → (part : Part) (rest : List CutNode) → nodes.now ≡ nodes_of part ++ rest
         → PartStands B.BorderTree (P.map pages.old) count part → PartBalanced B.BorderTree (P.map pages.old) part
         → P.gets pages.new ≤ P.gets pages.old + reads_within B.cost count count }
 {
     match nodes.split_first() {
         None => Err(PageFault::Damaged(page)),
-        Some((CutsNode::Entry { child }, _)) => {
+        Some((CutNode::Entry { child }, _)) => {
             match page_sum::<B, P>(pages, child, count, keys, version) {
                 Err(fault) => Err(fault),
                 Ok(value) => Ok(value),
             }
         }
-        Some((CutsNode::Cut { .. }, _)) => {
+        Some((CutNode::Cut { .. }, _)) => {
             match cut_sum::<B, P>(pages, page, nodes, count, keys, version) {
                 Err(fault) => Err(fault),
                 Ok(value) => Ok(value),
@@ -174,20 +174,20 @@ fn cut_sum<B: BorderTree, P: Pages>(
     version: u32,
 ) -> Result<u128, PageFault>
     requires keys { AreKeysBelow (suc B.DIMS) keys.now }
-    ensures sum { IsTrue (P.tells pages.old) → (part : Part) (rest : List CutsNode) → nodes.now ≡ nodes_of part ++ rest → first_page part ≡ None
+    ensures sum { IsTrue (P.tells pages.old) → (part : Part) (rest : List CutNode) → nodes.now ≡ nodes_of part ++ rest → first_page part ≡ None
         → PartStands B.BorderTree (P.map pages.old) count part → IsSum result (dominance_sum (suc B.DIMS) (points_of part) keys.now version) }
     ensures damaged { (damaged : ℕ) → result ≡ Err (PageFault.Damaged damaged) → IsTrue (P.tells pages.old)
         → IsDamagedOnWay B.BorderTree (P.map pages.old) count (BeforeCut page nodes.now) keys.now version damaged }
     ensures whole { OnOk result (IsTrue (P.tells pages.old) → (damaged : ℕ)
         → ¬ IsDamagedOnWay B.BorderTree (P.map pages.old) count (BeforeCut page nodes.now) keys.now version damaged) }
     ensures reads { OnlyReads P.Pages (P.gets pages.new) pages.old pages.new result }
-    ensures cost { IsTrue (P.tells pages.old) → IsCost B.cost → (part : Part) (rest : List CutsNode) → nodes.now ≡ nodes_of part ++ rest → first_page part ≡ None
+    ensures cost { IsTrue (P.tells pages.old) → IsCost B.cost → (part : Part) (rest : List CutNode) → nodes.now ≡ nodes_of part ++ rest → first_page part ≡ None
         → PartStands B.BorderTree (P.map pages.old) count part → PartBalanced B.BorderTree (P.map pages.old) part
         → P.gets pages.new ≤ P.gets pages.old + (reads_within B.cost count count - 1) }
 {
     let Some(
         (
-            CutsNode::Cut {
+            CutNode::Cut {
                 dimension,
                 key,
                 low,
@@ -235,7 +235,7 @@ fn low_sum<B: BorderTree, P: Pages>(
 ) -> Result<u128, PageFault>
     requires dimension { (dimension < suc B.DIMS) × (suc B.DIMS ≤ 3) }
     requires keys { AreKeysBelow (suc B.DIMS) keys.now }
-    ensures leaf { low ≤ 64 → IsTrue (P.tells pages.old) → (part : Part) (rest : List CutsNode) → nodes.now ≡ nodes_of part ++ rest
+    ensures leaf { low ≤ 64 → IsTrue (P.tells pages.old) → (part : Part) (rest : List CutNode) → nodes.now ≡ nodes_of part ++ rest
         → PartStands B.BorderTree (P.map pages.old) low part → IsSum result (dominance_sum (suc B.DIMS) (points_of part) keys.now version) }
     ensures border { 64 < low → IsTrue (P.tells pages.old) → (points : List Point) → B.stands (P.map pages.old) border.now points
         → IsSum result (dominance_sum B.DIMS points (keys_without dimension keys.now) version) }
@@ -247,7 +247,7 @@ fn low_sum<B: BorderTree, P: Pages>(
     ensures border_whole { OnOk result (64 < low → IsTrue (P.tells pages.old) → (damaged : ℕ)
         → ¬ B.damaged_for_sum (P.map pages.old) border.now (keys_without dimension keys.now) version damaged) }
     ensures reads { OnlyReads P.Pages (P.gets pages.new) pages.old pages.new result }
-    ensures leaf_cost { low ≤ 64 → IsTrue (P.tells pages.old) → IsCost B.cost → (part : Part) (rest : List CutsNode) → nodes.now ≡ nodes_of part ++ rest
+    ensures leaf_cost { low ≤ 64 → IsTrue (P.tells pages.old) → IsCost B.cost → (part : Part) (rest : List CutNode) → nodes.now ≡ nodes_of part ++ rest
         → PartStands B.BorderTree (P.map pages.old) low part → PartBalanced B.BorderTree (P.map pages.old) part
         → P.gets pages.new ≤ P.gets pages.old + reads_within B.cost low low }
     ensures border_cost { 64 < low → IsTrue (P.tells pages.old) → (points : List Point) → B.stands (P.map pages.old) border.now points

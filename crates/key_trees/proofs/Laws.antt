@@ -1,13 +1,13 @@
 -- What holds of every multiversion tree, as a border.
 use Rattle.std.proofs.Common.{◌+◌, ◌≤◌, refl, arith, lit≤}
-use Rattle.bw_types.specs.Heights.{digit_count}
-use Rattle.bw_types.specs.HeightLaws.{digits_grow, powers_have_digits}
+use Rattle.bw_types.specs.Digits.{digit_count}
+use Rattle.bw_types.specs.DigitLaws.{digits_grow, powers_have_digits}
 use Rattle.mvsb_tree.specs.Laws as over_keys
 use Rattle.mvsb_tree.specs.Stands.{IsBalanced, IsEmptyTree, MvStands}
 use Rattle.mvsb_tree.specs.Steps.{tree_pages}
 use Rattle.bw_types.specs.Empty.{empty_tree}
 use Rattle.cut_parts.specs.Borders.{HoldForTrees}
-use Rattle.cut_parts.specs.Depths.{IsCost}
+use Rattle.bw_types.specs.Depths.{IsCost}
 
 cost_of : IsCost (λ n. digit_count 32 n + digit_count 24 n)
 cost_of = record {

@@ -1,7 +1,9 @@
 //! The borders over one dimension: multiversion trees.
-ghost use Rattle.std.specs.Prelude.{◌+◌, slice_index};
-ghost use Rattle.bw_types.specs.Heights.{digit_count};
-ghost use Rattle.mvsb_tree.specs.Damage.{IsDamagedForValue};
+ghost use Rattle.std.specs.Prelude.{◌≡◌, ◌+◌, ◌⊎◌, true, slice_index};
+ghost use Rattle.bw_types.specs.Digits.{digit_count};
+ghost use Rattle.page_ports.specs.Frame.{names_page};
+ghost use Rattle.mvsb_tree.specs.Damage.{IsDamagedForFree, IsDamagedForValue};
+ghost use Rattle.mvsb_tree.specs.Index.{IsDamagedForPoint, MayChange};
 ghost use Rattle.mvsb_tree.specs.Stands.{IsBalanced, MvStands};
 ghost use Rattle.mvsb_tree.specs.Steps.{tree_pages};
 
@@ -36,6 +38,13 @@ impl BorderTree for KeyTree {
     ghost share = { λ _. 24 };
 
     ghost damaged_for_sum = { λ pages tree keys version page. IsDamagedForValue pages tree (slice_index keys 0) version page };
+
+    ghost may_change = { λ pages tree page. MayChange pages tree page };
+
+    ghost damaged_for_add = { λ pages tree point page. IsDamagedForPoint pages tree point page };
+
+    // A page of the tree may be gone where it is reached a second time.
+    ghost damaged_for_drop = { λ pages tree page. IsDamagedForFree pages tree page ⊎ (names_page (tree_pages pages tree) page ≡ true) };
 
     fn sum<P: Pages>(
         pages: &mut P,

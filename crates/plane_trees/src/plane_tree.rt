@@ -1,5 +1,7 @@
 //! The borders over two dimensions: trees of cuts.
-ghost use Rattle.cut_parts.specs.Damage.{IsDamagedForSum};
+ghost use Rattle.std.specs.Prelude.{◌≤◌};
+ghost use Rattle.cut_parts.specs.Damage.{BeforePage, IsDamagedForSum};
+ghost use Rattle.cut_parts.specs.Reach.{IsDamagedForAdd, IsDamagedForDrop, Leads};
 ghost use Rattle.cut_parts.specs.Standing.{CutsBalanced, CutsStand, cuts_cost, cuts_growth, cuts_share, tree_pages};
 
 use bw_types::{Point, Tree};
@@ -37,6 +39,12 @@ impl BorderTree for PlaneTree {
     ghost share = { λ count. cuts_share ⟦<KeyTree as BorderTree>⟧ count };
 
     ghost damaged_for_sum = { λ pages tree keys version page. IsDamagedForSum ⟦<KeyTree as BorderTree>⟧ pages tree keys version page };
+
+    ghost may_change = { λ pages tree page. Leads ⟦<KeyTree as BorderTree>⟧ pages tree page };
+
+    ghost damaged_for_add = { λ pages tree point page. IsDamagedForAdd ⟦<KeyTree as BorderTree>⟧ pages tree point page };
+
+    ghost damaged_for_drop = { λ pages tree page. (1 ≤ tree.count) × IsDamagedForDrop ⟦<KeyTree as BorderTree>⟧ pages tree.count (BeforePage tree.root) page };
 
     fn sum<P: Pages>(
         pages: &mut P,

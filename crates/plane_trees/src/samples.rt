@@ -6,11 +6,19 @@ use cut_index::tree_add;
 use cut_points::may_be_built;
 use cut_query::tree_sum;
 use key_trees::KeyTree;
-use page_ports::{MemStage, PageFault, Pages, StageFault, blank_page};
+use page_ports::{MemStage, PageFault, Pages, Stage, StageFault, blank_page};
 use std::alloc::{AllocError, Global};
 
 /// The greatest key of a sum, 2^64 - 2^32 - 1.
 pub(crate) const GREATEST: u64 = 18446744069414584319;
+
+/// The next of numbers that look random.
+pub(crate) fn draw(state: &mut u64) -> u32 {
+    *state = state
+        .wrapping_mul(6364136223846793005)
+        .wrapping_add(1442695040888963407);
+    (*state >> 32) as u32
+}
 
 /// A point of this number with all coordinates the same, of version 1 and weight 1.
 pub(crate) fn point_at(coordinate: u32, number: u32) -> Point {
@@ -32,9 +40,9 @@ pub(crate) fn row(alloc: Global, count: u32) -> Result<Vec<Point>, AllocError> {
 }
 
 /// Builds a tree of points over three dimensions, or over two.
-pub(crate) fn built(
+pub(crate) fn built<S: Stage>(
     alloc: Global,
-    stage: &mut MemStage,
+    stage: &mut S,
     three: bool,
     points: &mut [Point],
 ) -> Result<Tree, StageFault> {
@@ -42,18 +50,18 @@ pub(crate) fn built(
         if !may_be_built(points, 3) {
             return Err(StageFault::Damaged(0));
         }
-        return build::<PlaneTree, MemStage>(alloc, stage, points);
+        return build::<PlaneTree, S>(alloc, stage, points);
     }
     if !may_be_built(points, 2) {
         return Err(StageFault::Damaged(0));
     }
-    build::<KeyTree, MemStage>(alloc, stage, points)
+    build::<KeyTree, S>(alloc, stage, points)
 }
 
 /// Adds a point to a tree over three dimensions, or over two.
-pub(crate) fn add(
+pub(crate) fn add<S: Stage>(
     alloc: Global,
-    stage: &mut MemStage,
+    stage: &mut S,
     three: bool,
     tree: &mut Tree,
     point: &Point,
@@ -63,9 +71,9 @@ pub(crate) fn add(
         return Err(StageFault::Damaged(0));
     }
     if three {
-        tree_add::<PlaneTree, MemStage>(alloc, stage, tree, point)
+        tree_add::<PlaneTree, S>(alloc, stage, tree, point)
     } else {
-        tree_add::<KeyTree, MemStage>(alloc, stage, tree, point)
+        tree_add::<KeyTree, S>(alloc, stage, tree, point)
     }
 }
 

@@ -1,13 +1,13 @@
-//! Trees by hand, and trees of which a page is broken.
-use crate::samples::{GREATEST, add, built, collected, drop_all, point_at, row, sum, total};
+//! Trees by hand.
+use crate::samples::{GREATEST, sum};
 use arrayvec::ArrayVec;
 use bw_types::{Point, Tree};
 use cut_pages::make_leaf;
 use cut_parts::BorderTree;
 use key_trees::KeyTree;
 use page_access::make_page;
-use page_layout::{CutsNode, CutsPage, Spelled};
-use page_ports::{MemStage, PageFault, Pages, Stage, StageFault, blank_page};
+use page_layout::{CutNode, CutPage, Spelled};
+use page_ports::{MemStage, PageFault, Stage, StageFault};
 use std::alloc::Global;
 use std::test::Fail;
 
@@ -93,15 +93,15 @@ fn leaf(stage: &mut MemStage) -> Result<u64, StageFault> {
 /// A page of a cut at 10 in the first dimension, with 65 points on its low side.
 fn page_of_cut(stage: &mut MemStage, border: Tree, low: u64, high: u64) -> Result<u64, StageFault> {
     let mut nodes = ArrayVec::new();
-    nodes.push(CutsNode::Cut {
+    nodes.push(CutNode::Cut {
         dimension: 0,
         key: 10,
         low: 65,
         border,
     });
-    nodes.push(CutsNode::Entry { child: low });
-    nodes.push(CutsNode::Entry { child: high });
-    let page = CutsPage { nodes };
+    nodes.push(CutNode::Entry { child: low });
+    nodes.push(CutNode::Entry { child: high });
+    let page = CutPage { nodes };
     if !page.keeps_rules() {
         return Err(StageFault::Damaged(0));
     }
@@ -121,58 +121,5 @@ fn a_cut_with_a_border(rt: HostRuntime) -> Result<(), Fail> {
         sum_at(&mut stage, &tree, 5, 9, 1),
         Err(PageFault::Damaged(zeros))
     );
-    Ok(())
-}
-
-/// Puts noise in the place of the page, where it is in use, and tells whether it is.
-fn broken<S: Stage>(stage: &mut S, page: u64) -> Result<bool, StageFault> {
-    let mut bytes = blank_page();
-    match stage.get(page, &mut bytes) {
-        Err(_) => Ok(false),
-        Ok(()) => {
-            stage.put(page, &[255; 4096])?;
-            Ok(true)
-        }
-    }
-}
-
-/// Whether a call that met the page called it damaged.
-fn is_answer<T: Drop>(answer: Result<T, StageFault>, page: u64) -> bool {
-    match answer {
-        Ok(_) => true,
-        Err(fault) => fault == StageFault::Damaged(page),
-    }
-}
-
-const COUNT: u32 = 300;
-
-/// Whether each call to a tree with this page broken answers rightly, or calls the page damaged.
-fn each_answers(alloc: Global, page: u64) -> Result<bool, StageFault> {
-    let mut stage = MemStage::new(alloc, 10000);
-    let mut points = row(alloc, COUNT).map_err(|_| StageFault::NoMemory)?;
-    let mut tree = built(alloc, &mut stage, false, points.as_mut_slice())?;
-    if !broken(&mut stage, page)? {
-        return Ok(true);
-    }
-    let found = total(&mut stage, false, &tree);
-    let kept = collected(alloc, &mut stage, false, &tree);
-    let added = add(alloc, &mut stage, false, &mut tree, &point_at(0, COUNT));
-    let dropped = drop_all(&mut stage, false, &tree);
-    Ok(
-        (found == Ok(u128::from(COUNT)) || found == Err(PageFault::Damaged(page)))
-            && is_answer(kept, page)
-            && is_answer(added, page)
-            && is_answer(dropped, page),
-    )
-}
-
-#[test]
-fn a_page_of_noise(rt: HostRuntime) -> Result<(), Fail> {
-    let mut stage = MemStage::new(rt.alloc(), 10000);
-    let mut points = row(rt.alloc(), COUNT)?;
-    built(rt.alloc(), &mut stage, false, points.as_mut_slice())?;
-    for page in 3..stage.allotted() {
-        assert!(rt; each_answers(rt.alloc(), page)?);
-    }
     Ok(())
 }

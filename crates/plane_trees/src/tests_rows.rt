@@ -5,7 +5,7 @@ use crate::walker::cuts_of;
 use bw_types::Tree;
 use cut_pages::{read_cuts, read_leaf};
 use cut_parts::BorderTree;
-use page_layout::{CutsNode, CutsPage};
+use page_layout::{CutNode, CutPage};
 use page_ports::{MemStage, PageFault, StageFault};
 use std::alloc::Global;
 use std::test::Fail;
@@ -26,10 +26,10 @@ fn points_on(stage: &mut MemStage, page: u64) -> Result<usize, PageFault> {
     Err(PageFault::Damaged(page))
 }
 
-fn kind_of(stage: &mut MemStage, node: &CutsNode) -> Result<Kind, PageFault> {
+fn kind_of(stage: &mut MemStage, node: &CutNode) -> Result<Kind, PageFault> {
     match node {
-        CutsNode::Entry { child } => Ok(Kind::Leaf(points_on(stage, *child)?)),
-        CutsNode::Cut {
+        CutNode::Entry { child } => Ok(Kind::Leaf(points_on(stage, *child)?)),
+        CutNode::Cut {
             dimension,
             key: _,
             low,
@@ -40,7 +40,7 @@ fn kind_of(stage: &mut MemStage, node: &CutsNode) -> Result<Kind, PageFault> {
 
 /// Whether the nodes on the page, which is above leaves alone, are these.
 fn holds(stage: &mut MemStage, page: u64, kinds: &[Kind]) -> Result<bool, PageFault> {
-    let cuts: CutsPage = read_cuts(stage, page)?;
+    let cuts: CutPage = read_cuts(stage, page)?;
     if cuts.nodes.len() != kinds.len() {
         return Ok(false);
     }
@@ -56,7 +56,7 @@ fn holds(stage: &mut MemStage, page: u64, kinds: &[Kind]) -> Result<bool, PageFa
 fn first_border(stage: &mut MemStage, page: u64) -> Result<Tree, PageFault> {
     match read_cuts(stage, page)?.nodes.as_slice().first() {
         Some(
-            CutsNode::Cut {
+            CutNode::Cut {
                 dimension: _,
                 key: _,
                 low: _,

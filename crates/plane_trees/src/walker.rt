@@ -1,7 +1,7 @@
 //! A walker through the pages of a tree, which tells whether its cuts and leaves are as they have to be.
 use bw_types::{Point, Region, Tree};
 use cut_pages::{read_cuts, read_leaf};
-use page_layout::{CutsNode, CutsPage};
+use page_layout::{CutNode, CutPage};
 use page_ports::{PageFault, Pages, StageFault};
 use std::alloc::{AllocError, Global};
 
@@ -79,7 +79,7 @@ fn walk_page<P: Pages>(
 fn walk_cuts(
     alloc: Global,
     dims: usize,
-    cuts: &CutsPage,
+    cuts: &CutPage,
     side: &Side,
     due: &mut Vec<(u64, Side)>,
     met: &mut Vec<Met>,
@@ -91,8 +91,8 @@ fn walk_cuts(
             return Ok(false);
         };
         match *node {
-            CutsNode::Entry { child } => due.push((child, side))?,
-            CutsNode::Cut {
+            CutNode::Entry { child } => due.push((child, side))?,
+            CutNode::Cut {
                 dimension,
                 key,
                 low,

@@ -3,7 +3,7 @@ use Rattle.bw_types.specs.declared.point.Point.{Point}
 use Rattle.page_ports.specs.Calls.{Grows}
 use Rattle.cut_parts.specs.Borders.{IsBuiltOf, MayBeBuilt}
 use Rattle.cut_parts.specs.Parts.{border_points}
-use Rattle.bw_types.specs.Classes.{without_dimension}
+use Rattle.bw_types.specs.Without.{without_dimension}
 use Rattle.cut_parts.proofs.BorderPoints.{border_may}
 use Rattle.cut_parts.proofs.Halves.{length_mapped}
 use Rattle.cut_build.proofs.Growth.{builds_end, map_ok, no_memory, went_none}

@@ -1,6 +1,8 @@
-use Rattle.std.proofs.Common.{◌≡◌, ℕ, ◌-◌, ◌*◌, ◌<◌, ◌≤◌, ◌==◌, false, ◌∙◌, sym, ap, subst, suc, arith, List, length, Err, Ok, refl}
+use Rattle.page_ports.specs.Pages.{PageMap}
+use Rattle.page_ports.specs.declared.page.StageFault.TheVariants.{Damaged}
+use Rattle.std.proofs.Common.{◌≡◌, ℕ, ◌-◌, ◌*◌, ◌<◌, ◌≤◌, ◌==◌, false, ◌∙◌, sym, ap, subst, suc, arith, List, length, Err, Ok, refl, inl, inr}
 use Rattle.std.proofs.lemmas.Bool.{eq-eqb, le-ltb, ne_eqb}
-use Rattle.bw_types.specs.Classes.{keys_without, without_dimension}
+use Rattle.bw_types.specs.Without.{keys_without, without_dimension}
 use Rattle.bw_types.specs.declared.point.Point.{Point}
 use Rattle.dom_index.specs.Points.{AreKeysBelow, IsNewPoint}
 use Rattle.cut_parts.specs.Borders.{TakesPoint}
@@ -122,3 +124,20 @@ returns-in-Ok-add-clause-well g c = λ tells side takes balanced.
       changes = again g.S.Pages (b.growth (length kept)) (border_growth b c.args.low) c.args.stage.now c.add.new.stage _ c.add.new.tree number growth;
       sound = λ order page e. cc;
     }
+
+pub returns-in-Err-clause-damaged : goal.returns-in-Err-clause-damaged
+returns-in-Err-clause-damaged g c = λ damaged e tells. elim (c.begin_border.ensures.damaged damaged (c.in-Err.is ∙ e) tells) [
+  | inl begun ↦ inl (inl (c.if-low-eq64.true, begun))
+  | inr unordered ↦ inr unordered
+]
+
+pub returns-in-Err-add-clause-damaged : goal.returns-in-Err-add-clause-damaged
+returns-in-Err-add-clause-damaged g c = λ damaged e tells.
+    let b = g.B.BorderTree in
+    let m : PageMap = g.S.Pages.map c.args.stage.now in
+    let more : 64 < c.args.low = omega (arith, c.if-low-lt64.false, c.if-low-eq64.false) in
+    let is : c.in-Err-add.fault ≡ Damaged damaged = cc in
+    elim (c.add.ensures.damaged damaged (c.in-Err-add.is ∙ ap (λ (fault : StageFault). Err fault) is) tells) [
+      | inl found ↦ inl (inr (more, subst (λ (p : Point). b.damaged_for_add m c.args.border.now p damaged) c.drop_dimension.ensures found))
+      | inr unordered ↦ inr unordered
+    ]

@@ -1,6 +1,8 @@
-use Rattle.std.proofs.Common.{◌∷◌, [], ◌∙◌, subst, arith}
+use Rattle.std.proofs.Common.{◌≡◌, ◌∷◌, [], ◌∙◌, ap, Err, subst, arith}
 use Rattle.page_ports.specs.Pages.{PageMap}
-use Rattle.page_layout.specs.declared.cuts_page.CutsNode.TheVariants.{Entry}
+use Rattle.page_ports.specs.declared.page.StageFault.{StageFault}
+use Rattle.page_ports.specs.declared.page.StageFault.TheVariants.{Damaged}
+use Rattle.page_layout.specs.declared.cut_page.CutNode.TheVariants.{Entry}
 use Rattle.cut_index.specs.Additions.{IsAddedAs, nodes_after}
 use Rattle.cut_index.specs.declared.change.Change.{Change}
 use Rattle.cut_index.proofs.Pieces.{new_home}
@@ -18,3 +20,8 @@ returns-in-Ok-clause-added g c = λ tells part begins take.
     let grown : IsAddedAs b m0 m1 c.args.count part p (up.cut ∷ Entry up.low ∷ Entry up.high ∷ []) =
     subst (λ (change : Change). IsAddedAs b m0 m1 c.args.count part p (nodes_after change c.args.root)) up.field-0-is (up.ensures.added tells part begins take) in
     new_home b c.border_laws.ensures.laws m0 m1 (g.S.Pages.map c.new_root.new.stage) c.args.count c.in-Ok.first part p (up.cut ∷ Entry up.low ∷ Entry up.high ∷ []) (omega arith) grown made.0 made.1
+
+pub returns-in-Err-clause-damaged : goal.returns-in-Err-clause-damaged
+returns-in-Err-clause-damaged g c = λ damaged e tells.
+    let is : c.in-Err.fault ≡ Damaged damaged = cc in
+    c.page_add.ensures.damaged damaged (c.in-Err.is ∙ ap (λ (fault : StageFault). Err fault) is) tells

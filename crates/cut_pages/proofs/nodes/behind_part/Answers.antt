@@ -1,12 +1,12 @@
 use Rattle.std.proofs.Common.{List, length, ◌<◌, arith, refl, ap}
-use Rattle.page_layout.specs.CutsPage.{cut_one}
-use Rattle.page_layout.specs.declared.cuts_page.CutsNode.{CutsNode}
-use Rattle.page_layout.specs.declared.cuts_page.CutsNode.TheVariants.{Entry}
+use Rattle.page_layout.specs.CutPage.{cut_one}
+use Rattle.page_layout.specs.declared.cut_page.CutNode.{CutNode}
+use Rattle.page_layout.specs.declared.cut_page.CutNode.TheVariants.{Entry}
 use Rattle.cut_pages.proofs.Stepping.{cut_of_step, entry_of_step, few_before, next_place, past_cut, past_entry}
 use Rattle.cut_pages.proofs.nodes.behind_part.Goals as goal
 use Rattle.cut_pages.proofs.nodes.behind_part.Goals.{in-Leads, in-Parts}
 
-none : CutsNode
+none : CutNode
 none = Entry 0
 
 pub overflow_add-parts : goal.overflow_add-parts
@@ -22,7 +22,7 @@ overflow_add-before c =
 pub loop-parts-preserved : goal.loop-parts-preserved
 loop-parts-preserved c =
     let inv = c.loop-parts.invariant in
-    let nodes : List CutsNode = c.args.cuts.now.nodes.items in
+    let nodes : List CutNode = c.args.cuts.now.nodes.items in
     let place = c.loop-parts.place in
     let lt : place < length nodes = omega (arith, c.if-place-count.true, c.node_count-count.ensures) in
     elim c.match-step.branch [

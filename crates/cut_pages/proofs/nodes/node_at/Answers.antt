@@ -1,11 +1,11 @@
 use Rattle.std.proofs.Common.{arith, refl, ap}
-use Rattle.page_layout.specs.CutsPage.{cut_one}
-use Rattle.page_layout.specs.declared.cuts_page.CutsNode.{CutsNode}
-use Rattle.page_layout.specs.declared.cuts_page.CutsNode.TheVariants.{Entry}
+use Rattle.page_layout.specs.CutPage.{cut_one}
+use Rattle.page_layout.specs.declared.cut_page.CutNode.{CutNode}
+use Rattle.page_layout.specs.declared.cut_page.CutNode.TheVariants.{Entry}
 use Rattle.cut_pages.proofs.Stepping.{cut_of_step, cut_with_border, entry_of_step, few_before, first_node, next_place}
 use Rattle.cut_pages.proofs.nodes.node_at.Goals as goal
 
-none : CutsNode
+none : CutNode
 none = Entry 0
 
 pub overflow_add-next : goal.overflow_add-next

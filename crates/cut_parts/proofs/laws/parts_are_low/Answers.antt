@@ -1,4 +1,4 @@
-use Rattle.cut_parts.proofs.Depths.{gets_are_few, parts_are_counted, paths_are_short, reads_are_costs}
+use Rattle.cut_parts.proofs.Depths.{gets_are_few, parts_are_counted, paths_are_short}
 use Rattle.cut_parts.proofs.laws.parts_are_low.Goals as goal
 
 pub returns-clause-counted : goal.returns-clause-counted
@@ -9,6 +9,3 @@ returns-clause-paths c = paths_are_short
 
 pub returns-clause-gets : goal.returns-clause-gets
 returns-clause-gets c = gets_are_few
-
-pub returns-clause-costs : goal.returns-clause-costs
-returns-clause-costs c = reads_are_costs

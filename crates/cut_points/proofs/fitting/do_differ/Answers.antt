@@ -2,8 +2,8 @@ use Rattle.std.proofs.Common.{◌≡◌, ℕ, List, get_or, rules, subst}
 use Rattle.std.specs.List.Sorted.{IsNonDecreasingBy}
 use Rattle.std.proofs.lemmas.List.Sorted.{IsNonDecreasingBy-from_sort_by_key}
 use Rattle.bw_types.specs.declared.point.Point.{Point}
-use Rattle.kdb_pages.specs.Medians.{key_of}
-use Rattle.kdb_pages.proofs.Ordering.{keys_differ}
+use Rattle.cut_points.specs.Medians.{key_of}
+use Rattle.cut_points.proofs.Ordering.{keys_differ}
 use Rattle.cut_points.proofs.Apart.{differ_where_rising, rising_where_differ}
 use Rattle.cut_points.proofs.fitting.do_differ.Goals as goal
 

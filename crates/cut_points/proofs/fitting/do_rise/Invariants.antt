@@ -1,6 +1,6 @@
 use Rattle.std.proofs.Common.{◌<◌}
 use Rattle.std.specs.List.{AllAdjacentBelow}
-use Rattle.kdb_pages.specs.Medians.{key_of}
+use Rattle.cut_points.specs.Medians.{key_of}
 use Rattle.cut_points.proofs.fitting.do_rise.Given as goal
 
 abbrev pub invariant-loop-place : goal.invariant-loop-place

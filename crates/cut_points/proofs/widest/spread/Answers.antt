@@ -1,7 +1,7 @@
 use Rattle.std.proofs.Common.{◌≡◌, ℕ, suc, List, [], ◌∷◌, take, length, get_or, arith, ap, ◌∙◌}
 use Rattle.std.proofs.lemmas.List.{take_all}
 use Rattle.bw_types.specs.declared.point.Point.{Point}
-use Rattle.kdb_pages.specs.Medians.{key_of}
+use Rattle.cut_points.specs.Medians.{key_of}
 use Rattle.cut_points.specs.Widest.{greatest_key, least_key}
 use Rattle.cut_points.proofs.Spreads.{greatest_first, greatest_next, least_first, least_next}
 use Rattle.cut_points.proofs.widest.spread.Goals as goal

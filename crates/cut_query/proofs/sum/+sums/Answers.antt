@@ -1,20 +1,20 @@
 use Rattle.std.proofs.Common.{ap, Result, Ok, Err, suc, inl, inr, ◌≡◌, ◌++◌, ◌∷◌, ◌-◌, ◌<◌, ◌≤◌, ℕ, length, List, [], slice_index, rules, arith, sym, ◌∙◌, subst}
 use Rattle.std.proofs.lemmas.Bool.{false≢true}
-use Rattle.bw_types.specs.Classes.{keys_without}
+use Rattle.bw_types.specs.DepthLaws.{reads_some}
+use Rattle.bw_types.specs.Without.{keys_without}
 use Rattle.bw_types.specs.Dominance.{dominance_sum}
 use Rattle.bw_types.specs.declared.point.Point.{Point}
 use Rattle.page_ports.specs.Pages.{PageMap}
 use Rattle.page_ports.specs.declared.page.PageFault.{PageFault}
 use Rattle.page_ports.specs.declared.page.PageFault.TheVariants.{Damaged, Disk}
-use Rattle.page_layout.specs.declared.cuts_page.CutsNode.{CutsNode}
-use Rattle.page_layout.specs.declared.cuts_page.CutsNode.TheVariants.{Entry, Cut}
+use Rattle.page_layout.specs.declared.cut_page.CutNode.{CutNode}
+use Rattle.page_layout.specs.declared.cut_page.CutNode.TheVariants.{Entry, Cut}
 use Rattle.dom_index.specs.Points.{AreKeysBelow}
 use Rattle.cut_parts.specs.Borders.{IsSum}
 use Rattle.cut_parts.specs.Damage.{BeforeCut, BeforePart, IsDamagedOnWay, after_parts}
 use Rattle.cut_parts.specs.Parts.{border_points, points_of}
 use Rattle.cut_parts.specs.Spelling.{nodes_of}
 use Rattle.cut_parts.specs.Standing.{PartBalanced, PartStands}
-use Rattle.cut_parts.proofs.Depths.{reads_some}
 use Rattle.cut_parts.proofs.Nodes.{IsCutOf, cut_of}
 use Rattle.cut_pages.proofs.Places.{after_part}
 use Rattle.cut_query.proofs.Costs.{cut_cost_high, cut_cost_low, some_points}
@@ -152,7 +152,7 @@ cut_sum-returns-in-Err-part_sum-clause-sum g t c = λ tells part rest nodes_are 
     let cut : IsCutOf part at.dimension at.key at.low at.border at.rest rest = cut_of part at.dimension at.key at.low at.border at.rest rest (sym begun ∙ nodes_are) in
     let read = c.in-Ok-low_sum.ensures.reads.read in
     let after : c.after_part.result ≡ nodes_of cut.high_side ++ rest =
-    c.after_part.ensures ∙ ap (λ (ns : List CutsNode). after_parts 1 ns) cut.nodes_are ∙ after_part cut.low_side 0 (nodes_of cut.high_side ++ rest) in
+    c.after_part.ensures ∙ ap (λ (ns : List CutNode). after_parts 1 ns) cut.nodes_are ∙ after_part cut.low_side 0 (nodes_of cut.high_side ++ rest) in
     refused_high b m part at.dimension at.key at.low c.args.count at.border at.rest rest c.in-Err-part_sum.fault
     (dominance_sum (suc b.DIMS) (points_of cut.high_side) c.args.keys.now c.args.version)
     (dominance_sum (suc b.DIMS) (points_of part) c.args.keys.now c.args.version) cut
@@ -182,7 +182,7 @@ cut_sum-returns-in-Err-part_sum-clause-cost g t c = λ tells is part rest nodes_
     let cut : IsCutOf part at.dimension at.key at.low at.border at.rest rest = cut_of part at.dimension at.key at.low at.border at.rest rest (sym begun ∙ nodes_are) in
     let read = c.in-Ok-low_sum.ensures.reads.read in
     let after : c.after_part.result ≡ nodes_of cut.high_side ++ rest =
-    c.after_part.ensures ∙ ap (λ (ns : List CutsNode). after_parts 1 ns) cut.nodes_are ∙ after_part cut.low_side 0 (nodes_of cut.high_side ++ rest) in
+    c.after_part.ensures ∙ ap (λ (ns : List CutNode). after_parts 1 ns) cut.nodes_are ∙ after_part cut.low_side 0 (nodes_of cut.high_side ++ rest) in
     cut_cost_high b m is part at.dimension at.key at.low c.args.count at.border at.rest rest (g.P.Pages.gets c.args.pages.now) (g.P.Pages.gets c.low_sum.new.pages) (g.P.Pages.gets c.part_sum-in-Ok-low_sum.new.pages) cut
     (λ few s b. c.in-Ok-low_sum.ensures.leaf_cost few tells is cut.low_side (nodes_of cut.high_side ++ rest) cut.nodes_are s b)
     (λ many s b. c.in-Ok-low_sum.ensures.border_cost many tells (border_points at.dimension (points_of cut.low_side)) s b)
@@ -200,7 +200,7 @@ cut_sum-returns-in-Ok-part_sum-clause-cost g t c = λ tells is part rest nodes_a
     let cut : IsCutOf part at.dimension at.key at.low at.border at.rest rest = cut_of part at.dimension at.key at.low at.border at.rest rest (sym begun ∙ nodes_are) in
     let read = c.in-Ok-low_sum.ensures.reads.read in
     let after : c.after_part.result ≡ nodes_of cut.high_side ++ rest =
-    c.after_part.ensures ∙ ap (λ (ns : List CutsNode). after_parts 1 ns) cut.nodes_are ∙ after_part cut.low_side 0 (nodes_of cut.high_side ++ rest) in
+    c.after_part.ensures ∙ ap (λ (ns : List CutNode). after_parts 1 ns) cut.nodes_are ∙ after_part cut.low_side 0 (nodes_of cut.high_side ++ rest) in
     cut_cost_high b m is part at.dimension at.key at.low c.args.count at.border at.rest rest (g.P.Pages.gets c.args.pages.now) (g.P.Pages.gets c.low_sum.new.pages) (g.P.Pages.gets c.part_sum-in-Ok-low_sum.new.pages) cut
     (λ few s b. c.in-Ok-low_sum.ensures.leaf_cost few tells is cut.low_side (nodes_of cut.high_side ++ rest) cut.nodes_are s b)
     (λ many s b. c.in-Ok-low_sum.ensures.border_cost many tells (border_points at.dimension (points_of cut.low_side)) s b)
@@ -221,7 +221,7 @@ cut_sum-returns-in-Ok-part_sum-clause-sum g t c = λ tells part rest nodes_are i
     let from : at.key ≤ slice_index c.args.keys.now at.dimension = rw c.from.ensures at c.if-keys-from.false in
     let read = c.in-Ok-low_sum.ensures.reads.read in
     let after : c.after_part.result ≡ nodes_of cut.high_side ++ rest =
-    c.after_part.ensures ∙ ap (λ (ns : List CutsNode). after_parts 1 ns) cut.nodes_are ∙ after_part cut.low_side 0 (nodes_of cut.high_side ++ rest) in
+    c.after_part.ensures ∙ ap (λ (ns : List CutNode). after_parts 1 ns) cut.nodes_are ∙ after_part cut.low_side 0 (nodes_of cut.high_side ++ rest) in
     cut_from b m part at.dimension at.key at.low c.args.count c.args.version at.border at.rest rest c.args.keys.now c.in-Ok-low_sum.below c.in-Ok-part_sum.above cut
     (omega (arith, three, dims)) (omega (arith, dims)) from
     (λ few s. c.in-Ok-low_sum.ensures.leaf few tells cut.low_side (nodes_of cut.high_side ++ rest) cut.nodes_are s)
@@ -285,7 +285,7 @@ pub page_sum-returns-in-Err-cut_sum-clause-sum : goal.page_sum-returns-in-Err-cu
 page_sum-returns-in-Err-cut_sum-clause-sum g t c = λ tells part begins stands.
     let b = g.B.BorderTree in
     let m : PageMap = g.P.Pages.map c.args.pages.now in
-    let nodes : List CutsNode = c.in-Ok-view_cuts.cuts.nodes.items in
+    let nodes : List CutNode = c.in-Ok-view_cuts.cuts.nodes.items in
     let read = c.in-Ok-view_cuts.ensures.reads.read in
     let at = cut_at b m part c.args.page c.args.count nodes begins c.if-count-le64.false (c.in-Ok-view_cuts.ensures.found tells) stands in
     subst (λ (ps : List Point). IsSum (Err c.in-Err-cut_sum.fault) (dominance_sum (suc b.DIMS) ps c.args.keys.now c.args.version)) at.points
@@ -296,7 +296,7 @@ pub page_sum-returns-in-Err-cut_sum-clause-cost : goal.page_sum-returns-in-Err-c
 page_sum-returns-in-Err-cut_sum-clause-cost g t c = λ tells is part begins stands balanced.
     let b = g.B.BorderTree in
     let m : PageMap = g.P.Pages.map c.args.pages.now in
-    let nodes : List CutsNode = c.in-Ok-view_cuts.cuts.nodes.items in
+    let nodes : List CutNode = c.in-Ok-view_cuts.cuts.nodes.items in
     let read = c.in-Ok-view_cuts.ensures.reads.read in
     let at = cut_at b m part c.args.page c.args.count nodes begins c.if-count-le64.false (c.in-Ok-view_cuts.ensures.found tells) stands in
     let some = some_points part c.args.count stands.shape in
@@ -311,7 +311,7 @@ pub page_sum-returns-in-Ok-cut_sum-clause-sum : goal.page_sum-returns-in-Ok-cut_
 page_sum-returns-in-Ok-cut_sum-clause-sum g t c = λ tells part begins stands.
     let b = g.B.BorderTree in
     let m : PageMap = g.P.Pages.map c.args.pages.now in
-    let nodes : List CutsNode = c.in-Ok-view_cuts.cuts.nodes.items in
+    let nodes : List CutNode = c.in-Ok-view_cuts.cuts.nodes.items in
     let read = c.in-Ok-view_cuts.ensures.reads.read in
     let at = cut_at b m part c.args.page c.args.count nodes begins c.if-count-le64.false (c.in-Ok-view_cuts.ensures.found tells) stands in
     subst (λ (ps : List Point). IsSum (Ok c.in-Ok-cut_sum.value) (dominance_sum (suc b.DIMS) ps c.args.keys.now c.args.version)) at.points
@@ -322,7 +322,7 @@ pub page_sum-returns-in-Ok-cut_sum-clause-cost : goal.page_sum-returns-in-Ok-cut
 page_sum-returns-in-Ok-cut_sum-clause-cost g t c = λ tells is part begins stands balanced.
     let b = g.B.BorderTree in
     let m : PageMap = g.P.Pages.map c.args.pages.now in
-    let nodes : List CutsNode = c.in-Ok-view_cuts.cuts.nodes.items in
+    let nodes : List CutNode = c.in-Ok-view_cuts.cuts.nodes.items in
     let read = c.in-Ok-view_cuts.ensures.reads.read in
     let at = cut_at b m part c.args.page c.args.count nodes begins c.if-count-le64.false (c.in-Ok-view_cuts.ensures.found tells) stands in
     let some = some_points part c.args.count stands.shape in
@@ -337,23 +337,23 @@ pub page_sum-returns-in-Err-cut_sum-clause-damaged : goal.page_sum-returns-in-Er
 page_sum-returns-in-Err-cut_sum-clause-damaged g t c = λ damaged e tells.
     let b = g.B.BorderTree in
     let m : PageMap = g.P.Pages.map c.args.pages.now in
-    let nodes : List CutsNode = c.in-Ok-view_cuts.cuts.nodes.items in
+    let nodes : List CutNode = c.in-Ok-view_cuts.cuts.nodes.items in
     let read = c.in-Ok-view_cuts.ensures.reads.read in
     let way = c.in-Err-cut_sum.ensures.damaged damaged e (read.tells ∙ tells) in
     let there = subst (λ (n : PageMap). IsDamagedOnWay b n c.args.count (BeforeCut c.args.page c.on.result) c.args.keys.now c.args.version damaged) read.map way in
     on_page b m c.args.keys.now c.args.version damaged c.args.count c.args.page nodes c.if-count-le64.false (c.in-Ok-view_cuts.ensures.found tells)
-    (subst (λ (ns : List CutsNode). IsDamagedOnWay b m c.args.count (BeforeCut c.args.page ns) c.args.keys.now c.args.version damaged) c.on.ensures there)
+    (subst (λ (ns : List CutNode). IsDamagedOnWay b m c.args.count (BeforeCut c.args.page ns) c.args.keys.now c.args.version damaged) c.on.ensures there)
 
 pub page_sum-returns-in-Ok-cut_sum-clause-whole : goal.page_sum-returns-in-Ok-cut_sum-clause-whole
 page_sum-returns-in-Ok-cut_sum-clause-whole g t c = λ tells damaged way.
     let b = g.B.BorderTree in
     let m : PageMap = g.P.Pages.map c.args.pages.now in
-    let nodes : List CutsNode = c.in-Ok-view_cuts.cuts.nodes.items in
+    let nodes : List CutNode = c.in-Ok-view_cuts.cuts.nodes.items in
     let read = c.in-Ok-view_cuts.ensures.reads.read in
     let none = c.in-Ok-cut_sum.ensures.whole (read.tells ∙ tells) damaged in
     let there = subst (λ (n : PageMap). IsDamagedOnWay b n c.args.count (BeforeCut c.args.page c.on.result) c.args.keys.now c.args.version damaged → ⊥) read.map none in
     whole_page b m c.args.keys.now c.args.version damaged c.args.count c.args.page nodes c.if-count-le64.false (c.in-Ok-view_cuts.ensures.found tells)
-    (subst (λ (ns : List CutsNode). IsDamagedOnWay b m c.args.count (BeforeCut c.args.page ns) c.args.keys.now c.args.version damaged → ⊥) c.on.ensures there) way
+    (subst (λ (ns : List CutNode). IsDamagedOnWay b m c.args.count (BeforeCut c.args.page ns) c.args.keys.now c.args.version damaged → ⊥) c.on.ensures there) way
 
 pub part_sum-returns-in-None-clause-sum : goal.part_sum-returns-in-None-clause-sum
 part_sum-returns-in-None-clause-sum g t c = λ tells part rest nodes_are stands.

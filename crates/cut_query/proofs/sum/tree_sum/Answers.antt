@@ -1,5 +1,5 @@
 use Rattle.std.proofs.Common.{◌+◌, ◌≤◌, ℕ, suc, length, arith, ◌∙◌, subst}
-use Rattle.cut_parts.specs.Depths.{reads_within}
+use Rattle.bw_types.specs.Depths.{reads_within}
 use Rattle.cut_parts.specs.Parts.{points_of}
 use Rattle.cut_query.proofs.Costs.{part_balanced, some_in_tree}
 use Rattle.cut_query.proofs.Sums.{sum_any_order}

@@ -1,7 +1,7 @@
 use Rattle.std.proofs.Common.{◌+◌, ◌≤◌, ◌∙◌, ℕ, length, subst, arith}
 use Rattle.std.proofs.lemmas.Result.{IfOk-weaker}
 use Rattle.bw_types.specs.Dominance.{dominance_sum}
-use Rattle.bw_types.specs.Heights.{digit_count}
+use Rattle.bw_types.specs.Digits.{digit_count}
 use Rattle.key_trees.proofs.Sums.{first_key_sum, reads_of_itself, sum_of}
 use Rattle.key_trees.proofs.key_tree.KeyTreeBorderTree.sum.Goals as goal
 

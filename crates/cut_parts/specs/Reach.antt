@@ -1,0 +1,218 @@
+-- Where calls come in a tree of cuts, whatever the pages hold: which pages an addition may change, and what a call may call damaged.
+--
+-- An addition goes down the cuts on the way of its point. Where it goes low at a cut the border is changed first, so what is below is
+-- read in the pages that the addition to the border left. In a tree that stands the border has no page of the low side, which is then
+-- as it was. Where pages are shared, the way may lead anywhere from there, and what is said here allows it.
+use Rattle.std.specs.Prelude.{◌≡◌, ℕ, zero, suc, ◌-◌, ◌^◌, ◌<◌, ◌≤◌, ◌⊎◌, true, List, [], ◌∷◌, ◌++◌, length, Option, Some, None, slice_index}
+use Rattle.bw_types.specs.Empty.{empty_tree}
+use Rattle.bw_types.specs.Without.{without_dimension}
+use Rattle.bw_types.specs.declared.point.Point.{Point}
+use Rattle.bw_types.specs.declared.tree.Tree.{Tree}
+use Rattle.page_ports.specs.Frame.{AreInMap, Replaces, names_page}
+use Rattle.page_ports.specs.Pages.{PageMap}
+use Rattle.page_layout.specs.declared.cut_page.CutNode.{CutNode}
+use Rattle.page_layout.specs.declared.cut_page.CutNode.TheVariants.{Entry, Cut}
+use Rattle.cut_parts.specs.Borders.{MayBeBuilt, OthersStay}
+use Rattle.cut_parts.specs.Damage.{IsSoundCut, Spot, BeforePage, BeforePart, BeforeCut, after_parts}
+use Rattle.cut_parts.specs.Parts.{Part, Leaf, Split, HasShape, points_of}
+use Rattle.cut_parts.specs.Spelling.{HoldsCuts, HoldsLeaf, IsSpelled, nodes_of}
+use Rattle.cut_parts.specs.Standing.{part_pages}
+use Rattle.cut_parts.specs.declared.border_tree.BorderTree.{Ghosts}
+
+-- ---- a part that is there
+
+-- Each border is empty where its low side is a leaf, and else counts as many points as that side has.
+abbrev pub BordersFit : Part → Type 0
+BordersFit (Leaf page points) = Unit {0}
+BordersFit (Split home dimension key low border low_side high_side) =
+    (low ≤ 64 → border ≡ empty_tree) × (64 < low → border.count ≡ low) × BordersFit low_side × BordersFit high_side
+
+-- The nodes begin with those of a part of n points, which the pages spell. It need not part its points, and its borders may be any.
+pub record IsThere (pages : PageMap) (n : ℕ) (nodes : List CutNode) : Type 0 where
+  pub part : Part
+  pub rest : List CutNode
+  pub nodes_are : nodes ≡ nodes_of part ++ rest
+  pub shape : HasShape n part
+  pub fit : BordersFit part
+  pub spelled : IsSpelled pages part
+
+-- Such a part was dropped from a map that had lost other pages before. Of what this map was at first: all pages of the part were still
+-- there, and are gone; nothing else changed.
+pub record IsDropped {B : Type 0} (g : Ghosts B) (first old new : PageMap) (n : ℕ) (nodes : List CutNode) : Type 0 where
+  pub is : IsThere first n nodes
+  pub there : AreInMap old (part_pages g first is.part)
+  pub change : Replaces (part_pages g first is.part) [] old new
+
+-- ---- where a call comes that goes through a whole part
+
+-- What a call finds there is not as the n points of the part tell: the page has no leaf of so many, or no cuts; the nodes have ended
+-- before the part, or are no cut; or the cut is not sound.
+abbrev pub IsNotAsTold : ℕ → ℕ → PageMap → ℕ → Spot → Type 0
+IsNotAsTold dims damaged pages n (BeforePage page) =
+    (damaged ≡ page) × (((n ≤ 64) × ((points : List Point) → HoldsLeaf pages page points → length points ≡ n → ⊥))
+    ⊎ ((64 < n) × ((nodes : List CutNode) → HoldsCuts pages page nodes → ⊥)))
+IsNotAsTold dims damaged pages n (BeforePart page []) = damaged ≡ page
+IsNotAsTold dims damaged pages n (BeforePart page (node ∷ nodes)) = ⊥
+IsNotAsTold dims damaged pages n (BeforeCut page []) = damaged ≡ page
+IsNotAsTold dims damaged pages n (BeforeCut page (Entry child ∷ nodes)) = damaged ≡ page
+IsNotAsTold dims damaged pages n (BeforeCut page (Cut dimension key low border ∷ nodes)) =
+    (damaged ≡ page) × (IsSoundCut dims n dimension low border → ⊥)
+
+-- A call that goes through a whole part comes within so many steps to a place of which this holds: through pages of cuts, and at a cut
+-- that is sound to either side.
+abbrev pub WalksWithin : ℕ → (ℕ → Spot → Type 0) → ℕ → PageMap → ℕ → Spot → Type 0
+WalksWithin dims here zero pages n spot = ⊥
+WalksWithin dims here (suc steps) pages n (BeforePage page) =
+    here n (BeforePage page)
+    ⊎ ((64 < n) × ((nodes : List CutNode) × HoldsCuts pages page nodes × WalksWithin dims here steps pages n (BeforeCut page nodes)))
+WalksWithin dims here (suc steps) pages n (BeforePart page []) = here n (BeforePart page [])
+WalksWithin dims here (suc steps) pages n (BeforePart page (Entry child ∷ nodes)) = WalksWithin dims here steps pages n (BeforePage child)
+WalksWithin dims here (suc steps) pages n (BeforePart page (Cut dimension key low border ∷ nodes)) =
+    WalksWithin dims here steps pages n (BeforeCut page (Cut dimension key low border ∷ nodes))
+WalksWithin dims here (suc steps) pages n (BeforeCut page []) = here n (BeforeCut page [])
+WalksWithin dims here (suc steps) pages n (BeforeCut page (Entry child ∷ nodes)) = here n (BeforeCut page (Entry child ∷ nodes))
+WalksWithin dims here (suc steps) pages n (BeforeCut page (Cut dimension key low border ∷ nodes)) =
+    here n (BeforeCut page (Cut dimension key low border ∷ nodes))
+    ⊎ (IsSoundCut dims n dimension low border
+    × (WalksWithin dims here steps pages low (BeforePart page nodes)
+    ⊎ WalksWithin dims here steps pages (n - low) (BeforePart page (after_parts 1 nodes))))
+
+abbrev pub WalksTo : ℕ → (ℕ → Spot → Type 0) → PageMap → ℕ → Spot → Type 0
+WalksTo dims here pages n spot = (steps : ℕ) × WalksWithin dims here steps pages n spot
+
+-- Collecting a part calls a page damaged where it finds what is not as told.
+abbrev pub IsDamagedForCollect : ℕ → PageMap → ℕ → Spot → ℕ → Type 0
+IsDamagedForCollect dims pages n spot damaged = WalksTo dims (IsNotAsTold dims damaged pages) pages n spot
+
+-- Dropping a part may call a page damaged to which it comes, since that may be gone where it is reached a second time; and what dropping a
+-- border may.
+abbrev pub MayRefuseDrop : {B : Type 0} → Ghosts B → ℕ → PageMap → ℕ → Spot → Type 0
+MayRefuseDrop g damaged pages n (BeforePage page) = damaged ≡ page
+MayRefuseDrop g damaged pages n (BeforePart page []) = damaged ≡ page
+MayRefuseDrop g damaged pages n (BeforePart page (node ∷ nodes)) = ⊥
+MayRefuseDrop g damaged pages n (BeforeCut page []) = damaged ≡ page
+MayRefuseDrop g damaged pages n (BeforeCut page (Entry child ∷ nodes)) = damaged ≡ page
+MayRefuseDrop g damaged pages n (BeforeCut page (Cut dimension key low border ∷ nodes)) =
+    ((damaged ≡ page) × (IsSoundCut (suc g.DIMS) n dimension low border → ⊥)) ⊎ ((64 < low) × g.damaged_for_drop pages border damaged)
+
+abbrev pub IsDamagedForDrop : {B : Type 0} → Ghosts B → PageMap → ℕ → Spot → ℕ → Type 0
+IsDamagedForDrop g pages n spot damaged = WalksTo (suc g.DIMS) (MayRefuseDrop g damaged pages) pages n spot
+
+-- ---- where an addition comes
+
+-- An addition to the border of a cut with so many points low may leave these pages. One that is begun takes new pages alone.
+abbrev pub BorderMayLeave : {B : Type 0} → Ghosts B → PageMap → ℕ → Tree → PageMap → Type 0
+BorderMayLeave g before low border after = OthersStay (λ page. (64 < low) × g.may_change before border page) before after
+
+-- An addition of the point comes within so many steps to a place of which this holds, in the pages of then.
+abbrev pub ComesWithin : {B : Type 0} → Ghosts B → (PageMap → ℕ → Spot → Type 0) → Point → ℕ → PageMap → ℕ → Spot → Type 0
+ComesWithin g here point zero pages n spot = ⊥
+ComesWithin g here point (suc steps) pages n (BeforePage page) =
+    here pages n (BeforePage page)
+    ⊎ ((64 < n) × ((nodes : List CutNode) × HoldsCuts pages page nodes × ComesWithin g here point steps pages n (BeforeCut page nodes)))
+ComesWithin g here point (suc steps) pages n (BeforePart page []) = here pages n (BeforePart page [])
+ComesWithin g here point (suc steps) pages n (BeforePart page (Entry child ∷ nodes)) = ComesWithin g here point steps pages n (BeforePage child)
+ComesWithin g here point (suc steps) pages n (BeforePart page (Cut dimension key low border ∷ nodes)) =
+    ComesWithin g here point steps pages n (BeforeCut page (Cut dimension key low border ∷ nodes))
+ComesWithin g here point (suc steps) pages n (BeforeCut page []) = here pages n (BeforeCut page [])
+ComesWithin g here point (suc steps) pages n (BeforeCut page (Entry child ∷ nodes)) = here pages n (BeforeCut page (Entry child ∷ nodes))
+ComesWithin g here point (suc steps) pages n (BeforeCut page (Cut dimension key low border ∷ nodes)) =
+    here pages n (BeforeCut page (Cut dimension key low border ∷ nodes))
+    ⊎ (IsSoundCut (suc g.DIMS) n dimension low border
+    × (((key ≤ slice_index point.keys dimension) × ComesWithin g here point steps pages (n - low) (BeforePart page (after_parts 1 nodes)))
+    ⊎ ((slice_index point.keys dimension < key)
+    × ((after : PageMap) × BorderMayLeave g pages low border after × ComesWithin g here point steps after low (BeforePart page nodes)))))
+
+abbrev pub ComesTo : {B : Type 0} → Ghosts B → (PageMap → ℕ → Spot → Type 0) → Point → PageMap → ℕ → Spot → Type 0
+ComesTo g here point pages n spot = (steps : ℕ) × ComesWithin g here point steps pages n spot
+
+-- ---- what it changes
+
+-- The page is one of a part of n points that is there, with which the nodes begin.
+abbrev pub IsOfPartThere : {B : Type 0} → Ghosts B → PageMap → ℕ → List CutNode → ℕ → Type 0
+IsOfPartThere g pages n nodes page = (there : IsThere pages n nodes) × (names_page (part_pages g pages there.part) page ≡ true)
+
+-- An addition that has come there may change the page: it is the page before which it stands; a page of the border of the cut; or, where the
+-- part is made anew, a page of the part.
+abbrev pub ChangesAt : {B : Type 0} → Ghosts B → ℕ → PageMap → ℕ → Spot → Type 0
+ChangesAt g page pages n (BeforePage first) = page ≡ first
+ChangesAt g page pages n (BeforePart first nodes) = ⊥
+ChangesAt g page pages n (BeforeCut first []) = ⊥
+ChangesAt g page pages n (BeforeCut first (Entry child ∷ nodes)) = ⊥
+ChangesAt g page pages n (BeforeCut first (Cut dimension key low border ∷ nodes)) =
+    ((64 < low) × g.may_change pages border page)
+    ⊎ IsOfPartThere g pages n (Cut dimension key low border ∷ nodes) page
+
+-- The part of n points before which an addition of the point stands leads to this page.
+abbrev pub LeadsFrom : {B : Type 0} → Ghosts B → Point → PageMap → ℕ → Spot → ℕ → Type 0
+LeadsFrom g point pages n spot page = ComesTo g (ChangesAt g page) point pages n spot
+
+-- The tree leads to this page: an addition of some point may change it.
+abbrev pub Leads : {B : Type 0} → Ghosts B → PageMap → Tree → ℕ → Type 0
+Leads g pages tree page = (1 ≤ tree.count) × ((point : Point) × LeadsFrom g point pages tree.count (BeforePage tree.root) page)
+
+-- ---- what it calls damaged
+
+-- No tree may be built of the points.
+abbrev pub MayNotBeBuilt : ℕ → List Point → Type 0
+MayNotBeBuilt dims points = MayBeBuilt dims points → ⊥
+
+-- A leaf of 64 points, and one more, of which none may be built.
+abbrev pub IsNoLeafWith : ℕ → PageMap → ℕ → Point → Type 0
+IsNoLeafWith dims pages page point = (points : List Point) × HoldsLeaf pages page points × MayNotBeBuilt dims (point ∷ points)
+
+-- the page of the first node, where that is an entry
+abbrev pub first_entry : List CutNode → Option ℕ
+first_entry [] = None
+first_entry (Entry child ∷ nodes) = Some child
+first_entry (Cut dimension key low border ∷ nodes) = None
+
+-- What beginning a border from the leaf of the low side may call damaged: the page of the cut, where the low side is no entry, or none may be
+-- built of the points; or a page that holds no leaf of 64.
+abbrev pub IsDamagedBegun : ℕ → Point → ℕ → PageMap → ℕ → Option ℕ → Type 0
+IsDamagedBegun dims point damaged pages page None = damaged ≡ page
+IsDamagedBegun dims point damaged pages page (Some leaf) =
+    IsNotAsTold dims damaged pages 64 (BeforePage leaf) ⊎ ((damaged ≡ page) × IsNoLeafWith dims pages leaf point)
+
+-- What an addition to the border of a cut may call damaged. It begins with the 65th point.
+abbrev pub IsDamagedAtBorder : {B : Type 0} → Ghosts B → Point → ℕ → PageMap → ℕ → Option ℕ → ℕ → ℕ → Tree → Type 0
+IsDamagedAtBorder g point damaged pages page leaf dimension low border =
+    ((low ≡ 64) × IsDamagedBegun (suc g.DIMS) point damaged pages page leaf)
+    ⊎ ((64 < low) × g.damaged_for_add pages border (without_dimension dimension point) damaged)
+
+-- What making the part anew may call damaged: what collecting it or dropping it may; or its page, where none may be built of the points.
+abbrev pub IsDamagedAnew : {B : Type 0} → Ghosts B → Point → ℕ → PageMap → ℕ → ℕ → List CutNode → Type 0
+IsDamagedAnew g point damaged pages n page nodes =
+    IsDamagedForCollect (suc g.DIMS) pages n (BeforePart page nodes) damaged
+    ⊎ (IsDamagedForDrop g pages n (BeforePart page nodes) damaged
+    ⊎ ((damaged ≡ page) × ((there : IsThere pages n nodes) × MayNotBeBuilt (suc g.DIMS) (points_of there.part ++ (point ∷ [])))))
+
+-- The page was there, and is gone after what the addition did below it.
+abbrev pub IsGoneAfter : {B : Type 0} → Ghosts B → Point → PageMap → ℕ → ℕ → Type 0
+IsGoneAfter g point pages n page =
+    (nodes : List CutNode) × HoldsCuts pages page nodes
+    × ((after : PageMap) × OthersStay (LeadsFrom g point pages n (BeforeCut page nodes)) pages after × (after page ≡ None))
+
+-- An addition that has come there may call the page damaged.
+abbrev pub IsDamagedAt : {B : Type 0} → Ghosts B → Point → ℕ → PageMap → ℕ → Spot → Type 0
+IsDamagedAt g point damaged pages n (BeforePage page) =
+    IsNotAsTold (suc g.DIMS) damaged pages n (BeforePage page)
+    ⊎ ((damaged ≡ page) × (((n ≡ 64) × IsNoLeafWith (suc g.DIMS) pages page point) ⊎ ((64 < n) × IsGoneAfter g point pages n page)))
+IsDamagedAt g point damaged pages n (BeforePart page nodes) = IsNotAsTold (suc g.DIMS) damaged pages n (BeforePart page nodes)
+IsDamagedAt g point damaged pages n (BeforeCut page []) = damaged ≡ page
+IsDamagedAt g point damaged pages n (BeforeCut page (Entry child ∷ nodes)) = damaged ≡ page
+IsDamagedAt g point damaged pages n (BeforeCut page (Cut dimension key low border ∷ nodes)) =
+    IsNotAsTold (suc g.DIMS) damaged pages n (BeforeCut page (Cut dimension key low border ∷ nodes))
+    ⊎ (IsDamagedAtBorder g point damaged pages page (first_entry nodes) dimension low border
+    ⊎ IsDamagedAnew g point damaged pages n page (Cut dimension key low border ∷ nodes))
+
+abbrev pub IsDamagedFrom : {B : Type 0} → Ghosts B → Point → PageMap → ℕ → Spot → ℕ → Type 0
+IsDamagedFrom g point pages n spot damaged = ComesTo g (IsDamagedAt g point damaged) point pages n spot
+
+-- What an addition of the point to the tree may call damaged: none in a tree without points; the root, where that is no number of a page or
+-- the tree has 2^31 points; and what it comes to from the root on.
+abbrev pub IsDamagedForAdd : {B : Type 0} → Ghosts B → PageMap → Tree → Point → ℕ → Type 0
+IsDamagedForAdd g pages tree point damaged =
+    (1 ≤ tree.count)
+    × (((damaged ≡ tree.root) × ((tree.root < 3) ⊎ (2 ^ 31 ≤ tree.count)))
+    ⊎ IsDamagedFrom g point pages tree.count (BeforePage tree.root) damaged)
