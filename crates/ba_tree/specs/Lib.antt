@@ -1,3 +1,1 @@
-pub mod Taking
-pub mod Growth
-pub mod Index
+pub mod Over

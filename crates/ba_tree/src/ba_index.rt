@@ -1,28 +1,26 @@
-//! BA-trees as the index of the product.
-ghost use Rattle.std.specs.Prelude.{ℕ, ◌≤◌};
-ghost use Rattle.bw_types.specs.Heights.{query_pages};
-ghost use Rattle.ba_trees.specs.Kinds.{trees_over};
-ghost use Rattle.ba_query.specs.Damage.{IsDamagedForSum};
-ghost use Rattle.ba_query.specs.Sought.{Sought};
-ghost use Rattle.ba_tree.specs.Growth.{tree_growth};
-ghost use Rattle.ba_tree.specs.Index.{IsDamagedForAdd, MayChange, StandsOver};
+//! The index of the product.
+ghost use Rattle.bw_types.specs.Depths.{query_pages};
+ghost use Rattle.ba_tree.specs.Over.{BalancedOver, IsDamagedForAdd, IsDamagedForSum, MayChange, StandsOver, pages_over, tree_growth};
 
 use crate::adding::add_point;
-use ba_query::dom_sum;
-use ba_trees::tree_kind_laws;
-use bw_types::heights::{heights_grow, pages_unfold};
+use crate::sum::dom_sum;
 use bw_types::{Point, Tree};
+use cut_parts::BorderTree;
+use cut_parts::laws::cuts_laws;
 use dom_index::DomIndex;
+use key_trees::KeyTree;
+use mvsb_tree::MvIndex;
 use page_ports::{PageFault, Pages, Stage, StageFault};
+use plane_trees::PlaneTree;
 use std::alloc::Global;
 
-/// Trees over one to three dimensions: multiversion trees over one, and BA-trees over two and three.
+/// Trees over one to three dimensions: multiversion trees over one, and trees of cuts over two and three.
 ///
-/// A sum over `n` points gets at most `query_pages` of them. An addition gives out at most 24 page numbers over one dimension; over two
-/// and three one where the tree is empty, none where it is one leaf with room, and else at most `added_pages`.
+/// A sum over `n` points gets at most `query_pages` of them. An addition gives out at most 24 page numbers over one dimension; over
+/// two and three one where the tree is empty, none where it is one leaf with room, and else at most `added_pages`.
 ///
-/// An addition to a tree that does not stand answers, or is refused. Which pages it changes, and which it calls damaged, is said over
-/// one dimension alone; over two and three no page is called damaged of a tree without points, unless the free pages are not in order.
+/// An addition to a tree that does not stand answers, or is refused. It changes only pages to which the tree leads, and calls damaged
+/// only pages to which the addition comes, unless the free pages are not in order.
 #[derive(Drop)]
 pub struct BaIndex;
 
@@ -31,21 +29,21 @@ impl DomIndex for BaIndex {
 
     ghost DIMS = { 3 };
 
-    ghost stands = { StandsOver };
+    ghost stands = { λ pages dims tree points. StandsOver ⟦<MvIndex as DomIndex>⟧ ⟦<KeyTree as BorderTree>⟧ ⟦<PlaneTree as BorderTree>⟧ pages dims tree points };
 
-    ghost footprint = { λ pages dims tree. (trees_over dims).footprint pages tree };
+    ghost footprint = { λ pages dims tree. pages_over ⟦<MvIndex as DomIndex>⟧ ⟦<KeyTree as BorderTree>⟧ ⟦<PlaneTree as BorderTree>⟧ pages dims tree };
 
-    ghost balanced = { λ pages dims tree. (trees_over dims).balanced pages tree };
+    ghost balanced = { λ pages dims tree. BalancedOver ⟦<MvIndex as DomIndex>⟧ ⟦<KeyTree as BorderTree>⟧ ⟦<PlaneTree as BorderTree>⟧ pages dims tree };
 
     ghost cost = { query_pages };
 
     ghost growth = { tree_growth };
 
-    ghost may_change = { MayChange };
+    ghost may_change = { λ pages dims tree page. MayChange ⟦<MvIndex as DomIndex>⟧ ⟦<KeyTree as BorderTree>⟧ ⟦<PlaneTree as BorderTree>⟧ pages dims tree page };
 
-    ghost damaged_for_sum = { λ pages dims tree keys version page. IsDamagedForSum dims pages tree (record { keys = keys; version = version }) page };
+    ghost damaged_for_sum = { λ pages dims tree keys version page. IsDamagedForSum ⟦<MvIndex as DomIndex>⟧ ⟦<KeyTree as BorderTree>⟧ ⟦<PlaneTree as BorderTree>⟧ pages dims tree keys version page };
 
-    ghost damaged_for_add = { IsDamagedForAdd };
+    ghost damaged_for_add = { λ pages dims tree point page. IsDamagedForAdd ⟦<MvIndex as DomIndex>⟧ ⟦<KeyTree as BorderTree>⟧ ⟦<PlaneTree as BorderTree>⟧ pages dims tree point page };
 
     fn sum<P: Pages>(
         pages: &mut P,
@@ -68,8 +66,8 @@ impl DomIndex for BaIndex {
     }
 
     fn index_laws() {
-        tree_kind_laws();
-        heights_grow();
-        pages_unfold();
+        MvIndex::index_laws();
+        cuts_laws::<KeyTree>();
+        cuts_laws::<PlaneTree>();
     }
 }

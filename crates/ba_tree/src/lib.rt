@@ -1,22 +1,17 @@
-//! BA-trees as an index: additions over one to three dimensions, with splits, new roots and the rebuild.
+//! The index of the product: trees of weighted points over one to three dimensions.
 //!
-//! BA-trees are those of Zhang, Tsotras and Gunopulos, "Efficient Aggregation over Objects with Extent", 2002. A point goes down one
-//! path. Each entry of the pages on it takes the point by where it stands beside the entry's region: into its child, into what it
-//! keeps outside, or not at all. After an addition a tree has at most one level more than a tree of as many points is built with; one that
-//! would have more is built anew.
+//! Over one dimension a tree is a multiversion tree, and over two and three it is a tree of cuts whose borders are trees over one
+//! dimension less. A caller hands the dimensions to each call, and knows of no tree's pages.
+//!
+//! Trees of cuts stand in for the BA-trees of Zhang, Tsotras and Gunopulos, "Efficient Aggregation over Objects with Extent",
+//! 2002: the borders hang on cuts here, and the balance is kept by the numbers of points.
 #![tactic(auto)]
 
 mod adding;
 mod ba_index;
-mod below;
-mod cutting;
-mod keeping_low;
-mod leaves;
-mod outside;
-mod pocket;
-mod root;
-mod storing;
+mod sum;
 #[cfg(test)]
 mod tests;
 
 pub use ba_index::BaIndex;
+pub use sum::dom_sum;

@@ -1,11 +1,14 @@
-use Rattle.ba_tree.proofs.LevelNumbers.{growth_within}
-use Rattle.ba_tree.proofs.OverMore.{versions_over}
+use Rattle.ba_tree.proofs.Laws.{any_order, balance, by_its_pages, in_map}
 use Rattle.ba_tree.proofs.ba_index.BaIndexDomIndex.index_laws.Goals as goal
 
--- src/ba_index.rt:68:5
-pub returns-clause-versions : goal.returns-clause-versions
-returns-clause-versions c = λ pages dims tree points over. versions_over dims pages tree points over.some over.stands
+pub returns-clause-by_its_pages : goal.returns-clause-by_its_pages
+returns-clause-by_its_pages c = by_its_pages c.index_laws.ensures.by_its_pages c.cuts_laws.ensures c.cuts_laws-2.ensures
 
--- src/ba_index.rt:68:5
-pub returns-clause-growth : goal.returns-clause-growth
-returns-clause-growth c = λ dims levels count some few. growth_within c.pages_unfold.ensures.adding dims levels count some
+pub returns-clause-balance : goal.returns-clause-balance
+returns-clause-balance c = balance c.index_laws.ensures.balance c.cuts_laws.ensures c.cuts_laws-2.ensures
+
+pub returns-clause-in_map : goal.returns-clause-in_map
+returns-clause-in_map c = in_map c.index_laws.ensures.in_map c.cuts_laws.ensures c.cuts_laws-2.ensures
+
+pub returns-clause-any_order : goal.returns-clause-any_order
+returns-clause-any_order c = any_order c.index_laws.ensures.any_order c.cuts_laws.ensures c.cuts_laws-2.ensures

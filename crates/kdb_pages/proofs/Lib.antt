@@ -1,4 +1,0 @@
-pub mod Cutting
-pub mod Ordering
-pub mod Partition
-pub mod Splitting

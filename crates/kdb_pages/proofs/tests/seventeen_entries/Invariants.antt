@@ -1,6 +1,0 @@
-use Rattle.std.proofs.Common.{◌≡◌, ◌+◌, length}
-use Rattle.page_layout.specs.CutPage.{IsCutPageUpTo}
-use Rattle.kdb_pages.proofs.tests.seventeen_entries.Given as goal
-
-abbrev pub invariant-loop-i : goal.invariant-loop-i
-invariant-loop-i l = record { rules : IsCutPageUpTo 17 l.page; many : length l.page.entries.items ≡ l.i + 1 }
