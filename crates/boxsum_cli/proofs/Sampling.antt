@@ -182,7 +182,7 @@ new_meta_rules = record {
   free = refl;
   table = refl;
   few = omega arith;
-  roots = all_empty 8 (λ (t : Tree). IsTrue (tree_fits t)) refl;
+  roots = all_empty 4 (λ (t : Tree). IsTrue (tree_fits t)) refl;
 }
 
 new_meta_typed : IsTyped (new_meta sample_params)
@@ -194,7 +194,7 @@ new_meta_typed = record {
   free = omega arith;
   mass = omega arith;
   table = empty_typed;
-  roots = all_empty 8 IsTreeTyped empty_typed;
+  roots = all_empty 4 IsTreeTyped empty_typed;
 }
 
 pub new_charge : (x : Image) (pages : PageList) → IsNew sample_params x → SettlesTo x pages → charge_in pages ≡ 3

@@ -76,12 +76,16 @@ fn pages_of_noise(rt: HostRuntime) -> Result<(), Fail> {
 // A page of cuts with this page as the child of its first entry.
 fn with_first_child(page: &Page, child: u64) -> Page {
     let mut page = *page;
-    let count = usize::from(page[2])
-        .saturating_mul(256)
-        .saturating_add(usize::from(page[3]));
-    // The entries stand behind `2 * count - 1` nodes.
-    let nodes = count.saturating_mul(2).saturating_sub(1);
-    let start = nodes.saturating_mul(16).saturating_add(16);
+    // The first nodes are cuts, which begin with 1, and then comes the first entry. Its child is the second half of it.
+    let mut start: usize = 16;
+    for _ in 0..63 {
+        if let Some(tag) = page.get(start) {
+            if *tag == 1 {
+                start = start.saturating_add(16);
+            }
+        }
+    }
+    let start = start.saturating_add(8);
     for (i, byte) in child.to_be_bytes().iter().enumerate() {
         if let Some(to) = page.get_mut(start.saturating_add(i)) {
             *to = *byte;
@@ -99,7 +103,7 @@ fn pages_that_name_themselves(rt: HostRuntime) -> Result<(), Fail> {
     let mut times: u64 = 0;
     let mut refused: u64 = 0;
     for (place, page) in pages.iter().enumerate() {
-        if page[0] == 4 {
+        if page[0] == 11 {
             times = times.saturating_add(1);
             let page = with_first_child(page, place as u64);
             let disk = with_page(alloc, pages.as_slice(), journal.as_slice(), place, &page)?;

@@ -2,7 +2,7 @@
 use Rattle.std.proofs.Common.{◌≡◌, ℕ, zero, suc, ◌+◌, ◌*◌, ◌<◌, ◌≤◌, nat_lt, refl, sym, subst, arith}
 use Rattle.std.proofs.lemmas.Bool.{lt-ltb, le-ltb, cond-true, cond-false}
 use Rattle.std.proofs.lemmas.Nat.{mul-le}
-use Rattle.bw_types.specs.Heights.{AddingGrows, added_pages}
+use Rattle.bw_types.specs.Depths.{AddingGrows, added_pages}
 use Rattle.bw_types.specs.declared.params.Params.{Params}
 use Rattle.poly_moments.specs.Planes.{plane_count}
 use Rattle.corner_forest.specs.Entries.{corner_count, point_count}
@@ -32,22 +32,22 @@ tree_grows : AddingGrows → (dims entries most points : ℕ) → entries + 1 �
 tree_grows grows dims entries most points le =
     mul-le points (added_pages dims ((entries + 1) * points)) points (added_pages dims (most * points)) (omega arith) (grows dims ((entries + 1) * points) (most * points) (mul-le (entries + 1) points most points le (omega arith)))
 
-low_root : AddingGrows → (params : Params) (entries most root : ℕ) → entries + 1 ≤ most → root < 2 * corner_count params → root_growth params entries root ≤ added_pages params.dims most
+low_root : AddingGrows → (params : Params) (entries most root : ℕ) → entries + 1 ≤ most → root < corner_count params → root_growth params entries root ≤ added_pages params.dims most
 low_root grows params entries most root le lt =
-    let one : point_count params root ≡ 1 = cond-true (nat_lt root (2 * corner_count params)) 1 (corner_count params) (lt-ltb root (2 * corner_count params) lt) in
+    let one : point_count params root ≡ 1 = cond-true (nat_lt root (corner_count params)) 1 (corner_count params) (lt-ltb root (corner_count params) lt) in
     subst (λ (p : ℕ). p * added_pages params.dims ((entries + 1) * p) ≤ added_pages params.dims most) (sym one) alone
   where
     alone : 1 * added_pages params.dims ((entries + 1) * 1) ≤ added_pages params.dims most
     alone = let grown = grows params.dims ((entries + 1) * 1) most (omega arith) in omega (arith, grown)
 
-high_root : AddingGrows → (params : Params) (entries most root : ℕ) → entries + 1 ≤ most → 2 * corner_count params ≤ root
+high_root : AddingGrows → (params : Params) (entries most root : ℕ) → entries + 1 ≤ most → corner_count params ≤ root
     → root_growth params entries root ≤ corner_count params * added_pages params.dims (most * corner_count params)
 high_root grows params entries most root le ge =
-    let many : point_count params root ≡ corner_count params = cond-false (nat_lt root (2 * corner_count params)) 1 (corner_count params) (le-ltb root (2 * corner_count params) ge) in
+    let many : point_count params root ≡ corner_count params = cond-false (nat_lt root (corner_count params)) 1 (corner_count params) (le-ltb root (corner_count params) ge) in
     subst (λ (p : ℕ). p * added_pages params.dims ((entries + 1) * p) ≤ corner_count params * added_pages params.dims (most * corner_count params)) (sym many)
     (tree_grows grows params.dims entries most (corner_count params) le)
 
 pub growth_bounded : AddingGrows → (params : Params) (entries most : ℕ) → entries + 1 ≤ most → entry_growth params entries ≤ most_growth params most
 growth_bounded grows params entries most le =
-    sum_both (2 * corner_count params) (plane_count params) (2 * corner_count params + plane_count params) (root_growth params entries) (added_pages params.dims most)
+    sum_both (corner_count params) (plane_count params) (corner_count params + plane_count params) (root_growth params entries) (added_pages params.dims most)
     (corner_count params * added_pages params.dims (most * corner_count params)) refl (λ root lt. low_root grows params entries most root le lt) (λ root ge. high_root grows params entries most root le ge)

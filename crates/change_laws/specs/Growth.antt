@@ -1,16 +1,16 @@
 -- How many page numbers one change more gives out in the trees.
 use Rattle.std.specs.Prelude.{ℕ, ◌+◌, ◌*◌, ◌≤◌}
-use Rattle.bw_types.specs.Heights.{added_pages}
+use Rattle.bw_types.specs.Depths.{added_pages}
 use Rattle.bw_types.specs.declared.params.Params.{Params}
 use Rattle.poly_moments.specs.Planes.{plane_count}
 use Rattle.corner_forest.specs.Entries.{corner_count}
 use Rattle.corner_forest.specs.Enters.{entry_growth}
 
--- the most for one entry, where there are so many with it: an addition in each tree of weights and of counts, and in each plane one
--- for each corner
+-- the most for one entry, where there are so many with it: an addition in each tree by subset, and in each plane one for each
+-- corner
 abbrev pub most_growth : Params → ℕ → ℕ
 most_growth params entries =
-    2 * corner_count params * added_pages params.dims entries
+    corner_count params * added_pages params.dims entries
     + plane_count params * (corner_count params * added_pages params.dims (entries * corner_count params))
 
 abbrev pub GrowthIsBounded : Type 0

@@ -3,7 +3,7 @@ ghost use Rattle.change_laws.specs.Begun.{BatchesBeginAlike};
 ghost use Rattle.change_laws.specs.Growth.{GrowthIsBounded};
 ghost use Rattle.change_laws.specs.Next.{AddsGoOn, FrontsAreLawful, LivesAreFew, WithdrawalsGoOn};
 
-use bw_types::heights::heights_grow;
+use bw_types::depths::depths_grow;
 use history_entries::{entries_are_changes, entries_grow};
 use history_laws::{
     histories_grow_by_lawful_batches, last_lives_tell, lawful_histories_have_room, lives_are_alone,
@@ -41,5 +41,5 @@ pub fn changes_go_on()
 pub fn growth_is_bounded()
     ensures { GrowthIsBounded }
 {
-    heights_grow();
+    depths_grow();
 }

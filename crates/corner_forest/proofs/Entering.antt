@@ -1,5 +1,5 @@
 -- An entry made in one tree after another.
-use Rattle.std.proofs.Common.{◌≡◌, ℕ, suc, ◌+◌, ◌<◌, ◌≤◌, Bool, if◌then◌else◌, inl, inr, List, [], ◌∷◌, ◌++◌, length, sym, ap, ◌∙◌, subst, arith}
+use Rattle.std.proofs.Common.{◌≡◌, ℕ, suc, ◌+◌, ◌*◌, ◌^◌, ◌<◌, ◌≤◌, Bool, if◌then◌else◌, inl, inr, List, [], ◌∷◌, ◌++◌, length, sym, ap, ◌∙◌, subst, arith}
 use Rattle.std.specs.List.{All}
 use Rattle.std.proofs.lemmas.Bool.{cases_lt, lt-ltb, le-ltb}
 use Rattle.std.proofs.lemmas.List.Elements.{All-cons, All-nil, All-head, All-tail}
@@ -12,9 +12,9 @@ use Rattle.page_ports.specs.FrameLaws.{Replaces-then, Replaces-same}
 use Rattle.page_layout.specs.Footprint.{NamesNoneTwice}
 use Rattle.poly_moments.specs.PlaneSums.{Entered, EnteredFits}
 use Rattle.dom_index.specs.declared.index.DomIndex.{Ghosts}
-use Rattle.corner_forest.specs.Entries.{entry_points, root_count, root_points}
+use Rattle.corner_forest.specs.Entries.{corner_count, entry_points, root_count, root_points}
 use Rattle.corner_forest.specs.Enters.{ForestEnters, IsEntering, TreeEnters, points_reached}
-use Rattle.corner_forest.specs.Stands.{AreBalanced, ForestStands, forest_pages}
+use Rattle.corner_forest.specs.Stands.{AreBalanced, ForestStands, HasSmallWeight, forest_pages}
 use Rattle.corner_forest.specs.Trees.{EachStands}
 use Rattle.corner_forest.proofs.Changing.{change_at, each_same}
 
@@ -98,15 +98,17 @@ module _ {X : Type 0} (g : Ghosts X)
         change = Replaces-then (forest_pages g m0 params old) (forest_pages g m params (done ++ t ∷ rest)) (forest_pages g n params (done ++ u ∷ rest)) m0 m n f.change changed.change;
       }
 
-  pub ends : (params : Params) (m0 m : PageMap) (old new : List Tree) (es : List Entered) (e : Entered) (k : ℕ) → length new ≡ k → k ≡ root_count params → All (EnteredFits params) es → EnteredFits params e
-      → IsEntering g params m0 m old new es e k → ForestEnters g params m0 m old new es e
-  ends params m0 m old new es e k is_k is_count all fits f =
+  pub ends : (params : Params) (m0 m : PageMap) (old new : List Tree) (es : List Entered) (e : Entered) (k : ℕ) → length new ≡ k → k ≡ root_count params → ForestStands g m0 params old es → EnteredFits params e
+      → HasSmallWeight e → length es * corner_count params + corner_count params ≤ 2 ^ 31 → IsEntering g params m0 m old new es e k → ForestEnters g params m0 m old new es e
+  ends params m0 m old new es e k is_k is_count stood fits small few f =
       let B : Type 0 = AreBalanced g m0 params old in
       let low : Tree → Type 0 = λ t. g.balanced m params.dims t in
       record {
         stands = record {
           count = is_k ∙ is_count;
-          fits = All-cons (EnteredFits params) e es fits all;
+          fits = All-cons (EnteredFits params) e es fits stood.fits;
+          weights = All-cons HasSmallWeight e es small stood.weights;
+          few = omega (arith, few);
           trees = each_same (g.stands m params.dims) (points_reached params es e k) (root_points params (e ∷ es)) 0 new
               (λ j from to. sym (reached_before params es e k j (omega (arith, to, is_k))))
               (each_without (g.stands m params.dims) B low (points_reached params es e k) 0 new f.stands);

@@ -1,5 +1,5 @@
 -- The laws of forests.
-use Rattle.std.proofs.Common.{◌≡◌, ℕ, zero, suc, ◌+◌, ◌≤◌, ◌^◌, get_or, length, List, [], ◌∷◌, ◌++◌, replicate, refl, sym, ap, ◌∙◌, subst, arith, append_assoc, IsPermutation}
+use Rattle.std.proofs.Common.{◌≡◌, ℕ, zero, suc, ◌+◌, ◌*◌, ◌≤◌, ◌^◌, get_or, length, List, [], ◌∷◌, ◌++◌, replicate, refl, sym, ap, ◌∙◌, subst, arith, append_assoc, length-append, IsPermutation}
 use Rattle.std.specs.List.{All, flat_map}
 use Rattle.std.proofs.lemmas.List.{length-replicate}
 use Rattle.std.proofs.lemmas.List.Elements.{All-cons, All-nil}
@@ -14,9 +14,9 @@ use Rattle.page_ports.specs.Pages.{PageMap}
 use Rattle.page_layout.specs.Footprint.{NamesNoneTwice}
 use Rattle.poly_moments.specs.PlaneSums.{Entered, EnteredFits}
 use Rattle.dom_index.specs.declared.index.DomIndex.{Ghosts}
-use Rattle.corner_forest.specs.Entries.{entry_points, root_count, root_points}
+use Rattle.corner_forest.specs.Entries.{corner_count, entry_points, root_count, root_points}
 use Rattle.corner_forest.specs.Laws.{EmptyForestStands, ForestPagesAreThere, ForestStandsByItsPages, EntryStandsAnywhere, TreesCountTheirPoints}
-use Rattle.corner_forest.specs.Stands.{AreBalanced}
+use Rattle.corner_forest.specs.Stands.{AreBalanced, HasSmallWeight}
 use Rattle.corner_forest.specs.Trees.{EachStands, trees_pages}
 use Rattle.corner_forest.proofs.Changing.{each_by_pages, each_there}
 use Rattle.corner_forest.proofs.Entering.{each_low, each_with, each_without}
@@ -40,10 +40,16 @@ module _ {X : Type 0} (g : Ghosts X)
   pub empty_forest_stands : EmptyForestStands g
   empty_forest_stands pages params range few =
       let all = empties pages params.dims 0 (root_count params) (root_points params []) (λ j. refl) range.some_dims few in (
-        record { count = length-replicate (root_count params) empty_tree; fits = All-nil (EnteredFits params); trees = all.0 },
+        record { count = length-replicate (root_count params) empty_tree; fits = All-nil (EnteredFits params); weights = All-nil HasSmallWeight; few = omega arith; trees = all.0 },
         all.1,
         all.2,
       )
+
+length_middle : (before after : List Entered) (e : Entered) → length (before ++ e ∷ after) ≡ length (e ∷ (before ++ after))
+length_middle before after e =
+    let first = length-append before (e ∷ after) in
+    let second = length-append before after in
+    omega (arith, first, second)
 
 module _ {X : Type 0} (g : Ghosts X)
     (any : (pages : PageMap) (dims : ℕ) (tree : Tree) (points others : List Point) → g.stands pages dims tree points → IsPermutation points others → g.stands pages dims tree others) where
@@ -68,11 +74,15 @@ module _ {X : Type 0} (g : Ghosts X)
     (λ s. record {
       count = s.count;
       fits = All-permutation (EnteredFits params) (e ∷ (before ++ after)) (before ++ e ∷ after) (IsPermutation-sym (before ++ e ∷ after) (e ∷ (before ++ after)) (IsPermutation-middle before e after)) s.fits;
+      weights = All-permutation HasSmallWeight (e ∷ (before ++ after)) (before ++ e ∷ after) (IsPermutation-sym (before ++ e ∷ after) (e ∷ (before ++ after)) (IsPermutation-middle before e after)) s.weights;
+      few = subst (λ (n : ℕ). n * corner_count params ≤ 2 ^ 31) (sym (length_middle before after e)) s.few;
       trees = each_in_any_order pages params.dims (root_points params (e ∷ (before ++ after))) (root_points params (before ++ e ∷ after)) 0 roots (moved_points params before after e) s.trees;
     }),
     (λ s. record {
       count = s.count;
       fits = All-permutation (EnteredFits params) (before ++ e ∷ after) (e ∷ (before ++ after)) (IsPermutation-middle before e after) s.fits;
+      weights = All-permutation HasSmallWeight (before ++ e ∷ after) (e ∷ (before ++ after)) (IsPermutation-middle before e after) s.weights;
+      few = subst (λ (n : ℕ). n * corner_count params ≤ 2 ^ 31) (length_middle before after e) s.few;
       trees = each_in_any_order pages params.dims (root_points params (before ++ e ∷ after)) (root_points params (e ∷ (before ++ after))) 0 roots
           (λ j. IsPermutation-sym (root_points params (e ∷ (before ++ after)) j) (root_points params (before ++ e ∷ after) j) (moved_points params before after e j)) s.trees;
     }),
@@ -94,7 +104,7 @@ module _ {X : Type 0} (g : Ghosts X)
       (λ m n t ps s agree. let still = by_its_pages m n params.dims t ps s.0 agree in ((still.0, λ b. balance m n params.dims t ps s.0 agree (s.1 b)), still.1))
       (λ m t ps s. in_map m params.dims t ps s.0) (λ m t ps s. single m params.dims t ps s.0)
       pages others (root_points params entries) 0 roots before agree in (
-        record { count = s.count; fits = s.fits; trees = each_without (g.stands others params.dims) B (g.balanced others params.dims) (root_points params entries) 0 roots after.0 },
+        record { count = s.count; fits = s.fits; weights = s.weights; few = s.few; trees = each_without (g.stands others params.dims) B (g.balanced others params.dims) (root_points params entries) 0 roots after.0 },
         after.1,
         λ b. each_low (g.stands others params.dims) B (g.balanced others params.dims) (root_points params entries) 0 roots after.0 b,
       )

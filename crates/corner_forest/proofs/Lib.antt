@@ -10,4 +10,5 @@ pub mod Newness
 pub mod Places
 pub mod PlaneTotals
 pub mod Stages
+pub mod Totals
 pub mod TreePoints

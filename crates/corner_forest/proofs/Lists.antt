@@ -4,7 +4,7 @@ use Rattle.std.specs.List.{All}
 use Rattle.std.proofs.lemmas.Bool.{cases_lt}
 use Rattle.std.proofs.lemmas.List.{append-nil, drop_all}
 use Rattle.bw_types.specs.Empty.{empty_tree}
-use Rattle.bw_types.specs.Heights.{added_pages}
+use Rattle.bw_types.specs.Depths.{added_pages}
 use Rattle.bw_types.specs.declared.params.Params.{Params}
 use Rattle.bw_types.specs.declared.tree.Tree.{Tree}
 use Rattle.poly_moments.specs.PlaneSums.{Entered}

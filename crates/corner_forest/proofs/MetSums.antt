@@ -20,8 +20,9 @@ use Rattle.box_corners.specs.SumLaws.{sum_below_of_equal}
 use Rattle.poly_moments.specs.PlaneSums.{Entered, EnteredFits, counts_at}
 use Rattle.corner_forest.specs.Answers.{where_met, sum_of, count_of}
 use Rattle.corner_forest.specs.Corners.{value_at}
-use Rattle.corner_forest.specs.Entries.{as_counted, as_weighed, corner_count, entered_residue, root_points}
-use Rattle.corner_forest.proofs.TreePoints.{root_weighed, root_counted}
+use Rattle.corner_forest.specs.Entries.{as_met, corner_count, entered_residue, root_points, sum_and_count}
+use Rattle.corner_forest.proofs.Totals.{both_of}
+use Rattle.corner_forest.proofs.TreePoints.{root_met}
 
 -- an entry with the weight of this residue
 abbrev weighed : (Entered → ℕ) → Entered → Entry
@@ -65,32 +66,16 @@ each_fits : (params : Params) (number : Entered → ℕ) → ((e : Entered) → 
 each_fits params number small es all =
     All-map (EntryFits params) (weighed number) es (λ i d lt. let fits = all i d lt in let early = fits.1 in (fits.0, omega (arith, early), below (get_or es i d).minus (number (get_or es i d)) (small (get_or es i d))))
 
-one_residue : 1 ≡ residue (pos 1)
-one_residue = sym (residue_of_small 1 (lit< tt))
-
-pub sum_by_corners : SumsMeetByCorners → (params : Params) (q : Query) (version : ℕ) (es : List Entered) (total : ℕ) → IsInRange params → ends_fit params q.low q.high ≡ true
+pub met_by_corners : SumsMeetByCorners → (params : Params) (q : Query) (version : ℕ) (es : List Entered) (total : ℕ) → IsInRange params → ends_fit params q.low q.high ≡ true
     → All (EnteredFits params) es
-    → total ≡ residue_sum_below (corner_count params) (λ s. residue_signed_by s (value_at params.dims q version (root_points params es (0 + s)) s))
-    → total ≡ residue (sum_of params es version q)
-sum_by_corners law params q version es total range fits all is_total =
-    let at : (s : ℕ) → s < corner_count params → residue_signed_by s (value_at params.dims q version (root_points params es (0 + s)) s)
-    ≡ residue_signed_by s (sum_at_corner params.dims q version (map as_weighed es) s) =
-    λ s lt. let none : 0 + s ≡ s = omega arith in
-    ap (λ (n : ℕ). residue_signed_by s (value_at params.dims q version (root_points params es n) s)) none
-    ∙ ap (λ (ps : List Point). residue_signed_by s (value_at params.dims q version ps s)) (root_weighed params s es lt) in
+    → total ≡ residue_sum_below (corner_count params) (λ s. residue_signed_by s (value_at params.dims q version (root_points params es s) s))
+    → total ≡ residue (sum_and_count (sum_of params es version q) (count_of params es version q))
+met_by_corners law params q version es total range fits all is_total =
+    let given : Entered → ℤ = λ e. sum_and_count e.object.weight (pos 1) in
+    let at : (s : ℕ) → s < corner_count params → residue_signed_by s (value_at params.dims q version (root_points params es s) s)
+    ≡ residue_signed_by s (sum_at_corner params.dims q version (map as_met es) s) =
+    λ s lt. ap (λ (ps : List Point). residue_signed_by s (value_at params.dims q version ps s)) (root_met params s es lt) in
     is_total ∙ sum_below_of_equal (corner_count params) _ _ at
-    ∙ law params q version (map as_weighed es) range fits (each_fits params (λ e. residue e.object.weight) (λ e. residue_is_below e.object.weight) es all)
-    ∙ met_residue params q version (λ e. residue e.object.weight) (λ e. e.object.weight) (λ e. refl) es
-
-pub count_by_corners : SumsMeetByCorners → (params : Params) (q : Query) (version : ℕ) (es : List Entered) (total first : ℕ) → IsInRange params → ends_fit params q.low q.high ≡ true
-    → All (EnteredFits params) es → first ≡ corner_count params
-    → total ≡ residue_sum_below (corner_count params) (λ s. residue_signed_by s (value_at params.dims q version (root_points params es (first + s)) s))
-    → total ≡ residue (count_of params es version q)
-count_by_corners law params q version es total first range fits all is_first is_total =
-    let at : (s : ℕ) → s < corner_count params → residue_signed_by s (value_at params.dims q version (root_points params es (first + s)) s)
-    ≡ residue_signed_by s (sum_at_corner params.dims q version (map as_counted es) s) =
-    λ s lt. ap (λ (n : ℕ). residue_signed_by s (value_at params.dims q version (root_points params es (n + s)) s)) is_first
-    ∙ ap (λ (ps : List Point). residue_signed_by s (value_at params.dims q version ps s)) (root_counted params s es lt) in
-    is_total ∙ sum_below_of_equal (corner_count params) _ _ at
-    ∙ law params q version (map as_counted es) range fits (each_fits params (λ e. 1) (λ e. lit< tt) es all)
-    ∙ met_residue params q version (λ e. 1) (λ e. pos 1) (λ e. one_residue) es
+    ∙ law params q version (map as_met es) range fits (each_fits params (λ e. residue (given e)) (λ e. residue_is_below (given e)) es all)
+    ∙ met_residue params q version (λ e. residue (given e)) given (λ e. refl) es
+    ∙ ap residue (both_of params q version es)

@@ -16,7 +16,7 @@ use Rattle.box_corners.specs.Entries.{corner_point}
 use Rattle.poly_moments.specs.PlaneSums.{Entered, EnteredFits, corner_number, plane_point}
 use Rattle.dom_index.specs.Points.{keys_differ}
 use Rattle.corner_forest.specs.Enters.{AreNewPoints, points_from}
-use Rattle.corner_forest.specs.Entries.{IsNextEntry, as_counted, as_weighed, corner_count, entry_point, entry_points, point_count, root_points}
+use Rattle.corner_forest.specs.Entries.{IsNextEntry, as_met, corner_count, entry_point, entry_points, point_count, root_points}
 
 each_of : (n : ℕ) (p : ℕ → Bool) → ((i : ℕ) → i < n → p i ≡ true) → each_below n p ≡ true
 each_of zero p h = refl
@@ -41,39 +41,30 @@ corners_differ dims o u n k s t p q few small little ne is_p is_q = each_of dims
     let apart : slice_index p.keys i ≡ slice_index q.keys i → ⊥ = λ e. ne (omega (arith, a, b, e, small, little)) in
     rw (ne_eqb (slice_index p.keys i) (slice_index q.keys i) apart) refl)
 
--- one of three, by two tests
-pick : {X : Type 0} → Bool → Bool → X → X → X → X
-pick a b x y z = if a then x else (if b then y else z)
-
 number_of : Params → Entered → ℕ → ℕ → ℕ
-number_of params e root corner = pick (nat_lt root (corner_count params)) (nat_lt root (2 * corner_count params)) e.event e.event (corner_number params.dims e.event corner)
+number_of params e root corner = if nat_lt root (corner_count params) then e.event else corner_number params.dims e.event corner
 
 subset_of : Params → ℕ → ℕ → ℕ
-subset_of params root corner = pick (nat_lt root (corner_count params)) (nat_lt root (2 * corner_count params)) root (root - corner_count params) corner
+subset_of params root corner = if nat_lt root (corner_count params) then root else corner
 
-picked_keys : (dims : ℕ) (o : Object) (a b : Bool) (x y z : Point) (n k s t c : ℕ) → x.keys ≡ corner_keys dims o n s → y.keys ≡ corner_keys dims o n t → z.keys ≡ corner_keys dims o k c
-    → (if a then x else (if b then y else z)).keys ≡ corner_keys dims o (pick a b n n k) (pick a b s t c)
-unfolding pick
-picked_keys dims o true b x y z n k s t c h i j = h
-picked_keys dims o false true x y z n k s t c h i j = i
-picked_keys dims o false false x y z n k s t c h i j = j
+picked_keys : (dims : ℕ) (o : Object) (a : Bool) (x y : Point) (n k s t : ℕ) → x.keys ≡ corner_keys dims o n s → y.keys ≡ corner_keys dims o k t
+    → (if a then x else y).keys ≡ corner_keys dims o (if a then n else k) (if a then s else t)
+picked_keys dims o true x y n k s t h i = h
+picked_keys dims o false x y n k s t h i = i
 
-picked_version : (a b : Bool) (x y z : Point) (v : ℕ) → x.version ≡ v → y.version ≡ v → z.version ≡ v → (if a then x else (if b then y else z)).version ≡ v
-picked_version true b x y z v h i j = h
-picked_version false true x y z v h i j = i
-picked_version false false x y z v h i j = j
+picked_version : (a : Bool) (x y : Point) (v : ℕ) → x.version ≡ v → y.version ≡ v → (if a then x else y).version ≡ v
+picked_version true x y v h i = h
+picked_version false x y v h i = i
 
 entry_keys : (params : Params) (e : Entered) (root corner : ℕ) → (entry_point params e root corner).keys ≡ corner_keys params.dims e.object (number_of params e root corner) (subset_of params root corner)
 unfolding number_of subset_of
 entry_keys params e root corner =
-    picked_keys params.dims e.object (nat_lt root (corner_count params)) (nat_lt root (2 * corner_count params)) (corner_point params.dims root (as_weighed e))
-    (corner_point params.dims (root - corner_count params) (as_counted e)) (plane_point params (root - 2 * corner_count params) corner e)
-    e.event (corner_number params.dims e.event corner) root (root - corner_count params) corner refl refl refl
+    picked_keys params.dims e.object (nat_lt root (corner_count params)) (corner_point params.dims root (as_met e)) (plane_point params (root - corner_count params) corner e)
+    e.event (corner_number params.dims e.event corner) root corner refl refl
 
 entry_version : (params : Params) (e : Entered) (root corner : ℕ) → (entry_point params e root corner).version ≡ e.version
 entry_version params e root corner =
-    picked_version (nat_lt root (corner_count params)) (nat_lt root (2 * corner_count params)) (corner_point params.dims root (as_weighed e))
-    (corner_point params.dims (root - corner_count params) (as_counted e)) (plane_point params (root - 2 * corner_count params) corner e) e.version refl refl refl
+    picked_version (nat_lt root (corner_count params)) (corner_point params.dims root (as_met e)) (plane_point params (root - corner_count params) corner e) e.version refl refl
 
 few_corners : (dims : ℕ) → dims ≤ 3 → 2 ^ dims ≤ 8
 few_corners dims few = pow-le-pow_right {n = 2} (omega arith) few
@@ -91,33 +82,24 @@ later_number n early late a b lt small e =
     omega (arith, next, whole, small, e)
 
 numbers_fit : (params : Params) (e : Entered) (root corner : ℕ) → params.dims ≤ 3 → e.event < 2 ^ 28 → corner < corner_count params → number_of params e root corner < 2 ^ 32
-unfolding number_of pick
-numbers_fit params e root corner few small lt = elim (cases_lt root (2 * corner_count params)) [
-  | inl below ↦ elim (cases_lt root (corner_count params)) [
-    | inl first ↦ rw (lt-ltb root (corner_count params) first) (omega (arith, small))
-    | inr second ↦ rw (le-ltb root (corner_count params) second, lt-ltb root (2 * corner_count params) below) (omega (arith, small))
-  ]
-  | inr plane ↦ rw (le-ltb root (corner_count params) (omega (arith, plane)), le-ltb root (2 * corner_count params) plane)
-      (plane_number (corner_count params) e.event corner (few_corners params.dims few) small lt)
+unfolding number_of
+numbers_fit params e root corner few small lt = elim (cases_lt root (corner_count params)) [
+  | inl box ↦ rw (lt-ltb root (corner_count params) box) (omega (arith, small))
+  | inr plane ↦ rw (le-ltb root (corner_count params) plane) (plane_number (corner_count params) e.event corner (few_corners params.dims few) small lt)
 ]
 
 -- an earlier entry's points have other numbers
 numbers_differ : (params : Params) (f e : Entered) (root a b : ℕ) → f.event < e.event → a < corner_count params → number_of params f root a ≡ number_of params e root b → ⊥
-unfolding number_of pick
-numbers_differ params f e root a b lt small = elim (cases_lt root (2 * corner_count params)) [
-  | inl below ↦ elim (cases_lt root (corner_count params)) [
-    | inl first ↦ rw (lt-ltb root (corner_count params) first) (λ same. omega (arith, lt, same))
-    | inr second ↦ rw (le-ltb root (corner_count params) second, lt-ltb root (2 * corner_count params) below) (λ same. omega (arith, lt, same))
-  ]
-  | inr plane ↦ rw (le-ltb root (corner_count params) (omega (arith, plane)), le-ltb root (2 * corner_count params) plane)
-      (λ same. later_number (corner_count params) f.event e.event a b lt small same)
+unfolding number_of
+numbers_differ params f e root a b lt small = elim (cases_lt root (corner_count params)) [
+  | inl box ↦ rw (lt-ltb root (corner_count params) box) (λ same. omega (arith, lt, same))
+  | inr plane ↦ rw (le-ltb root (corner_count params) plane) (λ same. later_number (corner_count params) f.event e.event a b lt small same)
 ]
 
 -- in a plane another corner of the entry has another number
-corners_numbered : (params : Params) (e : Entered) (root a b : ℕ) → 2 * corner_count params ≤ root → (a ≡ b → ⊥) → number_of params e root a ≡ number_of params e root b → ⊥
-unfolding number_of pick
-corners_numbered params e root a b plane ne =
-    rw (le-ltb root (corner_count params) (omega (arith, plane)), le-ltb root (2 * corner_count params) plane) (λ same. ne (omega (arith, same)))
+corners_numbered : (params : Params) (e : Entered) (root a b : ℕ) → corner_count params ≤ root → (a ≡ b → ⊥) → number_of params e root a ≡ number_of params e root b → ⊥
+unfolding number_of
+corners_numbered params e root a b plane ne = rw (le-ltb root (corner_count params) plane) (λ same. ne (omega (arith, same)))
 
 all_between : {P : ℕ → Type 0} (from n : ℕ) → ((i : ℕ) → from ≤ i → i < from + n → P i) → All P (range_with_len from n)
 all_between {P} from zero h = All-nil P
@@ -130,15 +112,15 @@ all_flat {A} {B} P f (x ∷ xs) h =
     All-append P (f x) (flat_map f xs) (All-head (λ (y : A). All P (f y)) x xs h) (all_flat P f xs (All-tail (λ (y : A). All P (f y)) x xs h))
 
 count_below : (params : Params) (root : ℕ) → point_count params root ≤ corner_count params
-count_below params root = elim (cases_lt root (2 * corner_count params)) [
-  | inl below ↦ rw (lt-ltb root (2 * corner_count params) below) (omega (arith, below))
-  | inr plane ↦ rw (le-ltb root (2 * corner_count params) plane) (omega arith)
+count_below params root = elim (cases_lt root (corner_count params)) [
+  | inl box ↦ rw (lt-ltb root (corner_count params) box) (omega (arith, box))
+  | inr plane ↦ rw (le-ltb root (corner_count params) plane) (omega arith)
 ]
 
-in_plane : (params : Params) (root corner other : ℕ) → corner < other → other < point_count params root → 2 * corner_count params ≤ root
-in_plane params root corner other lt = elim (cases_lt root (2 * corner_count params)) [
-  | inl below ↦ rw (lt-ltb root (2 * corner_count params) below) (λ small. absurd (omega (arith, lt, small)))
-  | inr plane ↦ λ small. plane
+in_plane : (params : Params) (root corner other : ℕ) → corner < other → other < point_count params root → corner_count params ≤ root
+in_plane params root corner other lt = elim (cases_lt root (corner_count params)) [
+  | inl box ↦ rw (lt-ltb root (corner_count params) box) (λ small. absurd (omega (arith, lt, small)))
+  | inr plane ↦ rw (le-ltb root (corner_count params) plane) (λ small. plane)
 ]
 
 pub length_root : (params : Params) (es : List Entered) (root : ℕ) → length (root_points params es root) ≡ length es * point_count params root

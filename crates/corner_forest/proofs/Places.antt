@@ -1,11 +1,12 @@
 -- Trees in a list, by their places.
-use Rattle.std.proofs.Common.{◌≡◌, ℕ, zero, suc, ◌+◌, ◌*◌, ◌<◌, ◌≤◌, ◌%◌, ◌^◌, List, [], ◌∷◌, length, get_or, refl, sym, ap, ◌∙◌, subst, arith, ◌++◌, map}
+use Rattle.std.proofs.Common.{◌≡◌, ℕ, zero, suc, ◌+◌, ◌*◌, ◌<◌, ◌≤◌, ◌%◌, ◌^◌, List, [], ◌∷◌, length, get_or, refl, sym, ap, ◌∙◌, subst, arith, ◌++◌, map, take}
 use Rattle.std.specs.List.{All, range_with_len}
 use Rattle.bw_types.specs.declared.point.Point.{Point}
 use Rattle.bw_types.specs.declared.tree.Tree.{Tree}
 use Rattle.page_ports.specs.Pages.{PageMap}
 use Rattle.dom_index.specs.declared.index.DomIndex.{Ghosts}
 use Rattle.std.proofs.Math.Nat.{mul-le-mul_right}
+use Rattle.std.proofs.lemmas.List.Elements.{All-take}
 use Rattle.box_corners.specs.Sums.{residue_sum_below}
 use Rattle.corner_forest.specs.Trees.{EachStands}
 
@@ -21,6 +22,18 @@ stands_at S P from (t ∷ ts) (suc k) d s lt =
 
 ring : (s cost : ℕ) → (s + 1) * cost ≡ s * cost + cost
 ring s cost = let more : s + 1 ≡ suc s = omega arith in rw more (omega arith)
+
+each_taken : (S : Tree → List Point → Type 0) (P : ℕ → List Point) (from n : ℕ) (ts : List Tree) → EachStands S P from ts → EachStands S P from (take n ts)
+each_taken S P from zero ts s = tt
+each_taken S P from (suc n) [] s = tt
+each_taken S P from (suc n) (t ∷ ts) s = (s.0, each_taken S P (suc from) n ts s.1)
+
+-- the first trees of a list
+pub each_first : (S : Tree → List Point → Type 0) (P : ℕ → List Point) (n : ℕ) (ts shown : List Tree) → shown ≡ ts → EachStands S P 0 ts → EachStands S P 0 (take n shown)
+each_first S P n ts shown is s = each_taken S P 0 n shown (subst (λ (l : List Tree). EachStands S P 0 l) (sym is) s)
+
+pub all_first : (Q : Tree → Type 0) (n : ℕ) (ts shown : List Tree) → shown ≡ ts → All Q ts → All Q (take n shown)
+all_first Q n ts shown is all = All-take Q n shown (subst (λ (l : List Tree). All Q l) (sym is) all)
 
 -- one term more of a sum
 pub next_sum : (F : ℕ → ℕ) (n total term next : ℕ) → total ≡ residue_sum_below n F → term ≡ F n → next ≡ (total + term) % 2 ^ 128 → next ≡ residue_sum_below (n + 1) F

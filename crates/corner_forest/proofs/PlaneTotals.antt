@@ -27,7 +27,7 @@ map_equal f h (x ∷ xs) e = ap (λ (y : ℕ). y ∷ map f xs) (e x) ∙ ap (λ 
 planes_summed : (params : Params) (q : Query) (version : ℕ) (es : List Entered) (subset : ℕ)
     → planes_at params (root_points params es) (integral_corner params.dims q subset) version ≡ summed_planes params q version es subset
 planes_summed params q version es subset =
-    map_equal (λ plane. dominance_sum params.dims (root_points params es (2 * corner_count params + plane)) (integral_corner params.dims q subset) version)
+    map_equal (λ plane. dominance_sum params.dims (root_points params es (corner_count params + plane)) (integral_corner params.dims q subset) version)
     (λ plane. dominance_sum params.dims (plane_points params plane es) (integral_corner params.dims q subset) version) (range_with_len 0 (plane_count params))
     (λ plane. ap (λ (ps : List Point). dominance_sum params.dims ps (integral_corner params.dims q subset) version) (root_planed params plane es))
 
@@ -42,7 +42,7 @@ integral_by_corners law params q version es total n range degree fits all is_n i
     ap (λ (planes : List ℕ). residue_signed_by k (residue (planes_value params planes (query_corner q k)))) (planes_summed params q version es k) in
     is_total ∙ ap (λ (m : ℕ). residue_sum_below m f) is_n ∙ sum_below_of_equal (corner_count params) f h same ∙ law params q version es range degree fits all
 
-pub planed_count : (params : Params) (es : List Entered) (plane : ℕ) → plane < plane_count params → length (root_points params es (2 * corner_count params + plane)) ≡ length es * corner_count params
+pub planed_count : (params : Params) (es : List Entered) (plane : ℕ) → plane < plane_count params → length (root_points params es (corner_count params + plane)) ≡ length es * corner_count params
 planed_count params es plane lt =
-    let above : nat_lt (2 * corner_count params + plane) (2 * corner_count params) ≡ false = le-ltb (2 * corner_count params + plane) (2 * corner_count params) (omega arith) in
-    length_root params es (2 * corner_count params + plane) ∙ ap (λ (t : Bool). length es * (if t then 1 else corner_count params)) above
+    let above : nat_lt (corner_count params + plane) (corner_count params) ≡ false = le-ltb (corner_count params + plane) (corner_count params) (omega arith) in
+    length_root params es (corner_count params + plane) ∙ ap (λ (t : Bool). length es * (if t then 1 else corner_count params)) above

@@ -1,5 +1,5 @@
 -- What trees of points say at a query's corners.
-use Rattle.std.specs.Prelude.{ℕ, ◌+◌, ◌*◌, List, map}
+use Rattle.std.specs.Prelude.{ℕ, ◌+◌, List, map}
 use Rattle.std.specs.List.{range_with_len}
 use Rattle.std.specs.Option.{option_map_or}
 use Rattle.bw_types.specs.Dominance.{dominance_sum}
@@ -17,4 +17,4 @@ value_at dims q version points subset = option_map_or (λ corner. dominance_sum 
 -- each plane's dominance sum at the keys
 abbrev pub planes_at : Params → (ℕ → List Point) → List ℕ → ℕ → List ℕ
 planes_at params points keys version =
-    map (λ plane. dominance_sum params.dims (points (2 * corner_count params + plane)) keys version) (range_with_len 0 (plane_count params))
+    map (λ plane. dominance_sum params.dims (points (corner_count params + plane)) keys version) (range_with_len 0 (plane_count params))

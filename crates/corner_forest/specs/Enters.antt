@@ -2,7 +2,7 @@
 use Rattle.std.specs.Prelude.{ℕ, zero, suc, ◌+◌, ◌-◌, ◌*◌, ◌<◌, ◌≤◌, ◌==◌, ◌&&◌, Bool, nat_le, nat_lt, if◌then◌else◌, List, ◌∷◌, ◌++◌, map, get_or}
 use Rattle.std.specs.List.{range_with_len}
 use Rattle.bw_types.specs.Empty.{empty_tree}
-use Rattle.bw_types.specs.Heights.{added_pages}
+use Rattle.bw_types.specs.Depths.{added_pages}
 use Rattle.bw_types.specs.declared.object.Object.{Object}
 use Rattle.bw_types.specs.declared.params.Params.{Params}
 use Rattle.bw_types.specs.declared.point.Point.{Point}
@@ -13,7 +13,7 @@ use Rattle.page_layout.specs.Footprint.{NamesNoneTwice}
 use Rattle.poly_moments.specs.PlaneSums.{Entered}
 use Rattle.dom_index.specs.Points.{IsNewPoint}
 use Rattle.dom_index.specs.declared.index.DomIndex.{Ghosts}
-use Rattle.corner_forest.specs.Entries.{entry_point, point_count, root_count, root_points}
+use Rattle.corner_forest.specs.Entries.{IsNextEntry, entry_point, point_count, root_count, root_points}
 use Rattle.corner_forest.specs.Stands.{ForestStands, AreBalanced, forest_pages}
 use Rattle.corner_forest.specs.Trees.{EachStands}
 use Rattle.corner_forest.specs.declared.stamp.Stamp.{Stamp}
@@ -92,6 +92,13 @@ additions_at params roots root = tree_growth params.dims (get_or roots root empt
 -- those of all additions of an entry to these trees, one after another
 abbrev pub additions_growth : Params → List Tree → ℕ
 additions_growth params roots = sum_below (root_count params) (additions_at params roots)
+
+-- The forest stands for the entries and names none of its pages twice, and this entry comes next.
+pub record MayEnter {X : Type 0} (g : Ghosts X) (pages : PageMap) (params : Params) (roots : List Tree) (entries : List Entered)
+    (e : Entered) : Type 0 where
+  pub stands : ForestStands g pages params roots entries
+  pub once : NamesNoneTwice (forest_pages g pages params roots)
+  pub next : IsNextEntry params entries e
 
 -- The forest stood for the entries, and stands for one more.
 pub record ForestEnters {X : Type 0} (g : Ghosts X) (params : Params) (before after : PageMap) (old new : List Tree) (entries : List Entered) (e : Entered) : Type 0 where

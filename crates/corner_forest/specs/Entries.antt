@@ -1,8 +1,8 @@
 -- What is entered into a forest, and the points that an entry has in each of its trees.
 --
--- The trees stand in this order: for each subset of the dimensions one of weights, for each subset one of counts, and one
--- for each plane. Subsets and planes are told by their numbers.
-use Rattle.std.specs.Prelude.{ℕ, ◌+◌, ◌-◌, ◌*◌, ◌^◌, ◌<◌, ◌≤◌, Bool, nat_lt, if◌then◌else◌, List, length, map}
+-- The trees stand in this order: for each subset of the dimensions one, of which sums and counts are both read, and one for
+-- each plane. Subsets and planes are told by their numbers.
+use Rattle.std.specs.Prelude.{ℕ, ◌+◌, ◌-◌, ◌*◌, ◌^◌, ◌<◌, ◌≤◌, Bool, nat_lt, if◌then◌else◌, List, length, map, ℤ, pos, ◌+ℤ◌, ◌*ℤ◌}
 use Rattle.std.specs.List.{All, flat_map, range_with_len}
 use Rattle.bw_types.specs.Residues.{residue, opposite_residue}
 use Rattle.bw_types.specs.declared.params.Params.{Params}
@@ -17,30 +17,33 @@ corner_count params = 2 ^ params.dims
 
 -- how many trees there are
 abbrev pub root_count : Params → ℕ
-root_count params = 2 * corner_count params + plane_count params
+root_count params = corner_count params + plane_count params
 
 -- the residue, or its opposite where the entry takes an object out
 abbrev pub entered_residue : Bool → ℕ → ℕ
 entered_residue minus weight = if minus then opposite_residue weight else weight
 
--- the entry as an object with its weight
-abbrev pub as_weighed : Entered → Entry
-as_weighed e = record { object = e.object; number = e.event; version = e.version; weight = entered_residue e.minus (residue e.object.weight) }
+-- a weight and a count as one number: the count takes the lowest 32 bits
+abbrev pub sum_and_count : ℤ → ℤ → ℤ
+sum_and_count sum count = sum *ℤ pos (2 ^ 32) +ℤ count
 
--- the entry as an object that counts 1
-abbrev pub as_counted : Entered → Entry
-as_counted e = record { object = e.object; number = e.event; version = e.version; weight = entered_residue e.minus 1 }
+-- the weight of the entry and its count of 1 in one number, modulo 2^128
+abbrev pub weight_and_count : Entered → ℕ
+weight_and_count e = entered_residue e.minus (residue (sum_and_count e.object.weight (pos 1)))
+
+-- the entry as an object with its weight that counts 1
+abbrev pub as_met : Entered → Entry
+as_met e = record { object = e.object; number = e.event; version = e.version; weight = weight_and_count e }
 
 -- how many points an entry has in this tree: one, or in a plane one for each corner
 abbrev pub point_count : Params → ℕ → ℕ
-point_count params root = if nat_lt root (2 * corner_count params) then 1 else corner_count params
+point_count params root = if nat_lt root (corner_count params) then 1 else corner_count params
 
 -- the entry's point in this tree; in a plane that of this corner
 abbrev pub entry_point : Params → Entered → ℕ → ℕ → Point
 entry_point params e root corner =
-    if nat_lt root (corner_count params) then corner_point params.dims root (as_weighed e)
-    else if nat_lt root (2 * corner_count params) then corner_point params.dims (root - corner_count params) (as_counted e)
-    else plane_point params (root - 2 * corner_count params) corner e
+    if nat_lt root (corner_count params) then corner_point params.dims root (as_met e)
+    else plane_point params (root - corner_count params) corner e
 
 -- all points of the entry in this tree
 abbrev pub entry_points : Params → ℕ → Entered → List Point

@@ -1,18 +1,17 @@
 //! Entering an object.
-ghost use Rattle.std.specs.Prelude.{◌≡◌, ◌≢◌, ◌+◌, ◌-◌, ◌*◌, ◌^◌, ◌<◌, ◌≤◌, ◌⊎◌, ℕ, List, ◌∷◌, length, Err, IsTrue, IsSome, IfOk, OnOk, OnErr};
-ghost use Rattle.std.specs.List.{All, sum_by, range_with_len};
+ghost use Rattle.std.specs.Prelude.{◌≡◌, ◌≢◌, ◌+◌, ◌-◌, ◌*◌, ◌^◌, ◌<◌, ◌≤◌, ◌⊎◌, ℕ, List, length, nat_abs, Err, IsTrue, IsSome, IfOk, OnOk, OnErr};
+ghost use Rattle.std.specs.List.{All};
 ghost use Rattle.bw_types.specs.Fits.{IsInRange, object_fits};
 ghost use Rattle.bw_types.specs.declared.point.Point.{Point};
 ghost use Rattle.page_ports.specs.Calls.{Changes};
-ghost use Rattle.page_layout.specs.Footprint.{NamesNoneTwice};
-ghost use Rattle.page_layout.specs.TreeValue.{IsTreeTyped, tree_fits};
+ghost use Rattle.page_layout.specs.TreeValue.{tree_fits};
 ghost use Rattle.poly_moments.specs.PlaneSums.{Entered};
 ghost use Rattle.poly_moments.specs.Powers.{ArePowersOf};
 ghost use Rattle.corner_forest.specs.EntryDamage.{AdditionsMayLeave, IsDamagedForEntry, IsDamagedForPoints};
-ghost use Rattle.corner_forest.specs.Enters.{AreNewPoints, EntryHasRoom, ForestEnters, TakesMore, TreeEnters, additions_growth, entered, entry_of, entry_growth, first_pages, tree_growth};
-ghost use Rattle.bw_types.specs.Heights.{added_pages};
-ghost use Rattle.corner_forest.specs.Entries.{IsNextEntry, entry_points, point_count as count_of_points, root_count, corner_count};
-ghost use Rattle.corner_forest.specs.Stands.{AreBalanced, ForestStands, forest_pages};
+ghost use Rattle.corner_forest.specs.Enters.{AreNewPoints, EntryHasRoom, ForestEnters, MayEnter, TakesMore, TreeEnters, additions_growth, entered, entry_of, entry_growth, first_pages, tree_growth};
+ghost use Rattle.bw_types.specs.Depths.{added_pages};
+ghost use Rattle.corner_forest.specs.Entries.{entry_points, point_count as count_of_points, root_count, corner_count};
+ghost use Rattle.corner_forest.specs.Stands.{AreBalanced};
 
 use crate::forest::{Forest, corner_count, root_count};
 use crate::points::entry_point;
@@ -50,18 +49,14 @@ pub fn enter<X: DomIndex, S: Stage>(
     ensures params { forest.new.params ≡ forest.old.params }
     ensures roots { length forest.new.roots.items ≡ root_count forest.old.params }
     ensures enters { OnOk result (IsTrue (S.tells stage.old) → (entries : List Entered)
-        → ForestStands X.DomIndex (S.map stage.old) forest.old.params forest.old.roots.items entries
-        → NamesNoneTwice (forest_pages X.DomIndex (S.map stage.old) forest.old.params forest.old.roots.items)
-        → IsNextEntry forest.old.params entries (entry_of object.now minus event version)
+        → MayEnter X.DomIndex (S.map stage.old) forest.old.params forest.old.roots.items entries (entry_of object.now minus event version)
         → ForestEnters X.DomIndex forest.old.params (S.map stage.old) (S.map stage.new) forest.old.roots.items forest.new.roots.items
         entries (entry_of object.now minus event version)) }
     // What a page may spell before, it may spell afterwards, whatever the pages hold.
     ensures rules { OnOk result (All (λ t. IsTrue (tree_fits t)) forest.old.roots.items → All (λ t. IsTrue (tree_fits t)) forest.new.roots.items) }
     ensures unchanged { OnErr result (forest.new ≡ forest.old) }
     ensures sound { (entries : List Entered) (page : ℕ) → IsTrue (S.tells stage.old)
-        → ForestStands X.DomIndex (S.map stage.old) forest.old.params forest.old.roots.items entries
-        → NamesNoneTwice (forest_pages X.DomIndex (S.map stage.old) forest.old.params forest.old.roots.items)
-        → IsNextEntry forest.old.params entries (entry_of object.now minus event version)
+        → MayEnter X.DomIndex (S.map stage.old) forest.old.params forest.old.roots.items entries (entry_of object.now minus event version)
         → AreBalanced X.DomIndex (S.map stage.old) forest.old.params forest.old.roots.items
         → S.free_in_order stage.old → result ≢ Err (StageFault.Damaged page) }
     ensures damaged { (page : ℕ) → result ≡ Err (StageFault.Damaged page) → IsTrue (S.tells stage.old)
@@ -70,31 +65,23 @@ pub fn enter<X: DomIndex, S: Stage>(
     // However many page numbers are given out, where the forest does not stand.
     ensures changes { Changes S.Pages (S.allotted stage.new + 1) stage.old stage.new result }
     ensures growth { IsTrue (S.tells stage.old) → (entries : List Entered)
-        → ForestStands X.DomIndex (S.map stage.old) forest.old.params forest.old.roots.items entries
-        → NamesNoneTwice (forest_pages X.DomIndex (S.map stage.old) forest.old.params forest.old.roots.items)
-        → IsNextEntry forest.old.params entries (entry_of object.now minus event version)
+        → MayEnter X.DomIndex (S.map stage.old) forest.old.params forest.old.roots.items entries (entry_of object.now minus event version)
         → AreBalanced X.DomIndex (S.map stage.old) forest.old.params forest.old.roots.items
         → Changes S.Pages (entry_growth forest.old.params (length entries)) stage.old stage.new result }
     // Addition by addition, each at the tree as it is then.
     ensures by_additions { IsTrue (S.tells stage.old) → (entries : List Entered)
-        → ForestStands X.DomIndex (S.map stage.old) forest.old.params forest.old.roots.items entries
-        → NamesNoneTwice (forest_pages X.DomIndex (S.map stage.old) forest.old.params forest.old.roots.items)
-        → IsNextEntry forest.old.params entries (entry_of object.now minus event version)
+        → MayEnter X.DomIndex (S.map stage.old) forest.old.params forest.old.roots.items entries (entry_of object.now minus event version)
         → AreBalanced X.DomIndex (S.map stage.old) forest.old.params forest.old.roots.items
         → Changes S.Pages (additions_growth forest.old.params forest.old.roots.items) stage.old stage.new result }
     // In two and three dimensions trees of one page at most take a page each at their first point, and then none as
     // long as there is room on it.
     ensures small_growth { IsTrue (S.tells stage.old) → (entries : List Entered)
-        → ForestStands X.DomIndex (S.map stage.old) forest.old.params forest.old.roots.items entries
-        → NamesNoneTwice (forest_pages X.DomIndex (S.map stage.old) forest.old.params forest.old.roots.items)
-        → IsNextEntry forest.old.params entries (entry_of object.now minus event version)
+        → MayEnter X.DomIndex (S.map stage.old) forest.old.params forest.old.roots.items entries (entry_of object.now minus event version)
         → AreBalanced X.DomIndex (S.map stage.old) forest.old.params forest.old.roots.items
         → 2 ≤ forest.old.params.dims → EntryHasRoom forest.old.params forest.old.roots.items
         → Changes S.Pages (first_pages forest.old.params forest.old.roots.items) stage.old stage.new result }
     ensures one_page { OnOk result (IsTrue (S.tells stage.old) → (entries : List Entered)
-        → ForestStands X.DomIndex (S.map stage.old) forest.old.params forest.old.roots.items entries
-        → NamesNoneTwice (forest_pages X.DomIndex (S.map stage.old) forest.old.params forest.old.roots.items)
-        → IsNextEntry forest.old.params entries (entry_of object.now minus event version)
+        → MayEnter X.DomIndex (S.map stage.old) forest.old.params forest.old.roots.items entries (entry_of object.now minus event version)
         → 2 ≤ forest.old.params.dims → EntryHasRoom forest.old.params forest.old.roots.items
         → All (λ t. t.levels ≡ 1) forest.new.roots.items) }
 {
@@ -132,46 +119,35 @@ fn enter_all<X: DomIndex, S: Stage>(
     requires version { stamp.version < 2 ^ 32 - 1 }
     ensures roots { IfOk result (λ roots. length roots.items ≡ root_count params.now) }
     ensures enters { IfOk result (λ roots. IsTrue (S.tells stage.old) → (entries : List Entered)
-        → ForestStands X.DomIndex (S.map stage.old) params.now old.now entries
-        → NamesNoneTwice (forest_pages X.DomIndex (S.map stage.old) params.now old.now)
-        → IsNextEntry params.now entries (entered object.now stamp)
+        → MayEnter X.DomIndex (S.map stage.old) params.now old.now entries (entered object.now stamp)
         → ForestEnters X.DomIndex params.now (S.map stage.old) (S.map stage.new) old.now roots.items entries (entered object.now stamp)) }
     ensures damaged { (page : ℕ) → result ≡ Err (StageFault.Damaged page) → IsTrue (S.tells stage.old)
         → IsDamagedForEntry X.DomIndex params.now (entered object.now stamp) old.now (S.map stage.old) page ⊎ (¬ S.free_in_order stage.old) }
     ensures rules { IfOk result (λ roots. All (λ t. IsTrue (tree_fits t)) old.now → All (λ t. IsTrue (tree_fits t)) roots.items) }
     ensures sound { (entries : List Entered) (page : ℕ) → IsTrue (S.tells stage.old)
-        → ForestStands X.DomIndex (S.map stage.old) params.now old.now entries
-        → NamesNoneTwice (forest_pages X.DomIndex (S.map stage.old) params.now old.now)
-        → IsNextEntry params.now entries (entered object.now stamp)
+        → MayEnter X.DomIndex (S.map stage.old) params.now old.now entries (entered object.now stamp)
         → AreBalanced X.DomIndex (S.map stage.old) params.now old.now
         → S.free_in_order stage.old → result ≢ Err (StageFault.Damaged page) }
     ensures changes { Changes S.Pages (S.allotted stage.new + 1) stage.old stage.new result }
     ensures growth { IsTrue (S.tells stage.old) → (entries : List Entered)
-        → ForestStands X.DomIndex (S.map stage.old) params.now old.now entries
-        → NamesNoneTwice (forest_pages X.DomIndex (S.map stage.old) params.now old.now)
-        → IsNextEntry params.now entries (entered object.now stamp)
+        → MayEnter X.DomIndex (S.map stage.old) params.now old.now entries (entered object.now stamp)
         → AreBalanced X.DomIndex (S.map stage.old) params.now old.now
         → Changes S.Pages (entry_growth params.now (length entries)) stage.old stage.new result }
     ensures by_additions { IsTrue (S.tells stage.old) → (entries : List Entered)
-        → ForestStands X.DomIndex (S.map stage.old) params.now old.now entries
-        → NamesNoneTwice (forest_pages X.DomIndex (S.map stage.old) params.now old.now)
-        → IsNextEntry params.now entries (entered object.now stamp)
+        → MayEnter X.DomIndex (S.map stage.old) params.now old.now entries (entered object.now stamp)
         → AreBalanced X.DomIndex (S.map stage.old) params.now old.now
         → Changes S.Pages (additions_growth params.now old.now) stage.old stage.new result }
     ensures small_growth { IsTrue (S.tells stage.old) → (entries : List Entered)
-        → ForestStands X.DomIndex (S.map stage.old) params.now old.now entries
-        → NamesNoneTwice (forest_pages X.DomIndex (S.map stage.old) params.now old.now)
-        → IsNextEntry params.now entries (entered object.now stamp)
+        → MayEnter X.DomIndex (S.map stage.old) params.now old.now entries (entered object.now stamp)
         → AreBalanced X.DomIndex (S.map stage.old) params.now old.now
         → 2 ≤ params.now.dims → EntryHasRoom params.now old.now
         → Changes S.Pages (first_pages params.now old.now) stage.old stage.new result }
     ensures one_page { IfOk result (λ roots. IsTrue (S.tells stage.old) → (entries : List Entered)
-        → ForestStands X.DomIndex (S.map stage.old) params.now old.now entries
-        → NamesNoneTwice (forest_pages X.DomIndex (S.map stage.old) params.now old.now)
-        → IsNextEntry params.now entries (entered object.now stamp)
+        → MayEnter X.DomIndex (S.map stage.old) params.now old.now entries (entered object.now stamp)
         → 2 ≤ params.now.dims → EntryHasRoom params.now old.now → All (λ t. t.levels ≡ 1) roots.items) }
 {
     X::index_laws();
+    is_small(object.weight);
     let powers = box_powers(object, params);
     let count = root_count(params);
     let mut roots = ArrayVec::new();
@@ -249,6 +225,11 @@ fn enter_root<X: DomIndex, S: Stage>(
     Ok(())
 }
 
+// Proves that a weight has 64 bits; it does nothing when it runs.
+fn is_small(weight: i64)
+    ensures { nat_abs weight ≤ 2 ^ 63 }
+{}
+
 // How many points an entry has in this tree.
 fn point_count(params: &Params, place: u8) -> u8
     requires { IsInRange params.now }
@@ -257,5 +238,5 @@ fn point_count(params: &Params, place: u8) -> u8
     ensures most { result ≤ corner_count params.now }
 {
     let corners = corner_count(params);
-    if place < 2 * corners { 1 } else { corners }
+    if place < corners { 1 } else { corners }
 }

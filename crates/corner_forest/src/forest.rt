@@ -8,8 +8,8 @@ use arrayvec::ArrayVec;
 use bw_types::{Params, Tree};
 use poly_moments::plane_count;
 
-/// The trees in which objects are entered: first those of weights by subset, then those of counts by subset,
-/// and where there is a degree one for each plane.
+/// The trees in which objects are entered: first those by subset, of which sums and counts are both read, and
+/// where there is a degree one for each plane.
 #[derive(Debug, PartialEq, Drop)]
 pub struct Forest {
     pub params: Params,
@@ -51,7 +51,7 @@ pub(crate) fn corner_count(params: &Params) -> u8
 pub(crate) fn root_count(params: &Params) -> usize
     requires { IsInRange params.now }
     ensures count { result ≡ root_count params.now }
-    ensures at_most { result ≤ 80 }
+    ensures at_most { result ≤ 72 }
 {
-    2 * usize::from(corner_count(params)) + plane_count(params)
+    usize::from(corner_count(params)) + plane_count(params)
 }

@@ -1,7 +1,8 @@
 //! Sums, counts and integrals over boxes, by the signed corners of a forest of indexes.
 //!
 //! An object is entered as one point at each of its corners, in a tree for each corner; a query adds up the
-//! dominance sums at its own corners with their signs. What an entry with `minus` takes out counts with the
+//! dominance sums at its own corners with their signs. A point's weight tells the object's weight and that it
+//! counts 1, so that one total tells the sum and the count. What an entry with `minus` takes out counts with the
 //! opposite sign from its version on, so every past version stays as it was. The calls are generic over the
 //! index, and their contracts speak of objects and queries alone.
 #![tactic(auto)]
@@ -20,5 +21,5 @@ mod tests;
 
 pub use entry::enter;
 pub use forest::Forest;
-pub use meet::{count, sum};
+pub use meet::{count, met, sum};
 pub use planes::integral;

@@ -1,8 +1,7 @@
 //! Sums and counts of the objects that meet a query.
-ghost use Rattle.std.specs.Prelude.{◌≡◌, ◌≢◌, ◌+◌, ◌*◌, ◌^◌, ◌<◌, ◌≤◌, ◌≤ℤ◌, ◌<ℤ◌, ℕ, true, List, length, pos, neg_ℤ, Some, Err, IsTrue, IfOk};
+ghost use Rattle.std.specs.Prelude.{◌≡◌, ◌≢◌, ◌+◌, ◌*◌, ◌^◌, ◌<◌, ◌≤◌, ◌≤ℤ◌, ◌<ℤ◌, ℕ, true, List, length, ℤ, pos, neg_ℤ, Some, Err, IsTrue, IfOk};
 ghost use Rattle.std.specs.List.{All};
 ghost use Rattle.bw_types.specs.Fits.{IsInRange, ends_fit};
-ghost use Rattle.bw_types.specs.Residues.{residue, signed_of};
 ghost use Rattle.bw_types.specs.declared.point.Point.{Point};
 ghost use Rattle.page_ports.specs.Calls.{OnlyReads};
 ghost use Rattle.box_corners.specs.Corners.{meet_corner as corner_to_meet};
@@ -12,7 +11,7 @@ ghost use Rattle.poly_moments.specs.PlaneSums.{Entered};
 ghost use Rattle.corner_forest.specs.Answers.{count_of, sum_of};
 ghost use Rattle.corner_forest.specs.Corners.{value_at};
 ghost use Rattle.corner_forest.specs.Damage.{IsDamagedAtCorners};
-ghost use Rattle.corner_forest.specs.Entries.{corner_count, root_count};
+ghost use Rattle.corner_forest.specs.Entries.{corner_count, root_count, sum_and_count};
 ghost use Rattle.corner_forest.specs.Stands.{AreBalanced, ForestStands};
 ghost use Rattle.corner_forest.specs.Trees.{EachStands};
 
@@ -24,11 +23,10 @@ use bw_types::{Params, Query, Tree, res_add, res_signed};
 use dom_index::DomIndex;
 use page_ports::{PageFault, Pages};
 
-/// The total weight at a version of the entries whose objects meet the query, read as a signed number of 128 bits.
+/// The total weight at a version of the entries whose objects meet the query.
 ///
-/// The query keeps the rules of the forest's params, and the index has as many dimensions. Where the total is from
-/// `-2^127` to `2^127 - 1` it is the total itself. It takes no memory. `Disk` comes only where the count of faults
-/// rose; `Damaged` never comes where the forest stands.
+/// The query keeps the rules of the forest's params, and the index has as many dimensions. It takes no memory.
+/// `Disk` comes only where the count of faults rose; `Damaged` never comes where the forest stands.
 pub fn sum<X: DomIndex, P: Pages>(
     pages: &mut P,
     forest: &Forest,
@@ -41,14 +39,9 @@ pub fn sum<X: DomIndex, P: Pages>(
     requires query { ends_fit forest.now.params query.now.low query.now.high ≡ true }
     ensures sum { IfOk result (λ value. IsTrue (P.tells pages.old) → (entries : List Entered)
         → ForestStands X.DomIndex (P.map pages.old) forest.now.params forest.now.roots.items entries
-        → value ≡ signed_of (residue (sum_of forest.now.params entries version query.now))) }
-    ensures exact { IfOk result (λ value. IsTrue (P.tells pages.old) → (entries : List Entered)
-        → ForestStands X.DomIndex (P.map pages.old) forest.now.params forest.now.roots.items entries
-        → neg_ℤ (pos (2 ^ 127)) ≤ℤ sum_of forest.now.params entries version query.now
-        → sum_of forest.now.params entries version query.now <ℤ pos (2 ^ 127)
         → value ≡ sum_of forest.now.params entries version query.now) }
     ensures damaged { (page : ℕ) → result ≡ Err (PageFault.Damaged page) → IsTrue (P.tells pages.old)
-        → IsDamagedAtCorners X.DomIndex (P.map pages.old) forest.now.params forest.now.roots.items 0 query.now version page }
+        → IsDamagedAtCorners X.DomIndex (P.map pages.old) forest.now.params forest.now.roots.items query.now version page }
     ensures sound { (entries : List Entered) (page : ℕ) → IsTrue (P.tells pages.old)
         → ForestStands X.DomIndex (P.map pages.old) forest.now.params forest.now.roots.items entries → result ≢ Err (PageFault.Damaged page) }
     ensures reads { OnlyReads P.Pages (P.gets pages.new) pages.old pages.new result }
@@ -57,10 +50,8 @@ pub fn sum<X: DomIndex, P: Pages>(
         → AreBalanced X.DomIndex (P.map pages.old) forest.now.params forest.now.roots.items
         → P.gets pages.new ≤ P.gets pages.old + corner_count forest.now.params * X.cost forest.now.params.dims (length entries) }
 {
-    entries_meet_by_corners();
-    residues_are_signed();
-    let total = signed_sum::<X, P>(pages, forest, query, version, 0)?;
-    Ok(res_signed(total))
+    let total = met_total::<X, P>(pages, forest, query, version)?;
+    Ok(sum_in(total))
 }
 
 /// The number at a version of the entries whose objects meet the query.
@@ -78,14 +69,62 @@ pub fn count<X: DomIndex, P: Pages>(
     requires query { ends_fit forest.now.params query.now.low query.now.high ≡ true }
     ensures count { IfOk result (λ value. IsTrue (P.tells pages.old) → (entries : List Entered)
         → ForestStands X.DomIndex (P.map pages.old) forest.now.params forest.now.roots.items entries
-        → value ≡ signed_of (residue (count_of forest.now.params entries version query.now))) }
-    ensures exact { IfOk result (λ value. IsTrue (P.tells pages.old) → (entries : List Entered)
-        → ForestStands X.DomIndex (P.map pages.old) forest.now.params forest.now.roots.items entries
-        → neg_ℤ (pos (2 ^ 127)) ≤ℤ count_of forest.now.params entries version query.now
-        → count_of forest.now.params entries version query.now <ℤ pos (2 ^ 127)
         → value ≡ count_of forest.now.params entries version query.now) }
     ensures damaged { (page : ℕ) → result ≡ Err (PageFault.Damaged page) → IsTrue (P.tells pages.old)
-        → IsDamagedAtCorners X.DomIndex (P.map pages.old) forest.now.params forest.now.roots.items (corner_count forest.now.params) query.now version page }
+        → IsDamagedAtCorners X.DomIndex (P.map pages.old) forest.now.params forest.now.roots.items query.now version page }
+    ensures sound { (entries : List Entered) (page : ℕ) → IsTrue (P.tells pages.old)
+        → ForestStands X.DomIndex (P.map pages.old) forest.now.params forest.now.roots.items entries → result ≢ Err (PageFault.Damaged page) }
+    ensures reads { OnlyReads P.Pages (P.gets pages.new) pages.old pages.new result }
+    ensures cost { IsTrue (P.tells pages.old) → (entries : List Entered)
+        → ForestStands X.DomIndex (P.map pages.old) forest.now.params forest.now.roots.items entries
+        → AreBalanced X.DomIndex (P.map pages.old) forest.now.params forest.now.roots.items
+        → P.gets pages.new ≤ P.gets pages.old + corner_count forest.now.params * X.cost forest.now.params.dims (length entries) }
+{
+    let total = met_total::<X, P>(pages, forest, query, version)?;
+    Ok(count_in(total))
+}
+
+// The sum in a total of which the count has 32 bits: rounded down, it is 1 too little where the count is negative.
+fn sum_in(total: i128) -> i128
+    ensures sum { (sum count : ℤ) → neg_ℤ (pos (2 ^ 31)) ≤ℤ count → count <ℤ pos (2 ^ 31) → total ≡ sum_and_count sum count → result ≡ sum }
+{
+    let whole = total.div_euclid(4294967296);
+    if count_in(total) < 0 {
+        whole + 1
+    } else {
+        whole
+    }
+}
+
+// The count in such a total: its lowest 32 bits, read as a signed number.
+fn count_in(total: i128) -> i128
+    ensures count { (sum count : ℤ) → neg_ℤ (pos (2 ^ 31)) ≤ℤ count → count <ℤ pos (2 ^ 31) → total ≡ sum_and_count sum count → result ≡ count }
+{
+    let low = total.rem_euclid(4294967296);
+    if low < 2147483648 {
+        low
+    } else {
+        low - 4294967296
+    }
+}
+
+// The sum and the count in one number, of the trees by subset.
+fn met_total<X: DomIndex, P: Pages>(
+    pages: &mut P,
+    forest: &Forest,
+    query: &Query,
+    version: u32,
+) -> Result<i128, PageFault>
+    requires in_range { IsInRange forest.now.params }
+    requires dims { forest.now.params.dims ≤ X.DIMS }
+    requires roots { length forest.now.roots.items ≡ root_count forest.now.params }
+    requires query { ends_fit forest.now.params query.now.low query.now.high ≡ true }
+    ensures total { IfOk result (λ value. IsTrue (P.tells pages.old) → (entries : List Entered)
+        → ForestStands X.DomIndex (P.map pages.old) forest.now.params forest.now.roots.items entries
+        → value ≡ sum_and_count (sum_of forest.now.params entries version query.now)
+        (count_of forest.now.params entries version query.now)) }
+    ensures damaged { (page : ℕ) → result ≡ Err (PageFault.Damaged page) → IsTrue (P.tells pages.old)
+        → IsDamagedAtCorners X.DomIndex (P.map pages.old) forest.now.params forest.now.roots.items query.now version page }
     ensures sound { (entries : List Entered) (page : ℕ) → IsTrue (P.tells pages.old)
         → ForestStands X.DomIndex (P.map pages.old) forest.now.params forest.now.roots.items entries → result ≢ Err (PageFault.Damaged page) }
     ensures reads { OnlyReads P.Pages (P.gets pages.new) pages.old pages.new result }
@@ -96,45 +135,48 @@ pub fn count<X: DomIndex, P: Pages>(
 {
     entries_meet_by_corners();
     residues_are_signed();
-    let first = corner_count(&forest.params);
-    let total = signed_sum::<X, P>(pages, forest, query, version, first)?;
+    let corners = usize::from(corner_count(&forest.params));
+    let roots = &forest.roots.as_slice()[..corners];
+    let total = met::<X, P>(pages, &forest.params, roots, query, version)?;
     Ok(res_signed(total))
 }
 
-// The signed sum over the subsets of what the trees from this one on say at the query's corners.
-fn signed_sum<X: DomIndex, P: Pages>(
+/// The signed sum, modulo `2^128`, over the subsets of what their trees say at the query's corners for meeting.
+///
+/// There are as many trees as subsets, the query keeps the rules of the params, and the index has as many
+/// dimensions. It takes no memory. `Disk` comes only where the count of faults rose; `Damaged` never comes where
+/// the trees stand.
+pub fn met<X: DomIndex, P: Pages>(
     pages: &mut P,
-    forest: &Forest,
+    params: &Params,
+    roots: &[Tree],
     query: &Query,
     version: u32,
-    first: u8,
 ) -> Result<u128, PageFault>
-    requires in_range { IsInRange forest.now.params }
-    requires dims { forest.now.params.dims ≤ X.DIMS }
-    requires roots { first + corner_count forest.now.params ≤ length forest.now.roots.items }
-    requires query { ends_fit forest.now.params query.now.low query.now.high ≡ true }
+    requires in_range { IsInRange params.now }
+    requires dims { params.now.dims ≤ X.DIMS }
+    requires roots { length roots.now ≡ corner_count params.now }
+    requires query { ends_fit params.now query.now.low query.now.high ≡ true }
     ensures sum { IfOk result (λ total. IsTrue (P.tells pages.old) → (points : ℕ → List Point)
-        → EachStands (X.stands (P.map pages.old) forest.now.params.dims) points 0 forest.now.roots.items
-        → total ≡ residue_sum_below (corner_count forest.now.params) (λ subset. residue_signed_by subset
-        (value_at forest.now.params.dims query.now version (points (first + subset)) subset))) }
+        → EachStands (X.stands (P.map pages.old) params.now.dims) points 0 roots.now
+        → total ≡ residue_sum_below (corner_count params.now) (λ subset. residue_signed_by subset
+        (value_at params.now.dims query.now version (points subset) subset))) }
     ensures damaged { (page : ℕ) → result ≡ Err (PageFault.Damaged page) → IsTrue (P.tells pages.old)
-        → IsDamagedAtCorners X.DomIndex (P.map pages.old) forest.now.params forest.now.roots.items first query.now version page }
+        → IsDamagedAtCorners X.DomIndex (P.map pages.old) params.now roots.now query.now version page }
     ensures sound { (points : ℕ → List Point) (page : ℕ) → IsTrue (P.tells pages.old)
-        → EachStands (X.stands (P.map pages.old) forest.now.params.dims) points 0 forest.now.roots.items → result ≢ Err (PageFault.Damaged page) }
+        → EachStands (X.stands (P.map pages.old) params.now.dims) points 0 roots.now → result ≢ Err (PageFault.Damaged page) }
     ensures reads { OnlyReads P.Pages (P.gets pages.new) pages.old pages.new result }
     ensures cost { IsTrue (P.tells pages.old) → (points : ℕ → List Point) (n : ℕ)
-        → EachStands (X.stands (P.map pages.old) forest.now.params.dims) points 0 forest.now.roots.items
-        → AreBalanced X.DomIndex (P.map pages.old) forest.now.params forest.now.roots.items
-        → ((subset : ℕ) → subset < corner_count forest.now.params → length (points (first + subset)) ≡ n)
-        → P.gets pages.new ≤ P.gets pages.old + corner_count forest.now.params * X.cost forest.now.params.dims n }
+        → EachStands (X.stands (P.map pages.old) params.now.dims) points 0 roots.now
+        → AreBalanced X.DomIndex (P.map pages.old) params.now roots.now
+        → ((subset : ℕ) → subset < corner_count params.now → length (points subset) ≡ n)
+        → P.gets pages.new ≤ P.gets pages.old + corner_count params.now * X.cost params.now.dims n }
 {
     X::index_laws();
-    let roots = forest.roots.as_slice();
-    let dims = forest.params.dims;
     let mut total: u128 = 0;
-    for subset in 0..corner_count(&forest.params) {
-        let root = &roots[usize::from(first) + usize::from(subset)];
-        let value = value_at::<X, P>(pages, &forest.params, root, query, version, subset)?;
+    for subset in 0..corner_count(params) {
+        let root = &roots[usize::from(subset)];
+        let value = value_at::<X, P>(pages, params, root, query, version, subset)?;
         total = res_add(total, sign(subset, value));
     }
     Ok(total)

@@ -97,7 +97,7 @@ fn value_at<X: DomIndex, P: Pages>(
     ensures cost { IsTrue (P.tells pages.old) → (points : ℕ → List Point) (n : ℕ)
         → EachStands (X.stands (P.map pages.old) forest.now.params.dims) points 0 forest.now.roots.items
         → AreBalanced X.DomIndex (P.map pages.old) forest.now.params forest.now.roots.items
-        → ((plane : ℕ) → plane < plane_count forest.now.params → length (points (2 * count_of_corners forest.now.params + plane)) ≡ n)
+        → ((plane : ℕ) → plane < plane_count forest.now.params → length (points (count_of_corners forest.now.params + plane)) ≡ n)
         → P.gets pages.new ≤ P.gets pages.old + plane_count forest.now.params * X.cost forest.now.params.dims n }
 {
     let keys = integral_corner(query, forest.params.dims, subset);
@@ -129,13 +129,13 @@ fn plane_sums<X: DomIndex, P: Pages>(
     ensures cost { IsTrue (P.tells pages.old) → (points : ℕ → List Point) (n : ℕ)
         → EachStands (X.stands (P.map pages.old) forest.now.params.dims) points 0 forest.now.roots.items
         → AreBalanced X.DomIndex (P.map pages.old) forest.now.params forest.now.roots.items
-        → ((plane : ℕ) → plane < plane_count forest.now.params → length (points (2 * count_of_corners forest.now.params + plane)) ≡ n)
+        → ((plane : ℕ) → plane < plane_count forest.now.params → length (points (count_of_corners forest.now.params + plane)) ≡ n)
         → P.gets pages.new ≤ P.gets pages.old + plane_count forest.now.params * X.cost forest.now.params.dims n }
 {
     X::index_laws();
     let roots = forest.roots.as_slice();
     let dims = forest.params.dims;
-    let first = 2 * usize::from(corner_count(&forest.params));
+    let first = usize::from(corner_count(&forest.params));
     let mut sums = ArrayVec::new();
     for plane in 0..plane_count(&forest.params) {
         let sum = X::sum(pages, dims, &roots[first + plane], keys, version)?;

@@ -34,23 +34,14 @@ pub fn entry_point(
 {
     let corners = corner_count(params);
     if root < corners {
-        let weight = weighed(stamp, res_of(i128::from(object.weight)));
+        let met = i128::from(object.weight) * 4294967296 + 1;
+        let weight = weighed(stamp, res_of(met));
         return corner_point(params, object, stamp.event, stamp.version, root, weight);
-    }
-    if root < 2 * corners {
-        return corner_point(
-            params,
-            object,
-            stamp.event,
-            stamp.version,
-            root - corners,
-            weighed(stamp, 1),
-        );
     }
     let number = stamp.event * u32::from(corners) + u32::from(corner);
     let weight = weighed(
         stamp,
-        plane_weight_by(powers, object, params, corner, root - 2 * corners),
+        plane_weight_by(powers, object, params, corner, root - corners),
     );
     corner_point(params, object, number, stamp.version, corner, weight)
 }

@@ -156,6 +156,36 @@ fn integrals_of_powers(rt: HostRuntime) -> Result<(), Fail> {
     Ok(())
 }
 
+// One total tells both: the sum is right where the count is negative.
+#[test]
+fn entries_taken_out_alone(rt: HostRuntime) -> Result<(), Fail> {
+    let mut entered = empty(rt.alloc(), &params_of(1, None));
+    let light = object_of([1, 0, 0], [2, 0, 0], -1);
+    let greatest = object_of([5, 0, 0], [7, 0, 0], i64::MAX);
+    let least = object_of([6, 0, 0], [9, 0, 0], i64::MIN);
+    assert!(rt; put(&mut entered, &light, true, 1));
+    assert!(rt; put(&mut entered, &greatest, true, 2));
+    assert!(rt; put(&mut entered, &least, false, 3));
+    assert!(rt; put(&mut entered, &greatest, false, 4));
+    assert!(rt; put(&mut entered, &least, true, 5));
+    let sums = query_of(Kind::Sum, [0, 0, 0], [9, 0, 0]);
+    let counts = query_of(Kind::Count, [0, 0, 0], [9, 0, 0]);
+    assert_eq!(rt; ask(&mut entered, &sums, 1), Some(1));
+    assert_eq!(rt; ask(&mut entered, &counts, 1), Some(-1));
+    assert_eq!(rt; ask(&mut entered, &sums, 2), Some(-9223372036854775806));
+    assert_eq!(rt; ask(&mut entered, &counts, 2), Some(-2));
+    assert_eq!(rt; ask(&mut entered, &sums, 3), Some(-18446744073709551614));
+    assert_eq!(rt; ask(&mut entered, &counts, 3), Some(-1));
+    assert_eq!(rt; ask(&mut entered, &sums, 4), Some(-9223372036854775807));
+    assert_eq!(rt; ask(&mut entered, &counts, 4), Some(0));
+    assert_eq!(rt; ask(&mut entered, &sums, 5), Some(1));
+    assert_eq!(rt; ask(&mut entered, &counts, 5), Some(-1));
+    let upper = query_of(Kind::Sum, [6, 0, 0], [9, 0, 0]);
+    assert_eq!(rt; ask(&mut entered, &upper, 3), Some(-18446744073709551615));
+    assert_eq!(rt; ask(&mut entered, &upper, 5), Some(0));
+    Ok(())
+}
+
 // Terms past 128 bits cancel.
 #[test]
 fn far_corners_cancel(rt: HostRuntime) -> Result<(), Fail> {

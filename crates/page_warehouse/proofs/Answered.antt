@@ -1,17 +1,15 @@
 -- The answers of the trees are those of the history.
-use Rattle.std.proofs.Common.{◌≡◌, ℕ, ◌^◌, ◌<◌, ◌≤◌, length, ℤ, pos, neg_ℤ, ◌≤ℤ◌, ◌<ℤ◌, nat_abs, sym, subst, arith}
+use Rattle.std.proofs.Common.{◌≡◌, ℕ, ◌^◌, ◌<◌, ℤ, pos, neg_ℤ, ◌≤ℤ◌, ◌<ℤ◌, nat_abs, sym, subst, arith}
 use Rattle.std.proofs.lemmas.Int.{ints}
-use Rattle.std.specs.List.{All}
-use Rattle.bw_types.specs.Answers.{sum_at, count_at, integral_at}
+use Rattle.bw_types.specs.Answers.{integral_at}
 use Rattle.bw_types.specs.Fits.{IsInRange}
-use Rattle.bw_types.specs.History.{History, changes}
+use Rattle.bw_types.specs.History.{History}
 use Rattle.bw_types.specs.declared.params.Params.{Params}
 use Rattle.bw_types.specs.declared.query.Query.{Query}
 use Rattle.poly_moments.specs.PlaneSums.{integral_at as entered_integral_at}
-use Rattle.corner_forest.specs.Answers.{count_of, sum_of}
-use Rattle.history_laws.specs.Bounds.{CountsAreBounded, HasRoom, HasSmallWeight, IntegralsAreBounded, SumsAreBounded}
+use Rattle.history_laws.specs.Bounds.{HasRoom, IntegralsAreBounded}
 use Rattle.history_entries.specs.Entries.{history_entries}
-use Rattle.history_entries.specs.Answers.{CountByEntries, IntegralByEntries, SumByEntries}
+use Rattle.history_entries.specs.Answers.{IntegralByEntries}
 
 -- a number of 127 bits and a sign
 pub record IsSmall (z : ℤ) : Type 0 where
@@ -22,22 +20,7 @@ small_from : (z : ℤ) → nat_abs z < 2 ^ 127 → IsSmall z
 small_from z h = record { least = omega (arith, ints); most = omega (arith, ints) }
 
 module _ (params : Params) (range : IsInRange params) (h : History) (room : HasRoom params h) (version : ℕ) (q : Query) where
-  few : length (changes h) ≤ 2 ^ 28
-  few = let most = room.events in let events = range.events in omega arith
-
-  -- of each kind: what the entries give is what the history answers, and not too great
-  pub sum_given : SumByEntries → SumsAreBounded → All HasSmallWeight (changes h) → (sum_of params (history_entries h) version q ≡ sum_at params h version q) × IsSmall (sum_of params (history_entries h) version q)
-  sum_given given bounded weights =
-      let e : sum_of params (history_entries h) version q ≡ sum_at params h version q = given params h version q in
-      let most = bounded params h version q weights in
-      (e, subst IsSmall (sym e) (small_from (sum_at params h version q) (omega (arith, few, most))))
-
-  pub count_given : CountByEntries → CountsAreBounded → (count_of params (history_entries h) version q ≡ count_at params h version q) × IsSmall (count_of params (history_entries h) version q)
-  count_given given bounded =
-      let e : count_of params (history_entries h) version q ≡ count_at params h version q = given params h version q in
-      let most = bounded params h version q in
-      (e, subst IsSmall (sym e) (small_from (count_at params h version q) (omega (arith, few, most))))
-
+  -- what the entries give is what the history answers, and not too great
   pub integral_given : IntegralByEntries → IntegralsAreBounded → (entered_integral_at params q version (history_entries h) ≡ integral_at params h version q) × IsSmall (entered_integral_at params q version (history_entries h))
   integral_given given bounded =
       let e : entered_integral_at params q version (history_entries h) ≡ integral_at params h version q = given params h version q in

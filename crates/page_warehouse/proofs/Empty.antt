@@ -48,7 +48,7 @@ corners_few params r =
     let top : 2 ^ params.dims ≤ 2 ^ 3 = pow-le-pow_right (omega arith) {j = 3} r.dims in
     omega arith
 
-roots_few : (params : Params) → IsInRange params → root_count params ≤ 80
+roots_few : (params : Params) → IsInRange params → root_count params ≤ 72
 roots_few params r = omega (arith, planes_few params r, corners_few params r)
 
 empty_typed : IsTreeTyped empty_tree
@@ -108,6 +108,8 @@ module _ {X : Type 0} (g : Ghosts X) where
           forest = record {
             count = length-replicate (root_count params) empty_tree;
             fits = All-nil _;
+            weights = All-nil _;
+            few = omega arith;
             trees = each_empty (g.stands empty_map params.dims) (root_points params []) 0 (root_count params) trees.0 (λ k. refl);
           };
           balanced = all_same (g.balanced empty_map params.dims) (root_count params) empty_tree trees.2;

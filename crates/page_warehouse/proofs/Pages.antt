@@ -15,7 +15,8 @@ use Rattle.object_table.specs.Stands.{TableStands}
 use Rattle.object_table.specs.declared.form.Form.TheVariants.{ByLives}
 use Rattle.poly_moments.specs.PlaneSums.{Entered}
 use Rattle.dom_index.specs.declared.index.DomIndex.{Ghosts}
-use Rattle.corner_forest.specs.Enters.{ForestEnters}
+use Rattle.corner_forest.specs.Enters.{ForestEnters, MayEnter}
+use Rattle.corner_forest.specs.Entries.{IsNextEntry}
 use Rattle.corner_forest.specs.Laws.{EntryStandsAnywhere, ForestPagesAreThere, ForestStandsByItsPages}
 use Rattle.corner_forest.specs.declared.forest.Forest.{Forest}
 use Rattle.corner_forest.specs.Stands.{AreBalanced, ForestStands, forest_pages}
@@ -104,11 +105,14 @@ module _ {X : Type 0} (g : Ghosts X) where
         apart = subst (λ (f : Forest). NamesNoneTwice (own ++ forest_pages g pages f.params f.roots.items)) at apart;
       }
 
-  -- the trees' pages are named once
-  pub trees_once : PageLaws → (pages : PageMap) (roots : Roots) (h : History) (entries : List Entered) → PagesTell g pages roots h entries → NamesNoneTwice (forest_pages g pages roots.forest.params roots.forest.roots.items)
-  trees_once laws pages roots h entries tell =
-      let split = (laws.parts (table_pages ByLives pages roots.table) (forest_pages g pages roots.forest.params roots.forest.roots.items)).0 tell.apart in
-      split.1
+  -- The trees may enter what comes next.
+  pub may_enter : PageLaws → (pages : PageMap) (roots : Roots) (h : History) (entries : List Entered) (e : Entered)
+      → PagesTell g pages roots h entries → IsNextEntry roots.forest.params entries e
+      → MayEnter g pages roots.forest.params roots.forest.roots.items entries e
+  may_enter laws pages roots h entries e tell next =
+      let trees = forest_pages g pages roots.forest.params roots.forest.roots.items in
+      let split = (laws.parts (table_pages ByLives pages roots.table) trees).0 tell.apart in
+      record { stands = tell.forest; once = split.1; next = next }
 
   -- The trees have the entry too, at its place, and the table is as before.
   pub entered_then : PageLaws → (before after : PageMap) (old new : Roots) (h : History) (es fs : List Entered) (e : Entered) → new.table ≡ old.table → new.forest.params ≡ old.forest.params

@@ -38,13 +38,14 @@ module _ {X : Type 0} (g : Ghosts X) (params : Params) (map : PageMap) (roots : 
   -- the answer of one kind, from what the forest gives
   pub answered : (of : Params → ℤ) (at : Params → History → ℕ → Query → ℤ) (kind : Kind) (h : History) (version : ℕ) (q : Query) (value : ℤ)
       → q.kind ≡ kind → answer_of kind ≡ at
-      → (of params ≡ at params h version q) × IsSmall (of params)
-      → ((IsSmall (of forest.params)) → value ≡ of forest.params)
-      → value ≡ answer params h version q
+      → of params ≡ at params h version q → value ≡ of forest.params → value ≡ answer params h version q
   answered of at kind h version q value is meaning given exact =
-      let here : (of forest.params ≡ at params h version q) × IsSmall (of forest.params) =
-      subst (λ (p : Params). (of p ≡ at params h version q) × IsSmall (of p)) (sym same) given in
-      exact here.1 ∙ (here.0 ∙ (ap (λ (f : Params → History → ℕ → Query → ℤ). f params h version q) (sym meaning) ∙ ap (λ (k : Kind). answer_of k params h version q) (sym is)))
+      let here : of forest.params ≡ at params h version q = subst (λ (p : Params). of p ≡ at params h version q) (sym same) given in
+      exact ∙ (here ∙ (ap (λ (f : Params → History → ℕ → Query → ℤ). f params h version q) (sym meaning) ∙ ap (λ (k : Kind). answer_of k params h version q) (sym is)))
+
+  -- what the forest gives is as small
+  pub small_here : (of : Params → ℤ) → IsSmall (of params) → IsSmall (of forest.params)
+  small_here of small = subst (λ (p : Params). IsSmall (of p)) (sym same) small
 
   -- what a query of this kind reads
   pub reads_at_most : (cost : ℕ → ℕ → ℕ) (h : History) (kind : Kind) (q : Query) (before after : ℕ) → length (history_entries h) ≡ length (changes h) → q.kind ≡ kind

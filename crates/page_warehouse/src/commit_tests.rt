@@ -526,11 +526,11 @@ fn calls_to_gate(alloc: Global, earlier: bool) -> Result<u64, Fail> {
     if !done {
         return Err(Failed.into());
     }
-    // The leaf of the table, a list for each end in sums and in counts, and the meta page; the earlier table has one
-    // page more, which is freed.
-    let mut images = 6;
+    // The leaf of the table, a list for each end, and the meta page; the earlier table has one page more, which is
+    // freed.
+    let mut images = 4;
     if earlier {
-        images = 7;
+        images = 5;
     }
     Ok(
         disk.calls()
@@ -602,7 +602,7 @@ fn each_call_on_the_disk_fails(rt: HostRuntime) -> Result<(), Fail> {
     let alloc = rt.alloc();
     let gate = calls_to_gate(alloc, false)?;
     assert!(rt; 10 < gate && gate < 100);
-    for call in 1..gate + 11 {
+    for call in 1..gate + 9 {
         let mut disk = begun(alloc, false)?;
         let mut failing = Vec::new(alloc);
         failing.push(call)?;
@@ -653,11 +653,11 @@ fn an_earlier_table_is_written_anew(rt: HostRuntime) -> Result<(), Fail> {
 #[test]
 fn pages_up_to_the_limit(rt: HostRuntime) -> Result<(), Fail> {
     let alloc = rt.alloc();
-    // The first three pages, a leaf of the table, and a list for each end in sums and in counts.
+    // The first three pages, a leaf of the table, and a list for each end.
     for (pages, wanted) in [
         (3, Outcome::PageLimit(3)),
-        (7, Outcome::PageLimit(7)),
-        (8, Outcome::Done(1)),
+        (5, Outcome::PageLimit(5)),
+        (6, Outcome::Done(1)),
     ] {
         let limited = Params { pages, ..LINE };
         let house = opened(alloc, made(alloc, &limited))?;
@@ -680,7 +680,7 @@ fn pages_up_to_the_limit(rt: HostRuntime) -> Result<(), Fail> {
 #[test]
 fn a_warehouse_that_is_full(rt: HostRuntime) -> Result<(), Fail> {
     let alloc = rt.alloc();
-    let limited = Params { pages: 8, ..LINE };
+    let limited = Params { pages: 6, ..LINE };
     let all = query_at(&limited, Kind::Count, 0, 999999);
     let mut house = opened(alloc, made(alloc, &limited))?;
     let mut added = 0;
@@ -693,7 +693,7 @@ fn a_warehouse_that_is_full(rt: HostRuntime) -> Result<(), Fail> {
             added = i128::from(id) + 1;
             assert_eq!(rt; outcome, Outcome::Done(id + 1));
         } else {
-            assert_eq!(rt; outcome, Outcome::PageLimit(8));
+            assert_eq!(rt; outcome, Outcome::PageLimit(6));
         }
         let last = house.last();
         assert!(rt; asked(&mut house, &all, last) == Some(Ok(added)));

@@ -34,7 +34,7 @@ impl<D: Disk, X: DomIndex> Warehouse<D, X> {
         ensures cost { (h : History) → IsTrue (D.tells (disk_in self.old)) → HoldsTrees X.DomIndex (D.image (disk_in self.old)) (params_in self.old) h
             → D.reads (disk_in self.new) ≤ D.reads (disk_in self.old) + query_cost X.cost (params_in self.old) h query.now }
     {
-        // The trees are those of the history, and no answer is too great.
+        // The trees are those of the history, and no integral is too great.
         holds_one();
         entries_give_answers();
         entries_are_changes();

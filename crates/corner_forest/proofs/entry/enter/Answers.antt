@@ -3,21 +3,22 @@ use Rattle.std.proofs.lemmas.Result.{err_from_is_err_and}
 use Rattle.bw_types.specs.declared.tree.Tree.{Tree}
 use Rattle.page_ports.specs.declared.page.StageFault.TheVariants.{Damaged}
 use Rattle.corner_forest.specs.EntryDamage.{IsDamagedForEntry}
-use Rattle.corner_forest.specs.Enters.{entry_of}
-use Rattle.corner_forest.specs.Stands.{AreBalanced, ForestStands, forest_pages}
-use Rattle.page_layout.specs.Footprint.{NamesNoneTwice}
+use Rattle.corner_forest.specs.Enters.{MayEnter, entry_of}
+use Rattle.corner_forest.specs.Stands.{AreBalanced}
 use Rattle.corner_forest.proofs.Exits.{exit_error}
 use Rattle.corner_forest.proofs.entry.enter.Goals as goal
 
 pub returns-in_err-roots-clause-sound : goal.returns-in_err-roots-clause-sound
-returns-in_err-roots-clause-sound g c = λ entries page tells stands once next balanced order asked.
+returns-in_err-roots-clause-sound g c = λ entries page tells may balanced order asked.
+    let e = entry_of c.args.object.now c.args.minus c.args.event c.args.version in
+    let before = g.S.Pages.map c.args.stage.now in
+    let params = c.args.forest.now.params in
+    let at = sym c.as_slice.ensures.value in
     let p = err_from_is_err_and c.from_residual.result c.from_residual.ensures.1 in
     let same = exit_error c.from_residual.result c.in_err-roots.field-0.0 (Damaged page) p asked in
     c.in_err-roots.ensures.sound entries page tells
-    (subst (λ (ts : List Tree). ForestStands g.X.DomIndex (g.S.Pages.map c.args.stage.now) c.args.forest.now.params ts entries) (sym c.as_slice.ensures.value) stands)
-    (subst (λ (ts : List Tree). NamesNoneTwice (forest_pages g.X.DomIndex (g.S.Pages.map c.args.stage.now) c.args.forest.now.params ts)) (sym c.as_slice.ensures.value) once)
-    next
-    (subst (λ (ts : List Tree). AreBalanced g.X.DomIndex (g.S.Pages.map c.args.stage.now) c.args.forest.now.params ts) (sym c.as_slice.ensures.value) balanced)
+    (subst (λ (ts : List Tree). MayEnter g.X.DomIndex before params ts entries e) at may)
+    (subst (λ (ts : List Tree). AreBalanced g.X.DomIndex before params ts) at balanced)
     order (ap Err same)
 
 pub returns-in_err-roots-clause-damaged : goal.returns-in_err-roots-clause-damaged

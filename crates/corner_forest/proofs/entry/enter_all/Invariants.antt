@@ -1,13 +1,11 @@
 use Rattle.std.proofs.Common.{◌≡◌, ◌+◌, ◌≤◌, IsTrue, List, ◌++◌, drop, length}
 use Rattle.std.specs.List.{All}
 use Rattle.page_ports.specs.Calls.{WentOn}
-use Rattle.page_layout.specs.Footprint.{NamesNoneTwice}
 use Rattle.page_layout.specs.TreeValue.{tree_fits}
 use Rattle.poly_moments.specs.PlaneSums.{Entered}
-use Rattle.corner_forest.specs.Enters.{EntryHasRoom, IsEntering, additions_at, entered, first_page, root_growth, sum_below}
+use Rattle.corner_forest.specs.Enters.{EntryHasRoom, IsEntering, MayEnter, additions_at, entered, first_page, root_growth, sum_below}
 use Rattle.corner_forest.specs.EntryDamage.{TreesMayLeave}
-use Rattle.corner_forest.specs.Entries.{IsNextEntry}
-use Rattle.corner_forest.specs.Stands.{AreBalanced, ForestStands, forest_pages}
+use Rattle.corner_forest.specs.Stands.{AreBalanced}
 use Rattle.corner_forest.proofs.entry.enter_all.Given as goal
 
 abbrev pub invariant-loop-place : goal.invariant-loop-place
@@ -20,19 +18,19 @@ invariant-loop-place g l =
     record {
       len : length l.roots.items ≡ l.place;
       went : WentOn pages (pages.allotted l.stage + 1) l.fn.stage l.stage;
-      enters : IsTrue (pages.tells l.fn.stage) → (entries : List Entered) → ForestStands index before params l.fn.old entries → NamesNoneTwice (forest_pages index before params l.fn.old)
-          → IsNextEntry params entries e → IsEntering index params before (pages.map l.stage) l.fn.old (l.roots.items ++ drop l.place l.fn.old) entries e l.place;
+      enters : IsTrue (pages.tells l.fn.stage) → (entries : List Entered) → MayEnter index before params l.fn.old entries e
+          → IsEntering index params before (pages.map l.stage) l.fn.old (l.roots.items ++ drop l.place l.fn.old) entries e l.place;
       reached : IsTrue (pages.tells l.fn.stage) → TreesMayLeave index params l.fn.old l.place before (pages.map l.stage);
       rules : All (λ t. IsTrue (tree_fits t)) l.fn.old → All (λ t. IsTrue (tree_fits t)) l.roots.items;
-      growth : IsTrue (pages.tells l.fn.stage) → (entries : List Entered) → ForestStands index before params l.fn.old entries → NamesNoneTwice (forest_pages index before params l.fn.old)
-          → IsNextEntry params entries e → AreBalanced index before params l.fn.old
+      growth : IsTrue (pages.tells l.fn.stage) → (entries : List Entered) → MayEnter index before params l.fn.old entries e
+          → AreBalanced index before params l.fn.old
           → WentOn pages (sum_below l.place (root_growth params (length entries))) l.fn.stage l.stage;
-      by_additions : IsTrue (pages.tells l.fn.stage) → (entries : List Entered) → ForestStands index before params l.fn.old entries → NamesNoneTwice (forest_pages index before params l.fn.old)
-          → IsNextEntry params entries e → AreBalanced index before params l.fn.old
+      by_additions : IsTrue (pages.tells l.fn.stage) → (entries : List Entered) → MayEnter index before params l.fn.old entries e
+          → AreBalanced index before params l.fn.old
           → WentOn pages (sum_below l.place (additions_at params l.fn.old)) l.fn.stage l.stage;
-      small_growth : IsTrue (pages.tells l.fn.stage) → (entries : List Entered) → ForestStands index before params l.fn.old entries → NamesNoneTwice (forest_pages index before params l.fn.old)
-          → IsNextEntry params entries e → AreBalanced index before params l.fn.old → 2 ≤ params.dims → EntryHasRoom params l.fn.old
+      small_growth : IsTrue (pages.tells l.fn.stage) → (entries : List Entered) → MayEnter index before params l.fn.old entries e
+          → AreBalanced index before params l.fn.old → 2 ≤ params.dims → EntryHasRoom params l.fn.old
           → WentOn pages (sum_below l.place (first_page l.fn.old)) l.fn.stage l.stage;
-      one_page : IsTrue (pages.tells l.fn.stage) → (entries : List Entered) → ForestStands index before params l.fn.old entries → NamesNoneTwice (forest_pages index before params l.fn.old)
-          → IsNextEntry params entries e → 2 ≤ params.dims → EntryHasRoom params l.fn.old → All (λ t. t.levels ≡ 1) l.roots.items;
+      one_page : IsTrue (pages.tells l.fn.stage) → (entries : List Entered) → MayEnter index before params l.fn.old entries e
+          → 2 ≤ params.dims → EntryHasRoom params l.fn.old → All (λ t. t.levels ≡ 1) l.roots.items;
     }

@@ -1,12 +1,12 @@
 use Rattle.std.proofs.Common.{◌≡◌, ℕ, suc, inl, inr, ◌+◌, ◌-◌, ◌*◌, ◌<◌, ◌≤◌, Err, ◌∷◌, ◌++◌, length, rules, refl, ap, sym, ◌∙◌, subst, arith}
 use Rattle.std.proofs.lemmas.Result.{err_from_is_err_and}
-use Rattle.bw_types.specs.Heights.{added_pages}
+use Rattle.bw_types.specs.Depths.{added_pages}
 use Rattle.bw_types.specs.declared.point.Point.{Point}
 use Rattle.page_ports.specs.Calls.{Changes, WentOn}
 use Rattle.page_ports.specs.declared.page.StageFault.TheVariants.{Damaged}
 use Rattle.dom_index.specs.Points.{IsNewPoint}
 use Rattle.corner_forest.specs.EntryDamage.{AdditionsMayLeave}
-use Rattle.corner_forest.specs.Entries.{entry_point, point_count}
+use Rattle.corner_forest.specs.Entries.{point_count}
 use Rattle.corner_forest.specs.Enters.{TakesMore, TreeEnters, entered, points_from, step_growth, sum_below, tree_growth}
 use Rattle.corner_forest.proofs.Adding.{added_length, first_within, growth_within, has_room, more_pages, most_pages, near_next, new_next, next_points, one_added, step_within}
 use Rattle.corner_forest.proofs.Exits.{exit_error}

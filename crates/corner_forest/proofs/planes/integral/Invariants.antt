@@ -25,6 +25,6 @@ invariant-loop-subset g l =
           → l.total ≡ residue_sum_below l.subset (λ subset. residue_signed_by subset (residue (planes_value params (planes_at params points (integral_corner params.dims l.fn.query subset) l.fn.version) (query_corner l.fn.query subset))));
       cost : IsTrue (pages.tells l.fn.pages) → (points : ℕ → List Point) (n : ℕ) → EachStands (index.stands map_then params.dims) points 0 l.fn.forest.roots.items
           → AreBalanced index map_then params l.fn.forest.roots.items
-          → ((plane : ℕ) → plane < plane_count params → length (points (2 * corner_count params + plane)) ≡ n)
+          → ((plane : ℕ) → plane < plane_count params → length (points (corner_count params + plane)) ≡ n)
           → pages.gets l.pages ≤ pages.gets l.fn.pages + l.subset * (plane_count params * index.cost params.dims n);
     }

@@ -1,4 +1,4 @@
-use Rattle.std.proofs.Common.{◌+◌, ◌*◌, ◌<◌, Err, length, rules, ap, arith}
+use Rattle.std.proofs.Common.{◌+◌, ◌<◌, Err, length, rules, ap, arith}
 use Rattle.std.proofs.lemmas.Result.{err_from_is_err_and}
 use Rattle.page_ports.specs.declared.page.PageFault.TheVariants.{Damaged}
 use Rattle.bw_types.specs.Dominance.{dominance_sum}
@@ -15,12 +15,12 @@ returns-in_err-sum-clause-sound g c = λ points page tells each e.
     let same = exit_error c.from_residual.result c.in_err-sum.field-0.0 (Damaged page) p e in
     let forest = c.args.forest.now in
     let params = forest.params in
-    let k = 2 * corner_count params + c.loop-plane.plane in
+    let k = corner_count params + c.loop-plane.plane in
     let inside : c.loop-plane.plane < plane_count params = omega (arith, c.loop-plane-test.true, c.plane_count-plane-end.ensures.count) in
     let below : k < length forest.roots.items = omega (arith, inside, c.requires.roots) in
     c.in_err-sum.ensures.sound (points k) page (search rules)
     (stands_here g.X.DomIndex (g.P.Pages.map c.args.pages.now) (g.P.Pages.map c.loop-plane.pages) params.dims points forest.roots.items c.as_slice-roots.result.now k
-    (2 * c.from-first.result + c.loop-plane.plane) _ c.loop-plane.invariant.went.map c.as_slice-roots.ensures.value (omega (arith, c.from-first.ensures, c.corner_count.ensures.count)) each below) (ap Err same)
+    (c.from-first.result + c.loop-plane.plane) _ c.loop-plane.invariant.went.map c.as_slice-roots.ensures.value (omega (arith, c.from-first.ensures, c.corner_count.ensures.count)) each below) (ap Err same)
 
 pub returns-in_err-sum-clause-damaged : goal.returns-in_err-sum-clause-damaged
 returns-in_err-sum-clause-damaged g c = λ page e tells.
@@ -28,12 +28,12 @@ returns-in_err-sum-clause-damaged g c = λ page e tells.
     let same = exit_error c.from_residual.result c.in_err-sum.field-0.0 (Damaged page) p e in
     let forest = c.args.forest.now in
     let params = forest.params in
-    let k = 2 * corner_count params + c.loop-plane.plane in
+    let k = corner_count params + c.loop-plane.plane in
     let inside : c.loop-plane.plane < plane_count params = omega (arith, c.loop-plane-test.true, c.plane_count-plane-end.ensures.count) in (
       c.loop-plane.plane,
       inside,
       damaged_there g.X.DomIndex (g.P.Pages.map c.args.pages.now) (g.P.Pages.map c.loop-plane.pages) params.dims c.args.version page c.args.keys.now forest.roots.items
-          c.as_slice-roots.result.now k (2 * c.from-first.result + c.loop-plane.plane) empty_tree c.loop-plane.invariant.went.map c.as_slice-roots.ensures.value (omega (arith, c.from-first.ensures, c.corner_count.ensures.count))
+          c.as_slice-roots.result.now k (c.from-first.result + c.loop-plane.plane) empty_tree c.loop-plane.invariant.went.map c.as_slice-roots.ensures.value (omega (arith, c.from-first.ensures, c.corner_count.ensures.count))
           (c.in_err-sum.ensures.damaged page (ap Err same) (search rules)),
     )
 
@@ -41,13 +41,13 @@ pub returns-in_err-sum-clause-cost : goal.returns-in_err-sum-clause-cost
 returns-in_err-sum-clause-cost g c = λ tells points n each balanced counts.
     let forest = c.args.forest.now in
     let params = forest.params in
-    let k = 2 * corner_count params + c.loop-plane.plane in
+    let k = corner_count params + c.loop-plane.plane in
     let inside : c.loop-plane.plane < plane_count params = omega (arith, c.loop-plane-test.true, c.plane_count-plane-end.ensures.count) in
     let below : k < length forest.roots.items = omega (arith, inside, c.requires.roots) in
     let stands = (stands_here g.X.DomIndex (g.P.Pages.map c.args.pages.now) (g.P.Pages.map c.loop-plane.pages) params.dims points forest.roots.items c.as_slice-roots.result.now k
-    (2 * c.from-first.result + c.loop-plane.plane) _ c.loop-plane.invariant.went.map c.as_slice-roots.ensures.value (omega (arith, c.from-first.ensures, c.corner_count.ensures.count)) each below) in
+    (c.from-first.result + c.loop-plane.plane) _ c.loop-plane.invariant.went.map c.as_slice-roots.ensures.value (omega (arith, c.from-first.ensures, c.corner_count.ensures.count)) each below) in
     let low = (balanced_here g.X.DomIndex (g.P.Pages.map c.args.pages.now) (g.P.Pages.map c.loop-plane.pages) params.dims forest.roots.items c.as_slice-roots.result.now k
-    (2 * c.from-first.result + c.loop-plane.plane) _ c.loop-plane.invariant.went.map c.as_slice-roots.ensures.value (omega (arith, c.from-first.ensures, c.corner_count.ensures.count)) balanced below) in
+    (c.from-first.result + c.loop-plane.plane) _ c.loop-plane.invariant.went.map c.as_slice-roots.ensures.value (omega (arith, c.from-first.ensures, c.corner_count.ensures.count)) balanced below) in
     let counted = c.index_laws.ensures.counted (g.P.Pages.map c.loop-plane.pages) params.dims _ (points k) stands in
     let before = c.loop-plane.invariant.cost tells points n each balanced counts in
     let after = cost_here g.X.DomIndex params.dims _ (length (points k)) n (g.P.Pages.gets c.loop-plane.pages) (g.P.Pages.gets c.sum.new.pages) counted.0 (counts c.loop-plane.plane inside)
@@ -59,22 +59,22 @@ pub loop-plane-preserved : goal.loop-plane-preserved
 loop-plane-preserved g c =
     let forest = c.args.forest.now in
     let params = forest.params in
-    let k = 2 * corner_count params + c.loop-plane.plane in
+    let k = corner_count params + c.loop-plane.plane in
     let inside : c.loop-plane.plane < plane_count params = omega (arith, c.loop-plane-test.true, c.plane_count-plane-end.ensures.count) in
     let below : k < length forest.roots.items = omega (arith, inside, c.requires.roots) in
     record {
       len = search rules;
       went = search rules;
       sums = λ tells points each.
-          push_sum (λ plane. dominance_sum params.dims (points (2 * corner_count params + plane)) c.args.keys.now c.args.version) c.loop-plane.plane c.loop-plane.sums.items c.push.new.self.items c.in_ok-sum.sum
+          push_sum (λ plane. dominance_sum params.dims (points (corner_count params + plane)) c.args.keys.now c.args.version) c.loop-plane.plane c.loop-plane.sums.items c.push.new.self.items c.in_ok-sum.sum
           (c.loop-plane.invariant.sums tells points each) (c.in_ok-sum.ensures.sum (search rules) (points k)
           (stands_here g.X.DomIndex (g.P.Pages.map c.args.pages.now) (g.P.Pages.map c.loop-plane.pages) params.dims points forest.roots.items c.as_slice-roots.result.now k
-          (2 * c.from-first.result + c.loop-plane.plane) _ c.loop-plane.invariant.went.map c.as_slice-roots.ensures.value (omega (arith, c.from-first.ensures, c.corner_count.ensures.count)) each below)) c.push.ensures.items;
+          (c.from-first.result + c.loop-plane.plane) _ c.loop-plane.invariant.went.map c.as_slice-roots.ensures.value (omega (arith, c.from-first.ensures, c.corner_count.ensures.count)) each below)) c.push.ensures.items;
       cost = λ tells points n each balanced counts.
           let stands = (stands_here g.X.DomIndex (g.P.Pages.map c.args.pages.now) (g.P.Pages.map c.loop-plane.pages) params.dims points forest.roots.items c.as_slice-roots.result.now k
-          (2 * c.from-first.result + c.loop-plane.plane) _ c.loop-plane.invariant.went.map c.as_slice-roots.ensures.value (omega (arith, c.from-first.ensures, c.corner_count.ensures.count)) each below) in
+          (c.from-first.result + c.loop-plane.plane) _ c.loop-plane.invariant.went.map c.as_slice-roots.ensures.value (omega (arith, c.from-first.ensures, c.corner_count.ensures.count)) each below) in
           let low = (balanced_here g.X.DomIndex (g.P.Pages.map c.args.pages.now) (g.P.Pages.map c.loop-plane.pages) params.dims forest.roots.items c.as_slice-roots.result.now k
-          (2 * c.from-first.result + c.loop-plane.plane) _ c.loop-plane.invariant.went.map c.as_slice-roots.ensures.value (omega (arith, c.from-first.ensures, c.corner_count.ensures.count)) balanced below) in
+          (c.from-first.result + c.loop-plane.plane) _ c.loop-plane.invariant.went.map c.as_slice-roots.ensures.value (omega (arith, c.from-first.ensures, c.corner_count.ensures.count)) balanced below) in
           let counted = c.index_laws.ensures.counted (g.P.Pages.map c.loop-plane.pages) params.dims _ (points k) stands in
           let before = c.loop-plane.invariant.cost tells points n each balanced counts in
           let after = cost_here g.X.DomIndex params.dims _ (length (points k)) n (g.P.Pages.gets c.loop-plane.pages) (g.P.Pages.gets c.sum.new.pages) counted.0 (counts c.loop-plane.plane inside)

@@ -19,9 +19,9 @@ invariant-loop-plane g l =
       len : length l.sums.items ≡ l.plane;
       went : WasRead pages (pages.gets l.pages) l.fn.pages l.pages;
       sums : IsTrue (pages.tells l.fn.pages) → (points : ℕ → List Point) → EachStands (index.stands map_then params.dims) points 0 l.fn.forest.roots.items
-          → l.sums.items ≡ map (λ plane. dominance_sum params.dims (points (2 * corner_count params + plane)) l.fn.keys l.fn.version) (range_with_len 0 l.plane);
+          → l.sums.items ≡ map (λ plane. dominance_sum params.dims (points (corner_count params + plane)) l.fn.keys l.fn.version) (range_with_len 0 l.plane);
       cost : IsTrue (pages.tells l.fn.pages) → (points : ℕ → List Point) (n : ℕ) → EachStands (index.stands map_then params.dims) points 0 l.fn.forest.roots.items
           → AreBalanced index map_then params l.fn.forest.roots.items
-          → ((plane : ℕ) → plane < plane_count params → length (points (2 * corner_count params + plane)) ≡ n)
+          → ((plane : ℕ) → plane < plane_count params → length (points (corner_count params + plane)) ≡ n)
           → pages.gets l.pages ≤ pages.gets l.fn.pages + l.plane * index.cost params.dims n;
     }

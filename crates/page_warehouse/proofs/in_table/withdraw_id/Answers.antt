@@ -1,6 +1,7 @@
 use Rattle.std.proofs.Common.{rules, ◌≡◌, [], ◌∷◌, ◌++◌, true, IsTrue, Err, sym, ◌∙◌, ap, subst, arith}
 use Rattle.std.proofs.lemmas.Result.{err_from_is_err_and}
 use Rattle.bw_types.specs.declared.change.Change.TheVariants as change
+use Rattle.page_ports.specs.Calls.{Changes}
 use Rattle.page_ports.specs.Pages.{PageMap}
 use Rattle.page_ports.specs.declared.page.StageFault.TheVariants.{Damaged}
 use Rattle.history_entries.specs.Entries.{history_entries}
@@ -16,14 +17,16 @@ use Rattle.page_warehouse.proofs.Leads.{wait_more}
 use Rattle.page_warehouse.proofs.in_table.withdraw_id.Goals as goal
 
 pub returns-in_err-find-clause-keeps_on : goal.returns-in_err-find-clause-keeps_on
-returns-in_err-find-clause-keeps_on g c = λ tells h done later lawful batch ver ev wait. record {
-  changes = search rules;
-  sound = λ order page asked.
-      let p = err_from_is_err_and c.from_residual.result c.from_residual.ensures.1 in
-      let same = read_damaged c.from_residual.result c.in_err-find.field-0.0 page p asked in
-      c.in_err-find.ensures.sound wait.tell.kept page tells wait.tell.stands (ap Err same);
-  left = search rules;
-}
+returns-in_err-find-clause-keeps_on g c =
+    let changed : Changes {T = Unit {0}} g.S.Pages 8 c.args.stage.now c.find.new.pages c.from_residual.result = search rules in
+    λ tells h done later lawful batch ver ev wait. record {
+      changes = changed;
+      sound = λ order page asked.
+          let p = err_from_is_err_and c.from_residual.result c.from_residual.ensures.1 in
+          let same = read_damaged c.from_residual.result c.in_err-find.field-0.0 page p asked in
+          c.in_err-find.ensures.sound wait.tell.kept page tells wait.tell.stands (ap Err same);
+      left = search rules;
+    }
 
 pub returns-in_default-clause-keeps_on : goal.returns-in_default-clause-keeps_on
 returns-in_default-clause-keeps_on g c = λ tells h done later lawful batch ver ev wait.
