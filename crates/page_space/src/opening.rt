@@ -25,7 +25,7 @@ use redo_journal::settling_laws;
 use std::alloc::Global;
 
 /// How many pages a space keeps in memory.
-const CACHE_PAGES: usize = 1024;
+const CACHE_PAGES: usize = 8192;
 
 /// The page of the superblock.
 const SUPER_PAGE: u64 = 1;

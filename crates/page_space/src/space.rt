@@ -19,7 +19,7 @@ use page_layout::Meta;
 use page_ports::{FREE_PAGE, Page, PageFault, Pages};
 use std::alloc::Global;
 
-/// The committed pages of a disk, read through a cache of 1024 pages.
+/// The committed pages of a disk, read through a cache of 8192 pages.
 ///
 /// Its map has each page in use, as the bytes on the disk say it: from page 3 on, below the number of
 /// pages that were given out, each page that does not begin as a free page.
@@ -44,7 +44,7 @@ pub struct Space<D: Disk> {
     ghost idle: { IsTrue (D.tells disk) → gate_of (D.image disk) ≡ Idle },
     ghost settled: { LeavesNow (D.moments disk) (D.image disk) },
     ghost agrees: { IsTrue (D.tells disk) → Agrees (kept_pages cache) (D.image disk).pages },
-    ghost cached: { capacity cache ≡ 1024 },
+    ghost cached: { capacity cache ≡ 8192 },
 }
 
 impl<D: Disk> Space<D> {
@@ -84,7 +84,7 @@ impl<D: Disk> Space<D> {
     }
 
     /// Proves that the disk stands for the space, with nothing to replay and nothing pending, that the
-    /// params and the meta page keep their rules, and that at most 1024 pages are kept in memory; it does
+    /// params and the meta page keep their rules, and that at most 8192 pages are kept in memory; it does
     /// nothing when it runs.
     pub fn is_held(&self)
         ensures held { IsTrue (D.tells (disk_of self.now)) → HoldsSpace (D.image (disk_of self.now)) (params_of self.now) (meta_of self.now)
@@ -92,7 +92,7 @@ impl<D: Disk> Space<D> {
         ensures idle { IsTrue (D.tells (disk_of self.now)) → gate_of (D.image (disk_of self.now)) ≡ Idle }
         ensures settled { LeavesNow (D.moments (disk_of self.now)) (D.image (disk_of self.now)) }
         ensures roots { AreRoots (params_of self.now) (meta_of self.now) }
-        ensures cached { KeepsAtMost (cached_pages self.now) 1024 }
+        ensures cached { KeepsAtMost (cached_pages self.now) 8192 }
     {
         self.cache.few_law();
     }
