@@ -13,7 +13,7 @@ fn fronted(kind: u8, level: u8, count: u8) -> Page {
 pub(crate) fn superblock() -> Page {
     let mut page = blank_page();
     let start = [
-        0x42, 0x4f, 0x58, 0x53, 0x55, 0x4d, 0x57, 0x48, 1, 2, 255, 0, 0x00, 0x0f, 0x42, 0x40, 0x00,
+        0x42, 0x4f, 0x58, 0x53, 0x55, 0x4d, 0x57, 0x48, 3, 2, 255, 0, 0x00, 0x0f, 0x42, 0x40, 0x00,
         0x00, 0x00, 0x00, 0x00, 0x10, 0x00, 0x00,
     ];
     page[..24].copy_from_slice(&start);
@@ -87,20 +87,28 @@ pub(crate) fn point_leaf() -> Page {
     page
 }
 
-/// A page of 16 entries with four trees each, cut off one after the other.
-pub(crate) fn cut_page() -> Page {
-    let mut page = fronted(4, 2, 16);
-    for i in 0..15usize {
+/// A page of 64 entries, cut off one after the other, whose cuts have the empty border.
+pub(crate) fn cut_page_without_borders() -> Page {
+    let mut page = fronted(11, 0, 64);
+    for i in 0..63usize {
         page[16 + 32 * i] = 1;
+        page[16 + 32 * i + 1] = (i % 2) as u8;
+        page[16 + 32 * i + 7] = 64;
         page[16 + 32 * i + 15] = 9;
+        page[32 + 32 * i + 15] = 3;
     }
-    for i in 0..16usize {
-        page[512 + 120 * i + 7] = 3;
-        for tree in 0..4usize {
-            page[520 + 120 * i + 28 * tree + 7] = 3;
-            page[520 + 120 * i + 28 * tree + 8] = 1;
-            page[520 + 120 * i + 28 * tree + 15] = 1;
-        }
+    page[2047] = 3;
+    page
+}
+
+/// The same page, in which each cut has a border.
+pub(crate) fn cut_page() -> Page {
+    let mut page = cut_page_without_borders();
+    for i in 0..63usize {
+        page[16 + 32 * i + 7] = 65;
+        page[2048 + 28 * i + 7] = 3;
+        page[2048 + 28 * i + 8] = 1;
+        page[2048 + 28 * i + 15] = 65;
     }
     page
 }

@@ -31,6 +31,7 @@ pub(crate) fn print_kept(rt: &impl Print) -> io::Result<()> {
         comes_back::<MvNode>(&full::mv_node()),
         comes_back::<PointLeaf>(&full::point_leaf()),
         comes_back::<CutPage>(&full::cut_page()),
+        comes_back::<CutPage>(&full::cut_page_without_borders()),
         comes_back::<LifeNode>(&full::life_leaf()),
         comes_back::<LifeNode>(&full::life_index()),
         comes_back::<TableNode>(&full::table_leaf()),
@@ -164,6 +165,12 @@ pub(crate) fn print_times(rt: &(impl Print + Clock), rounds: u64) -> io::Result<
     print_type::<MvNode>(rt, "MvNode", &full::mv_node(), rounds)?;
     print_type::<PointLeaf>(rt, "PointLeaf", &full::point_leaf(), rounds)?;
     print_type::<CutPage>(rt, "CutPage", &full::cut_page(), rounds)?;
+    print_type::<CutPage>(
+        rt,
+        "CutPage, no borders",
+        &full::cut_page_without_borders(),
+        rounds,
+    )?;
     print_type::<LifeNode>(rt, "LifeNode, a leaf", &full::life_leaf(), rounds)?;
     print_type::<LifeNode>(rt, "LifeNode, an index node", &full::life_index(), rounds)?;
     print_type::<TableNode>(rt, "TableNode, a leaf", &full::table_leaf(), rounds)?;

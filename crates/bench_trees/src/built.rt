@@ -1,21 +1,28 @@
 //! Trees that are built of points: their sums beside plain sums over the points, and what building costs.
-ghost use Rattle.std.specs.Prelude.{◌≤◌, ◌<◌, ◌-◌, ◌^◌};
+ghost use Rattle.std.specs.Prelude.{◌≡◌, ◌≤◌, ◌<◌, ◌-◌, ◌^◌, suc};
+ghost use Rattle.std.specs.List.{All};
 
 use crate::draws::Draws;
 use crate::measured::{hundredths, rate};
 use crate::put_count::{ByKind, PutCount};
 use anyhow::{Result, bail};
-use ba_build::{build, collect, drop_tree, may_be_built};
-use ba_query::dom_sum;
 use bw_types::{Point, Tree};
-use kdb_pages::KEY_END;
-use page_ports::{MemStage, PageFault, Pages, blank_page};
+use cut_build::{build, collect, drop_tree};
+use cut_parts::BorderTree;
+use cut_points::may_be_built;
+use cut_query::tree_sum;
+use key_trees::KeyTree;
+use page_ports::{MemStage, PageFault, Pages, Stage, blank_page};
+use plane_trees::PlaneTree;
 use std::alloc::{AllocError, Global};
 use std::time::Instant;
 
 const POINTS: u32 = 5000;
 
 const PLACES: u32 = 1000;
+
+// Where the keys of points and queries end.
+const KEY_END: u64 = 0xffff_ffff_0000_0000;
 
 // How points lie.
 #[derive(Clone, Copy)]
@@ -62,14 +69,46 @@ fn points_of(alloc: Global, kind: Kind, dims: u8, count: u32) -> Result<Vec<Poin
     Ok(points)
 }
 
-// A tree of the points, once they have passed the test that one may be built of them.
-fn build_all(alloc: Global, stage: &mut MemStage, dims: u8, points: &mut [Point]) -> Result<Tree>
-    requires { (2 ≤ dims) × (dims ≤ 3) }
+// The number of dimensions of trees of cuts with these borders.
+fn dims_above<B: BorderTree>() -> u8
+    ensures is { result ≡ suc B.DIMS }
+    ensures few { result ≤ 3 }
 {
-    if !may_be_built(points, dims) {
+    B::border_laws();
+    B::DIMS + 1
+}
+
+/// A tree, and the nanoseconds that building it took.
+#[derive(Clone, Copy)]
+pub struct Built {
+    pub tree: Tree,
+    pub took: u128,
+}
+
+/// Builds a tree of cuts of the points, once they have passed the test that one may be built of them. The test is not measured.
+pub fn build_cuts<B: BorderTree, S: Stage>(
+    rt: &HostRuntime,
+    stage: &mut S,
+    points: &mut [Point],
+) -> Result<Built> {
+    if !may_be_built(points, dims_above::<B>()) {
         bail!("points that share a key");
     }
-    Ok(build(alloc, stage, dims, points)?)
+    let start = Instant::now(rt)?;
+    let tree = build::<B, S>(rt.alloc(), stage, points)?;
+    let took = start.elapsed(rt)?.as_nanos();
+    Ok(Built { tree, took })
+}
+
+// The same of a multiversion tree, over the first dimension alone.
+fn build_keys<S: Stage>(rt: &HostRuntime, stage: &mut S, points: &mut [Point]) -> Result<Built> {
+    if !may_be_built(points, 1) {
+        bail!("points that share a key");
+    }
+    let start = Instant::now(rt)?;
+    let tree = KeyTree::build(rt.alloc(), stage, points)?;
+    let took = start.elapsed(rt)?.as_nanos();
+    Ok(Built { tree, took })
 }
 
 // The key of any of the points, or the one before or after it.
@@ -84,6 +123,16 @@ fn key_near(draws: &mut Draws, points: &[Point], dimension: usize) -> u64
             .min(KEY_END - 1),
         None => 0,
     }
+}
+
+fn keys_near(draws: &mut Draws, points: &[Point]) -> [u64; 3]
+    ensures { All (λ key. key < 2 ^ 64 - 2 ^ 32) result }
+{
+    [
+        key_near(draws, points, 0),
+        key_near(draws, points, 1),
+        key_near(draws, points, 2),
+    ]
 }
 
 // The sum of the points at or below the keys and at or before the version, one by one.
@@ -102,19 +151,13 @@ fn plain_sum(points: &[Point], dims: u8, keys: &[u64; 3], version: u32) -> u128 
 }
 
 // Whether the tree has the plain sum at 1,000 keys and versions.
-fn sums_agree(stage: &mut MemStage, tree: &Tree, dims: u8, points: &[Point]) -> bool
-    requires { dims ≤ 3 }
-{
+fn sums_agree<B: BorderTree>(stage: &mut MemStage, tree: &Tree, points: &[Point]) -> bool {
     let mut draws = Draws::new(6);
     for _ in 0..PLACES {
-        let keys = [
-            key_near(&mut draws, points, 0),
-            key_near(&mut draws, points, 1),
-            key_near(&mut draws, points, 2),
-        ];
+        let keys = keys_near(&mut draws, points);
         let version = draws.draw() % (POINTS / 4 + 1);
-        let sum = plain_sum(points, dims, &keys, version);
-        if dom_sum(stage, dims, tree, &keys, version) != Ok(sum) {
+        let sum = plain_sum(points, dims_above::<B>(), &keys, version);
+        if tree_sum::<B, MemStage>(stage, tree, &keys, version) != Ok(sum) {
             return false;
         }
     }
@@ -122,16 +165,13 @@ fn sums_agree(stage: &mut MemStage, tree: &Tree, dims: u8, points: &[Point]) -> 
 }
 
 // Whether the tree has the points, each once.
-fn are_collected(
+fn are_collected<B: BorderTree>(
     alloc: Global,
     stage: &mut MemStage,
     tree: &Tree,
-    dims: u8,
     points: &mut [Point],
-) -> Result<bool>
-    requires { (2 ≤ dims) × (dims ≤ 3) }
-{
-    let mut collected = collect(alloc, stage, dims, tree)?;
+) -> Result<bool> {
+    let mut collected = collect::<B, MemStage>(alloc, stage, tree)?;
     collected.sort_unstable_by_key(|point| point.keys[0]);
     points.sort_unstable_by_key(|point| point.keys[0]);
     Ok(collected.as_slice() == points)
@@ -148,15 +188,14 @@ fn holds_no_page(stage: &mut MemStage) -> bool {
 }
 
 // Prints whether the tree of 5,000 points has the plain sums and the points, and whether no page is left once it is dropped.
-fn compare_kind(rt: &HostRuntime, kind: Kind, dims: u8) -> Result<()>
-    requires { (2 ≤ dims) × (dims ≤ 3) }
-{
+fn compare_kind<B: BorderTree>(rt: &HostRuntime, kind: Kind) -> Result<()> {
+    let dims = dims_above::<B>();
     let mut points = points_of(rt.alloc(), kind, dims, POINTS)?;
     let mut stage = MemStage::new(rt.alloc(), 4294967295);
-    let tree = build_all(rt.alloc(), &mut stage, dims, points.as_mut_slice())?;
-    let agree = sums_agree(&mut stage, &tree, dims, points.as_slice());
-    let collected = are_collected(rt.alloc(), &mut stage, &tree, dims, points.as_mut_slice())?;
-    drop_tree(&mut stage, dims, &tree)?;
+    let tree = build_cuts::<B, MemStage>(rt, &mut stage, points.as_mut_slice())?.tree;
+    let agree = sums_agree::<B>(&mut stage, &tree, points.as_slice());
+    let collected = are_collected::<B>(rt.alloc(), &mut stage, &tree, points.as_mut_slice())?;
+    drop_tree::<B, MemStage>(&mut stage, &tree)?;
     let empty = holds_no_page(&mut stage);
     println!(rt;
         "{POINTS} {}, {dims} dimensions: {}, {}, {}",
@@ -175,10 +214,12 @@ fn compare_kind(rt: &HostRuntime, kind: Kind, dims: u8) -> Result<()>
 /// Prints of each kind of points, in two and in three dimensions, whether their tree has the plain sums and the points, and
 /// whether no page is left of it.
 pub fn compare_built(rt: &HostRuntime) -> Result<()> {
-    for dims in 2..4u8 {
-        for kind in [Kind::Random, Kind::Line, Kind::Cluster] {
-            compare_kind(rt, kind, dims)?;
-        }
+    let kinds = [Kind::Random, Kind::Line, Kind::Cluster];
+    for kind in kinds {
+        compare_kind::<KeyTree>(rt, kind)?;
+    }
+    for kind in kinds {
+        compare_kind::<PlaneTree>(rt, kind)?;
     }
     Ok(())
 }
@@ -196,9 +237,9 @@ fn pages_in(stage: &mut MemStage) -> ByKind {
 }
 
 /// Prints how many of so many random points are built a second, how many pages each takes, and how often a page is put: one of
-/// cuts or points, and a node that additions make. The test that a tree may be built of them is not counted.
+/// cuts or points, and a node that additions make. Over one dimension the tree is a multiversion tree, else one of cuts.
 pub fn measure_build(rt: &HostRuntime, count: u32, dims: u8) -> Result<()>
-    requires { (2 ≤ dims) × (dims ≤ 3) }
+    requires { (1 ≤ dims) × (dims ≤ 3) }
 {
     let mut points = points_of(rt.alloc(), Kind::Random, dims, count)?;
     let mut stage = PutCount {
@@ -206,22 +247,21 @@ pub fn measure_build(rt: &HostRuntime, count: u32, dims: u8) -> Result<()>
         puts: ByKind::default(),
     };
     let points = points.as_mut_slice();
-    if !may_be_built(points, dims) {
-        bail!("points that share a key");
-    }
-    let start = Instant::now(rt)?;
-    let tree = build(rt.alloc(), &mut stage, dims, points)?;
-    let took = start.elapsed(rt)?.as_nanos();
+    let took = match dims {
+        1 => build_keys(rt, &mut stage, points)?.took,
+        2 => build_cuts::<KeyTree, PutCount<MemStage>>(rt, &mut stage, points)?.took,
+        _ => build_cuts::<PlaneTree, PutCount<MemStage>>(rt, &mut stage, points)?.took,
+    };
     let each = hundredths(stage.stage.allotted() - 3, u64::from(count));
     let pages = pages_in(&mut stage.stage);
     let regions = hundredths(stage.puts.regions, pages.regions);
     let nodes = hundredths(stage.puts.nodes, pages.nodes);
     println!(rt;
-        "{count} points, {dims} dimensions: {} points built a second, {}.{:02} pages a point, {} levels",
+        "{count} points, {dims} {}: {} points built a second, {}.{:02} pages a point",
+        if dims == 1 { "dimension" } else { "dimensions" },
         rate(count, took),
         each / 100,
-        each % 100,
-        tree.levels
+        each % 100
     )?;
     println!(rt;
         "{} pages of cuts and points, each put {}.{:02} times; {} nodes of additions, each put {}.{:02} times",

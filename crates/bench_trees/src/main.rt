@@ -6,7 +6,7 @@
 //! read a second, and how many pages an addition and a value get. With the word `random` or `rising` and a
 //! number it prints the same of a multiversion tree whose keys come so, and beside it a scan of the same
 //! points. With the word `points` and a number it prints what a dominance sum over two dimensions costs, and
-//! beside it a scan of the same points. With the word `build`, a number and the dimensions, two or three, it prints how many points are
+//! beside it a scan of the same points. With the word `build`, a number and the dimensions, one to three, it prints how many points are
 //! built a second, how many pages each takes, and how often a page is put. With the word `objects` and a number it prints how many objects
 //! are entered in an object table and found a second. With the word `weights` and a number it prints what all
 //! weights of an object cost, made so many times.
@@ -63,12 +63,13 @@ fn number_after(rt: &HostRuntime) -> Result<u32> {
 
 // The dimensions that the third word tells.
 fn dims_after(rt: &HostRuntime) -> Result<u8>
-    ensures { IfOk result (λ dims. (2 ≤ dims) × (dims ≤ 3)) }
+    ensures { IfOk result (λ dims. (1 ≤ dims) × (dims ≤ 3)) }
 {
     let word = env::args(rt)?.nth(3).context("a number of dimensions")?;
     match word.as_str() {
+        "1" => Ok(1),
         "2" => Ok(2),
         "3" => Ok(3),
-        _ => bail!("two or three dimensions"),
+        _ => bail!("one to three dimensions"),
     }
 }

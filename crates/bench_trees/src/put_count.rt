@@ -7,7 +7,7 @@ use page_ports::{Page, PageFault, Pages, Stage, StageFault};
 /// How many pages, by what they hold.
 #[derive(Clone, Copy, Default)]
 pub struct ByKind {
-    /// Pages of cuts, leaves and pockets.
+    /// Pages of cuts, and leaves of points.
     pub regions: u64,
     /// Nodes of trees over versions, and of multiversion trees: those that additions make.
     pub nodes: u64,
@@ -17,7 +17,7 @@ impl ByKind {
     /// Counts a page more.
     pub fn count(&mut self, page: &Page) {
         // The first byte tells the kind.
-        if page[0] == 4 || page[0] == 5 {
+        if page[0] == 5 || page[0] == 11 {
             self.regions = raised(self.regions);
         } else {
             self.nodes = raised(self.nodes);
