@@ -30,6 +30,7 @@ pub mod CutPage
 pub mod CutPageLaws
 pub mod CutParting
 pub mod CutView
+pub mod CutExact
 pub mod Signed
 pub mod Dated
 pub mod LifeNode

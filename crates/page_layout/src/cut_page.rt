@@ -4,18 +4,21 @@ ghost use Rattle.std.specs.List.{flat_map, All};
 ghost use Rattle.page_layout.specs.Counted.{not_free};
 ghost use Rattle.page_layout.specs.TreeValue.{IsTreeTyped};
 ghost use Rattle.page_layout.specs.CutPage.{IsCutPage, IsNodeTyped, IsTyped, border_at, border_bytes, count_in, cut_count, cut_one, cut_page_in, cut_page_page, first_bytes, node_at, node_bytes, node_fits, nodes_from, open_places, past_border};
+ghost use Rattle.page_layout.specs.CutExact.{AreExact, IsCutFront, IsNodeExact, places_after};
 ghost use Rattle.page_layout.specs.CutPageLaws.{cut_page_in-page};
 ghost use Rattle.page_layout.specs.CutParting.{PreOrderIsTested};
 
-use crate::counted::{read_body, read_count, start};
+use crate::counted::{read_body, read_count, read_double, read_word, start};
 use crate::entry::Entry;
+use crate::exact::is_tree_exact;
 use crate::front::{finish, put, put_u8, put_u32, put_u64};
-use crate::number::{number_u32, number_u64, skip};
+use crate::number::{are_bytes, bytes_of, number_u16, number_u32, number_u64, skip};
 use crate::spelled::{Spelled, TreePage};
 use crate::tree_value::tree_fits;
+use crate::zero_bytes::are_zeros;
 use arrayvec::ArrayVec;
 use bw_types::Tree;
-use page_ports::{Page, blank_page};
+use page_ports::Page;
 
 const KIND: u8 = 11;
 
@@ -245,6 +248,96 @@ fn fill_one_place(nodes: &[CutNode]) -> bool
     places == 0
 }
 
+// Whether the page begins as one with 2 to 64 entries does.
+fn has_front(page: &Page) -> bool
+    ensures { IsTrue result ↔ IsCutFront page.now }
+{
+    let count = read_count(page);
+    if count < 2 {
+        return false;
+    }
+    if count > 64 {
+        return false;
+    }
+    if page[0] != KIND {
+        return false;
+    }
+    if page[1] != 0 {
+        return false;
+    }
+    if read_word(page) != 0 {
+        return false;
+    }
+    read_double(page) == 0
+}
+
+// Whether the first node is the spelling of what it may spell.
+fn is_node_exact(nodes: &[u8], borders: &[u8]) -> bool
+    requires { 16 ≤ length nodes.now }
+    ensures { IsTrue result ↔ IsNodeExact nodes.now borders.now }
+{
+    are_bytes(nodes);
+    if nodes[0] == ENTRY {
+        // Up to its child an entry is zeros.
+        return number_u64(nodes) == 0;
+    }
+    if nodes[0] != CUT {
+        return false;
+    }
+    if number_u16(skip(nodes, 2)) != 0 {
+        return false;
+    }
+    if borders.len() < 28 {
+        return false;
+    }
+    is_tree_exact(borders)
+}
+
+// How many places are left to be filled when the first node has filled one.
+fn places_after(places: usize, nodes: &[u8]) -> usize
+    requires some { 1 ≤ places }
+    requires few { places ≤ 128 }
+    requires room { 16 ≤ length nodes.now }
+    ensures value { result ≡ places_after places nodes.now }
+    ensures few { result ≤ places + 1 }
+{
+    if nodes[0] == ENTRY {
+        places - 1
+    } else {
+        places + 1
+    }
+}
+
+// Whether so many nodes fill these places, each keeps its rule and is the spelling of what it may spell, and
+// zeros follow the borders.
+fn are_nodes_exact(places: usize, count: usize, nodes: &[u8], borders: &[u8]) -> bool
+    requires few { places + count ≤ 128 }
+    requires room { count * 16 ≤ length nodes.now }
+    ensures { IsTrue result ↔ AreExact places (nodes_from count nodes.now borders.now) nodes.now borders.now }
+{
+    if count == 0 {
+        if places != 0 {
+            return false;
+        }
+        return are_zeros(borders);
+    }
+    if places == 0 {
+        return false;
+    }
+    if !is_node_exact(nodes, borders) {
+        return false;
+    }
+    if !node_fits(&node_at(nodes, borders)) {
+        return false;
+    }
+    are_nodes_exact(
+        places_after(places, nodes),
+        count - 1,
+        skip(nodes, 16),
+        past_border(nodes, borders),
+    )
+}
+
 /// Proves that the nodes of a page stand in pre-order; it does nothing when it runs.
 pub fn cuts_stand_in_order()
     ensures { PreOrderIsTested }
@@ -291,13 +384,13 @@ impl Spelled for CutPage {
     }
 
     fn is_spelled(page: &Page) -> bool {
-        let value = CutPage::guess(page);
-        if !value.keeps_rules() {
+        let _bytes = bytes_of(page);
+        if !has_front(page) {
             return false;
         }
-        let mut other = blank_page();
-        value.write(&mut other);
-        other.as_slice() == page.as_slice()
+        let count = 2 * usize::from(read_count(page)) - 1;
+        let body = read_body(page);
+        are_nodes_exact(1, count, body, skip(body, count * 16))
     }
 
     ghost reads_back = { cut_page_in-page };
