@@ -1,5 +1,5 @@
 -- What a page tells, and a point put into it or before it.
-use Rattle.std.proofs.Common.{◌≡◌, ◌≢◌, ℕ, ◌<◌, ◌≤◌, ◌==◌, false, inl, inr, ◌⊎◌, List, [], ◌∷◌, ◌++◌, length, Some, None, refl, sym, ap, ◌∙◌, subst, arith}
+use Rattle.std.proofs.Common.{◌≡◌, ◌≢◌, ℕ, ◌<◌, ◌≤◌, ◌==◌, false, inl, inr, ◌⊎◌, List, [], ◌∷◌, ◌++◌, length, Option, Some, None, IsSome, refl, sym, ap, ◌∙◌, subst, arith}
 use Rattle.bw_types.specs.declared.point.Point.{Point}
 use Rattle.page_ports.specs.Pages.{PageMap, put_page}
 use Rattle.page_layout.specs.PointLeaf.{point_leaf_page}
@@ -7,6 +7,10 @@ use Rattle.page_layout.specs.Spelled.{Spells}
 use Rattle.page_layout.specs.declared.point_leaf.PointLeaf.{PointLeaf}
 use Rattle.dom_index.specs.Chain.{LeafStands, IsPutFirst, leaf_on, page_of, point_pages}
 use Rattle.dom_index.proofs.Chains.{leaf_found}
+
+pub not_missing : (o : Option (List ℕ)) → o ≡ None → IsSome o → ⊥
+not_missing None none some = cc
+not_missing (Some bytes) none some = cc
 
 pub leaf_shown : (m : PageMap) (page : ℕ) (leaf : PointLeaf) → m page ≡ Some (point_leaf_page leaf) → Spells point_pages leaf (point_leaf_page leaf)
     → LeafStands m page × (leaf_on m page ≡ leaf)

@@ -1,3 +1,4 @@
 pub mod Points
+pub mod Becoming
 pub mod Chain
 pub mod Sums

@@ -1,10 +1,9 @@
 //! A chain of pages of points.
-ghost use Rattle.std.specs.Prelude.{◌≡◌, ◌≢◌, ◌≤◌, ℕ, ◌==◌, false, List, Some, None, Err, IsTrue, IfOk, OnOk};
+ghost use Rattle.std.specs.Prelude.{◌≡◌, ◌≤◌, ℕ, ◌==◌, Err, IsTrue, IfOk, OnOk};
 ghost use Rattle.bw_types.specs.Dominance.{dominance_sum};
-ghost use Rattle.page_ports.specs.Calls.{Grows, OnlyReads};
-ghost use Rattle.page_layout.specs.PointLeaf.{point_leaf_page};
+ghost use Rattle.page_ports.specs.Calls.{OnlyReads};
 ghost use Rattle.page_layout.specs.declared.point_leaf.PointLeaf.{PointLeaf};
-ghost use Rattle.dom_index.specs.Chain.{IsDamagedAlong, chain_points, point_pages};
+ghost use Rattle.dom_index.specs.Chain.{IsDamagedAlong, chain_points};
 
 use crate::points::sum_on;
 use bw_types::Tree;

@@ -11,6 +11,7 @@ ghost use Rattle.page_ports.specs.Frame.{AgreeOn, AreInMap, Replaces};
 ghost use Rattle.page_ports.specs.Pages.{PageMap};
 ghost use Rattle.page_layout.specs.Footprint.{NamesNoneTwice};
 ghost use Rattle.page_layout.specs.TreeValue.{IsTreeTyped, tree_fits};
+ghost use Rattle.dom_index.specs.Becoming.{IsTreeAfter};
 ghost use Rattle.dom_index.specs.Points.{AreKeysBelow, IsNewPoint, HasRoom};
 
 use bw_types::{Point, Tree};
@@ -42,13 +43,16 @@ pub trait DomIndex {
     /// The most page numbers that an addition gives out, from the dimensions, the levels and the number of points.
     ghost growth: { ℕ → ℕ → ℕ → ℕ };
 
-    /// An addition to the tree may change this page, whatever the pages hold.
-    ghost may_change: { PageMap → ℕ → Tree → ℕ → Type 0 };
+    /// An addition of this point to the tree may change this page, whatever the pages hold.
+    ghost may_change: { PageMap → ℕ → Tree → Point → ℕ → Type 0 };
+
+    /// An addition of this point to the tree may make it this tree, whatever the pages hold.
+    ghost may_become: { PageMap → ℕ → Tree → Point → Tree → Type 0 };
 
     /// What a sum at these keys and this version may call damaged.
     ghost damaged_for_sum: { PageMap → ℕ → Tree → List ℕ → ℕ → ℕ → Type 0 };
 
-    /// What an addition of this point may call damaged, beside the conditions on the tree's points.
+    /// What an addition of this point may call damaged, beside the free pages.
     ghost damaged_for_add: { PageMap → ℕ → Tree → Point → ℕ → Type 0 };
 
     /// The sum of the weights of the points whose version and first `dims` keys are at or below those given,
@@ -111,7 +115,9 @@ pub trait DomIndex {
             (S.map stage.old) (S.map stage.new)) }
         // Whatever the pages hold, those that an addition may not change stay as they are.
         ensures apart { OnOk result (IsTrue (S.tells stage.old) → (page : ℕ) → IsSome (S.map stage.old page)
-            → ¬ may_change (S.map stage.old) dims tree.old page → S.map stage.new page ≡ S.map stage.old page) }
+            → ¬ may_change (S.map stage.old) dims tree.old point.now page → S.map stage.new page ≡ S.map stage.old page) }
+        // Whatever the pages hold, the tree becomes one that the index says it may.
+        ensures becomes { OnOk result (IsTrue (S.tells stage.old) → may_become (S.map stage.old) dims tree.old point.now tree.new) }
         // In two and three dimensions a tree stays one page for as long as its points fit.
         ensures low { OnOk result (IsTrue (S.tells stage.old) → (points : List Point)
             → stands (S.map stage.old) dims tree.old points → IsNewPoint dims points point.now
@@ -152,6 +158,10 @@ pub trait DomIndex {
             → stands pages dims empty_tree [] × (footprint pages dims empty_tree ≡ []) × balanced pages dims empty_tree }
         ensures counted { (pages : PageMap) (dims : ℕ) (tree : Tree) (points : List Point) → stands pages dims tree points
             → (tree.count ≡ length points) × (length points ≤ 2 ^ 31) × (tree.levels ≡ 0 → points ≡ []) }
+        // Whatever the pages hold, an addition counts one point more, and the root is the one of before, a page that may be changed,
+        // or one that was not in the map.
+        ensures becoming { (pages : PageMap) (dims : ℕ) (tree new : Tree) (point : Point) → may_become pages dims tree point new
+            → IsTreeAfter (may_change pages dims tree point) pages tree new }
         ensures versions { (pages : PageMap) (dims : ℕ) (tree : Tree) (points : List Point) → stands pages dims tree points
             → All (λ p. p.version < 2 ^ 32 - 1) points }
         // No index grows by more than the trees of the product.

@@ -1,8 +1,6 @@
 //! The plain index: a list of points, each of which a sum looks at.
-ghost use Rattle.std.specs.Prelude.{◌≡◌, ◌≢◌, ◌==◌, ◌≤◌, ◌<◌, false, ℕ, [], ◌∷◌, Some, None, Err, IsTrue, IfOk};
-ghost use Rattle.page_ports.specs.Calls.{Grows};
-ghost use Rattle.page_layout.specs.Spelled.{Spells};
-ghost use Rattle.page_layout.specs.PointLeaf.{point_leaf_page};
+ghost use Rattle.std.specs.Prelude.{◌≡◌, ◌<◌, Err};
+ghost use Rattle.dom_index.specs.Becoming.{IsTreeAfter};
 ghost use Rattle.dom_index.specs.Chain.{ListStands, IsDamagedAlong, IsDamagedFirst, list_growth, list_pages};
 
 use crate::chain::sum_along;
@@ -34,7 +32,9 @@ impl DomIndex for PointList {
 
     ghost growth = { list_growth };
 
-    ghost may_change = { λ _ dims tree page. page ≡ tree.root };
+    ghost may_change = { λ _ dims tree _ page. page ≡ tree.root };
+
+    ghost may_become = { λ pages _ tree _ new. IsTreeAfter (λ page. page ≡ tree.root) pages tree new };
 
     ghost damaged_for_sum = { λ pages dims tree keys version page. IsDamagedAlong pages tree page };
 

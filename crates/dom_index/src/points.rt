@@ -1,6 +1,6 @@
 //! The dominance sum of the points of a page.
 ghost use Rattle.std.specs.Prelude.{◌≡◌, ◌≤◌};
-ghost use Rattle.bw_types.specs.Dominance.{dominance_sum, is_dominated, keys_at_most};
+ghost use Rattle.bw_types.specs.Dominance.{dominance_sum, keys_at_most};
 ghost use Rattle.dom_index.specs.Sums.{counted_weight};
 ghost use Rattle.std.specs.Prelude.{take};
 

@@ -39,12 +39,12 @@ impl BorderTree for KeyTree {
 
     ghost damaged_for_sum = { λ pages tree keys version page. IsDamagedForValue pages tree (slice_index keys 0) version page };
 
-    ghost may_change = { λ pages tree page. MayChange pages tree page };
+    ghost may_change = { λ pages tree point page. MayChange pages tree point page };
 
     ghost damaged_for_add = { λ pages tree point page. IsDamagedForPoint pages tree point page };
 
-    // A page of the tree may be gone where it is reached a second time.
-    ghost damaged_for_drop = { λ pages tree page. IsDamagedForFree pages tree page ⊎ (names_page (tree_pages pages tree) page ≡ true) };
+    // A page of the tree may have been freed before.
+    ghost damaged_for_drop = { λ pages freed tree page. IsDamagedForFree pages tree page ⊎ ((names_page freed page ≡ true) × (names_page (tree_pages pages tree) page ≡ true)) };
 
     fn sum<P: Pages>(
         pages: &mut P,

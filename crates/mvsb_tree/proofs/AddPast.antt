@@ -1,5 +1,5 @@
 -- What an addition finds damaged below a node.
-use Rattle.std.proofs.Common.{◌≡◌, ◌≢◌, ℕ, zero, suc, ◌-◌, ◌<◌, ◌≤◌, ◌^◌, inl, inr, List, Option, Some, None, IsSome, refl, sym, ap, ◌∙◌, subst, arith}
+use Rattle.std.proofs.Common.{◌≡◌, ◌≢◌, ◌⊎◌, ℕ, zero, suc, ◌-◌, ◌<◌, ◌≤◌, ◌^◌, inl, inr, List, Option, Some, None, IsSome, refl, sym, ap, ◌∙◌, subst, arith}
 use Rattle.page_ports.specs.Pages.{PageMap}
 use Rattle.page_layout.specs.Damage.{HoldsNoNode, IsDamagedBelow, NothingBeside}
 use Rattle.page_layout.specs.DamageLaws as laws
@@ -78,6 +78,15 @@ top_stays m1 m2 root level v (Some r) last1 last2 top is p some = by_second r.se
     by_second : (o : Option (ℕ × ℕ)) → IsTopOf m1 m2 level v r.first o last1 last2 top → m2 p ≡ m1 p
     by_second None is = ap (λ (m : PageMap). m p) is.1
     by_second (Some second) is = is.0.others p (not_new m1 top p is.0.fresh some)
+
+-- The chain ends where it did, or at the page that was given out for the root.
+pub top_ends : (m1 m2 : PageMap) (root level v : ℕ) (replaced : Option Replaced) (last1 last2 top : ℕ) → IsTop m1 m2 root level v replaced last1 last2 top → (last2 ≡ last1) ⊎ (m1 last2 ≡ None)
+top_ends m1 m2 root level v None last1 last2 top is = inl is.2
+top_ends m1 m2 root level v (Some r) last1 last2 top is = by_second r.second is
+  where
+    by_second : (o : Option (ℕ × ℕ)) → IsTopOf m1 m2 level v r.first o last1 last2 top → (last2 ≡ last1) ⊎ (m1 last2 ≡ None)
+    by_second None is = inl is.2
+    by_second (Some second) is = inr (subst (λ (p : ℕ). m1 p ≡ None) (sym is.1) is.0.fresh)
 
 none_leads : (o : Option ℕ) (child : ℕ) → o ≡ None → o ≡ Some child → ⊥
 none_leads o child none some = cc

@@ -215,3 +215,15 @@ stored_keeps a b page node v last new_last (Some r) placed typed st = by_second 
         let second = next_keeps t.between b t.between_last t.second_node pair.1 t.next t.typed.1 in
         subst (λ (n : ℕ). KeepsPlaces n a b last new_last) (sym (two_needed node v st.0 t.copies.many))
         (subst (λ (x : ℕ). KeepsPlaces (first_pages starts + 1) a b last x) (sym t.ends) (keeps_then (first_pages starts) 1 a t.between b last t.between_last pair.1 first second))
+
+-- The last page is the one of before or was given out, where it is so with what came first and with what came then.
+pub ends_at_new : {taken : ℕ} (m0 m1 : PageMap) (last0 last1 last2 : ℕ) → KeepsPlaces taken m0 m1 last0 last1 → (last2 ≡ last1) ⊎ (m1 last2 ≡ None)
+    → (last2 ≡ last0) ⊎ (m0 last2 ≡ None)
+ends_at_new m0 m1 last0 last1 last2 first (inl same) = elim first.ends [
+  | inl kept ↦ inl (same ∙ kept.1)
+  | inr new ↦ inr (subst (λ (p : ℕ). m0 p ≡ None) (sym same) new.1)
+]
+ends_at_new m0 m1 last0 last1 last2 first (inr none) = elim (some_or_none (m0 last2)) [
+  | inl some ↦ absurd (none_some (m1 last2) none (first.kept last2 some).0)
+  | inr gone ↦ inr gone
+]

@@ -1,16 +1,16 @@
 -- The tree as an index of one dimension.
-use Rattle.std.proofs.Common.{◌≡◌, ◌⊎◌, ℕ, zero, suc, ◌≤◌, inl, inr, false, slice_index_or, List, [], ◌∷◌, ◌++◌, length, Option, Some, None, IsSome, refl, ◌∙◌, arith}
-use Rattle.std.proofs.lemmas.Bool.{cases_Bool, or_from}
+use Rattle.std.proofs.Common.{◌≡◌, ◌⊎◌, ℕ, zero, suc, ◌≤◌, inl, inr, false, slice_index_or, List, [], ◌∷◌, length, Option, Some, None, IsSome, refl, sym, ◌∙◌, subst, arith}
+use Rattle.std.proofs.lemmas.Bool.{cases_Bool}
 use Rattle.bw_types.specs.Dominance.{dominance_sum}
 use Rattle.bw_types.specs.Depths.{added_pages}
 use Rattle.bw_types.specs.declared.point.Point.{Point}
 use Rattle.bw_types.specs.declared.tree.Tree.{Tree}
 use Rattle.page_ports.specs.Pages.{PageMap}
-use Rattle.page_ports.specs.Frame.{names_page, AreApart, AreInMap}
-use Rattle.page_ports.specs.FrameLaws.{names_page-append}
+use Rattle.page_ports.specs.Frame.{names_page}
+use Rattle.dom_index.specs.Becoming.{MayName}
 use Rattle.sb_tree.specs.Stored.{OthersStay}
 use Rattle.mvsb_tree.specs.AddDamage.{IsDamagedForAdd, directory_pages, node_way}
-use Rattle.mvsb_tree.specs.Index.{MayChange}
+use Rattle.mvsb_tree.specs.Index.{MayChangeAt}
 
 pub one_growth : (dims count : ℕ) → 1 ≤ dims → dims ≤ 1 → 24 ≤ added_pages dims count
 one_growth zero count some few = absurd (omega (arith, some))
@@ -36,31 +36,44 @@ damaged_point pages order tree key version value page (inr (inr (inl d))) = elim
 ]
 damaged_point pages order tree key version value page (inr (inr (inr unordered))) = inr unordered
 
-some_or_none : (o : Option (List ℕ)) → IsSome o ⊎ (o ≡ None)
-some_or_none None = inr refl
-some_or_none (Some bytes) = inl refl
+-- What an addition may not change is off the way through the nodes, and is no page of the directory as that is read then.
+off_way : (m0 : PageMap) (tree : Tree) (key version page : ℕ) → (MayChangeAt m0 tree key version page → ⊥) → names_page (node_way m0 tree key version) page ≡ false
+off_way m0 tree key version page not_changed = elim (cases_Bool (names_page (node_way m0 tree key version) page)) [
+  | inl named ↦ absurd (not_changed (inl named))
+  | inr other ↦ other
+]
+
+off_directory : (m0 m1 : PageMap) (tree : Tree) (key version page : ℕ) → OthersStay (node_way m0 tree key version) m0 m1 → (MayChangeAt m0 tree key version page → ⊥)
+    → names_page (directory_pages m1 tree) page ≡ false
+off_directory m0 m1 tree key version page nodes not_changed = elim (cases_Bool (names_page (directory_pages m1 tree) page)) [
+  | inl named ↦ absurd (not_changed (inr (m1, nodes, named)))
+  | inr other ↦ other
+]
+
+stays_between : (m0 m1 : PageMap) (tree : Tree) (key version page : ℕ) → OthersStay (node_way m0 tree key version) m0 m1 → IsSome (m0 page) → (MayChangeAt m0 tree key version page → ⊥)
+    → m1 page ≡ m0 page
+stays_between m0 m1 tree key version page nodes some not_changed = nodes page (off_way m0 tree key version page not_changed) some
 
 -- A page that may not change stays.
-pub unchanged_stays : (m0 m1 : PageMap) (tree : Tree) (key version page : ℕ)
-    → (AreInMap m0 (directory_pages m0 tree) → AreApart (directory_pages m0 tree) (node_way m0 tree key version) → OthersStay (directory_pages m0 tree ++ node_way m0 tree key version) m0 m1)
-    → IsSome (m0 page) → (MayChange m0 tree page → ⊥) → m1 page ≡ m0 page
-unchanged_stays m0 m1 tree key version page stays some not_changed =
-    let dir : List ℕ = directory_pages m0 tree in
-    let way : List ℕ = node_way m0 tree key version in
-    let there : AreInMap m0 dir = λ p named. elim (some_or_none (m0 p)) [
-      | inl some_p ↦ some_p
-      | inr none ↦ absurd (not_changed (inr (key, version, inr (p, named, inr none))))
-    ] in
-    let apart : AreApart dir way = λ p named. elim (cases_Bool (names_page way p)) [
-      | inl both ↦ absurd (not_changed (inr (key, version, inr (p, named, inl both))))
-      | inr other ↦ other
-    ] in
-    let off_dir : names_page dir page ≡ false = elim (cases_Bool (names_page dir page)) [
-      | inl named ↦ absurd (not_changed (inl named))
-      | inr other ↦ other
-    ] in
-    let off_way : names_page way page ≡ false = elim (cases_Bool (names_page way page)) [
-      | inl named ↦ absurd (not_changed (inr (key, version, inl named)))
-      | inr other ↦ other
-    ] in
-    stays there apart page (names_page-append dir way page ∙ or_from (names_page dir page) (names_page way page) off_dir off_way) some
+pub unchanged_stays : (m0 m2 : PageMap) (tree : Tree) (key version page : ℕ)
+    → ((m1 : PageMap) × OthersStay (node_way m0 tree key version) m0 m1 × OthersStay (directory_pages m1 tree) m1 m2)
+    → IsSome (m0 page) → (MayChangeAt m0 tree key version page → ⊥) → m2 page ≡ m0 page
+unchanged_stays m0 m2 tree key version page stays some not_changed =
+    let first = stays_between m0 stays.0 tree key version page stays.1 some not_changed in
+    stays.2 page (off_directory m0 stays.0 tree key version page stays.1 not_changed) (subst IsSome (sym first) some) ∙ first
+
+-- The directory's root is the one of before, where it was in the map and may not change.
+pub root_may_name : (m0 m1 : PageMap) (tree : Tree) (key version page : ℕ) → OthersStay (node_way m0 tree key version) m0 m1
+    → (IsSome (m1 page) → names_page (directory_pages m1 tree) page ≡ false → page ≡ tree.root) → MayName (MayChangeAt m0 tree key version) m0 tree.root page
+root_may_name m0 m1 tree key version page nodes renamed = λ some not_changed.
+    let first = stays_between m0 m1 tree key version page nodes some not_changed in
+    renamed (subst IsSome (sym first) some) (off_directory m0 m1 tree key version page nodes not_changed)
+
+not_missing : (o : Option (List ℕ)) → o ≡ None → IsSome o → ⊥
+not_missing None none some = cc
+not_missing (Some bytes) none some = cc
+
+-- A page that is the one of before, or was not in the map.
+pub end_stays : (m0 : PageMap) (old new : ℕ) → (new ≡ old) ⊎ (m0 new ≡ None) → IsSome (m0 new) → new ≡ old
+end_stays m0 old new (inl same) some = same
+end_stays m0 old new (inr none) some = absurd (not_missing (m0 new) none some)

@@ -24,7 +24,6 @@ pub mod Intervals
 pub mod Joining
 pub mod Landing
 pub mod Lasting
-pub mod Later
 pub mod Leading
 pub mod Nodes
 pub mod Past

@@ -1,14 +1,16 @@
 //! Additions.
-ghost use Rattle.std.specs.Prelude.{◌≡◌, ◌≢◌, ◌⊎◌, ◌+◌, ◌^◌, ◌<◌, ◌≤◌, ℕ, List, ◌∷◌, ◌++◌, length, Err, IsTrue, IfOk, OnOk, OnErr};
+ghost use Rattle.std.specs.Prelude.{◌≡◌, ◌≢◌, ◌⊎◌, ◌+◌, ◌^◌, ◌<◌, ◌≤◌, ℕ, List, ◌∷◌, length, Err, None, IsTrue, IfOk, OnOk, OnErr};
 ghost use Rattle.std.specs.List.{All};
 ghost use Rattle.bw_types.specs.declared.point.Point.{Point};
 ghost use Rattle.page_ports.specs.Calls.{Grows};
-ghost use Rattle.page_ports.specs.Frame.{AreApart, AreInMap, Replaces};
+ghost use Rattle.page_ports.specs.Frame.{Replaces};
+ghost use Rattle.page_ports.specs.Pages.{PageMap};
 ghost use Rattle.page_layout.specs.TreeValue.{IsTreeTyped, tree_fits};
 ghost use Rattle.sb_tree.specs.Stored.{OthersStay};
 ghost use Rattle.mvsb_tree.specs.AddDamage.{ChangesRoot, IsDamagedForAdd, IsDamagedInNodes, IsWholeForAdd, KeepsDirectories, directory_pages, node_way};
+ghost use Rattle.mvsb_tree.specs.Index.{BecomesTree};
 ghost use Rattle.mvsb_tree.specs.Stands.{IsBalanced, MvStands, is_marked, key_of};
-ghost use Rattle.mvsb_tree.specs.Steps.{place_count, root_at as spec_root_at, root_level, tree_pages};
+ghost use Rattle.mvsb_tree.specs.Steps.{place_count, root_at as spec_root_at, tree_pages};
 ghost use Rattle.mvsb_tree.specs.Tops.{RootAdded};
 
 use crate::directory::{directory, root_at};
@@ -32,8 +34,8 @@ use sb_tree::tree_laws;
 ///
 /// - the directory's root, where the tree has `2^31` additions, where the directory tells no root at the
 ///   version, or no number of a page, or where a root of level 16 would have to be split;
-/// - the first page on the way of the key and the version that holds no node for its place, or one that
-///   may not be changed at the version;
+/// - the first page on the way of the version through the directory, or of the key through the nodes, that
+///   holds no node for its place, or one that may not be changed at the version;
 /// - where new pages are needed, the last page of the chain of places, if it holds no node or has the
 ///   last place, or the new page that took the last place, if one more is needed;
 /// - what an addition to the directory calls damaged, where the root changes;
@@ -57,11 +59,11 @@ pub fn mv_add<S: Stage>(
     ensures change { OnOk result (IsTrue (S.tells stage.old) → (points : List Point)
         → MvStands (S.map stage.old) tree.old points → All (λ q. q.version ≤ version) points
         → Replaces (tree_pages (S.map stage.old) tree.old) (tree_pages (S.map stage.new) tree.new) (S.map stage.old) (S.map stage.new)) }
-    // Whatever the pages hold: where the directory's are in the map, and on no way of the key through the nodes, all but
-    // those of the directory and of that way stay as they are.
-    ensures apart { OnOk result (IsTrue (S.tells stage.old) → AreInMap (S.map stage.old) (directory_pages (S.map stage.old) tree.old)
-        → AreApart (directory_pages (S.map stage.old) tree.old) (node_way (S.map stage.old) tree.old key version)
-        → OthersStay (directory_pages (S.map stage.old) tree.old ++ node_way (S.map stage.old) tree.old key version) (S.map stage.old) (S.map stage.new)) }
+    // Whatever the pages hold: the nodes on the way of the key are changed first, and then pages of the directory, as these are then.
+    ensures apart { OnOk result (IsTrue (S.tells stage.old) → (between : PageMap)
+        × OthersStay (node_way (S.map stage.old) tree.old key version) (S.map stage.old) between
+        × OthersStay (directory_pages between tree.old) between (S.map stage.new)) }
+    ensures becomes { OnOk result (IsTrue (S.tells stage.old) → BecomesTree (S.map stage.old) tree.old key version tree.new) }
     // Where it answers, no page on its way was damaged; the first addition has no way.
     ensures whole { OnOk result (IsTrue (S.tells stage.old) → tree.old.levels ≢ 0 → IsWholeForAdd (S.map stage.old) tree.old key version) }
     ensures count { OnOk result (tree.new.count ≡ tree.old.count + 1) }
@@ -119,6 +121,8 @@ fn add_to_nodes<S: Stage>(
         → MvStands (S.map stage.old) tree.now points → All (λ q. q.version ≤ version) points → key_of p ≡ key
         → RootAdded (is_marked (p ∷ points)) (S.map stage.old) (S.map stage.new) ends.root ends.top version key value (place_count (S.map stage.old) tree.now) last.old last.new) }
     ensures apart { IfOk result (λ ends. IsTrue (S.tells stage.old) → OthersStay (node_way (S.map stage.old) tree.now key version) (S.map stage.old) (S.map stage.new)) }
+    // The last page of the chain is the one of before, or one that was given out.
+    ensures ends { IfOk result (λ ends. IsTrue (S.tells stage.old) → (last.new ≡ last.old) ⊎ (S.map stage.old last.new ≡ None)) }
     ensures whole { IfOk result (λ ends. IsTrue (S.tells stage.old) → tree.now.levels ≢ 0 → IsWholeForAdd (S.map stage.old) tree.now key version) }
     ensures closed { IfOk result (λ ends. IsTrue (S.tells stage.old) → (ends.top ≡ ends.root) ⊎ ChangesRoot (S.map stage.old) tree.now key version value) }
     ensures directories { IfOk result (λ ends. IsTrue (S.tells stage.old) → KeepsDirectories (S.map stage.old) (S.map stage.new)) }

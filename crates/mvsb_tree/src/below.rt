@@ -1,5 +1,5 @@
 //! Additions to a node and below it.
-ghost use Rattle.std.specs.Prelude.{◌≡◌, ◌≢◌, ◌⊎◌, ◌+◌, ◌^◌, ◌<◌, ◌≤◌, ℕ, Bool, Err, IsTrue, IsSome, IfOk, Some, length};
+ghost use Rattle.std.specs.Prelude.{◌≡◌, ◌≢◌, ◌⊎◌, ◌+◌, ◌^◌, ◌<◌, ◌≤◌, ℕ, Bool, Err, IsTrue, IfOk, Some};
 ghost use Rattle.page_layout.specs.MvNode.{IsMvNode, IsTyped, mv_node_page};
 ghost use Rattle.page_ports.specs.Calls.{Grows};
 ghost use Rattle.mv_pages.specs.Alive.{IsChangeable};

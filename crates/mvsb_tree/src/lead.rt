@@ -1,7 +1,8 @@
 //! Changes of the root in the directory.
-ghost use Rattle.std.specs.Prelude.{◌≡◌, ◌≢◌, ◌+◌, ◌%◌, ◌^◌, ◌<◌, ◌≤◌, ℕ, List, length, Err, IsTrue, OnOk, OnErr};
+ghost use Rattle.std.specs.Prelude.{◌≡◌, ◌≢◌, ◌+◌, ◌%◌, ◌^◌, ◌<◌, ◌≤◌, false, ℕ, List, length, Err, IsSome, IsTrue, OnOk};
 ghost use Rattle.bw_types.specs.declared.point.Point.{Point};
 ghost use Rattle.page_ports.specs.Calls.{Grows};
+ghost use Rattle.page_ports.specs.Frame.{names_page};
 ghost use Rattle.sb_tree.specs.Damage.{IsDamagedForAdd};
 ghost use Rattle.sb_tree.specs.Stands.{IsBalanced, SbStands};
 ghost use Rattle.sb_tree.specs.Steps.{tree_pages};
@@ -32,6 +33,9 @@ pub fn lead_to<S: Stage>(
         → (1 ≤ roots.new.levels) × (roots.new.levels ≤ 16) × (3 ≤ roots.new.root)) }
     // Whatever the pages hold, those outside the directory stay as they are.
     ensures apart { OnOk result (IsTrue (S.tells stage.old) → OthersStay (tree_pages (S.map stage.old) roots.old) (S.map stage.old) (S.map stage.new)) }
+    // Whatever the pages hold, its root is the one of before, a page of the directory, or one that was given out.
+    ensures renamed { OnOk result (IsTrue (S.tells stage.old) → IsSome (S.map stage.old roots.new.root)
+        → names_page (tree_pages (S.map stage.old) roots.old) roots.new.root ≡ false → roots.new.root ≡ roots.old.root) }
     ensures beside { (roots.new.changes ≡ roots.old.changes) × (roots.new.last ≡ roots.old.last) }
     ensures damaged { (page : ℕ) → result ≡ Err (StageFault.Damaged page) → IsTrue (S.tells stage.old)
         → (top ≢ root) × IsDamagedForAdd (S.map stage.old) (S.free_in_order stage.old) roots.old version page }

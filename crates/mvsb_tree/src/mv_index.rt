@@ -1,9 +1,8 @@
 //! The index of one dimension: a multiversion tree.
-ghost use Rattle.std.specs.Prelude.{◌≡◌, ◌⊎◌, ◌+◌, true, ℕ, slice_index};
-ghost use Rattle.page_ports.specs.Frame.{names_page};
+ghost use Rattle.std.specs.Prelude.{◌+◌, slice_index};
 ghost use Rattle.bw_types.specs.Digits.{digit_count};
 ghost use Rattle.mvsb_tree.specs.Damage.{IsDamagedForValue};
-ghost use Rattle.mvsb_tree.specs.Index.{IsDamagedForPoint, MayChange};
+ghost use Rattle.mvsb_tree.specs.Index.{IsDamagedForPoint, MayBecome, MayChange};
 ghost use Rattle.mvsb_tree.specs.Stands.{IsBalanced, MvStands};
 ghost use Rattle.mvsb_tree.specs.Steps.{tree_pages};
 
@@ -37,7 +36,9 @@ impl DomIndex for MvIndex {
 
     ghost growth = { λ _ _ _. 24 };
 
-    ghost may_change = { λ pages _ tree page. MayChange pages tree page };
+    ghost may_change = { λ pages _ tree point page. MayChange pages tree point page };
+
+    ghost may_become = { λ pages _ tree point new. MayBecome pages tree point new };
 
     ghost damaged_for_sum = { λ pages _ tree keys version page. IsDamagedForValue pages tree (slice_index keys 0) version page };
 

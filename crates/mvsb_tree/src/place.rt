@@ -1,5 +1,5 @@
 //! How a call comes to a node.
-ghost use Rattle.std.specs.Prelude.{◌≡◌, ◌↔◌, IsTrue};
+ghost use Rattle.std.specs.Prelude.{◌≡◌};
 ghost use Rattle.std.specs.List.{list_all};
 ghost use Rattle.mv_pages.specs.Alive.{or_later};
 ghost use Rattle.mvsb_tree.specs.Damage.{IsInPlace, not_past, not_below, begins_within as spec_begins_within, root_place as spec_root_place};

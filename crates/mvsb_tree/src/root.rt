@@ -1,5 +1,5 @@
 //! Additions to a whole tree below its directory.
-ghost use Rattle.std.specs.Prelude.{◌≡◌, ◌≢◌, ◌⊎◌, ◌+◌, ◌^◌, ◌<◌, ◌≤◌, ℕ, Bool, List, Err, IsTrue, IfOk, None};
+ghost use Rattle.std.specs.Prelude.{◌≡◌, ◌≢◌, ◌⊎◌, ◌+◌, ◌^◌, ◌<◌, ◌≤◌, ℕ, Bool, Err, IsTrue, IfOk, None};
 ghost use Rattle.page_ports.specs.Calls.{Grows};
 ghost use Rattle.sb_tree.specs.Stored.{OthersStay};
 ghost use Rattle.mvsb_tree.specs.AddDamage.{IsDamagedAtRoot, IsRootClosed, IsWholeFromRoot, KeepsDirectories};
@@ -40,6 +40,8 @@ pub fn add_at_root<S: Stage>(
     // The pages that are not on the way of the key stay, whatever they hold.
     ensures apart { IfOk result (λ top. IsTrue (S.tells stage.old)
         → OthersStay (way_pages (root_level (S.map stage.old) root) (S.map stage.old) root key version) (S.map stage.old) (S.map stage.new)) }
+    // The last page of the chain is the one of before, or one that was given out.
+    ensures ends { IfOk result (λ top. IsTrue (S.tells stage.old) → (last.new ≡ last.old) ⊎ (S.map stage.old last.new ≡ None)) }
     // The root stays, where its page has room for what it becomes.
     ensures closed { IfOk result (λ top. IsTrue (S.tells stage.old) → (top ≡ root) ⊎ IsRootClosed (S.map stage.old) root key version value) }
     // Where it answers, no page on the way of the key was damaged.

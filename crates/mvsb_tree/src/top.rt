@@ -1,5 +1,5 @@
 //! The root above what an addition leaves of the one before.
-ghost use Rattle.std.specs.Prelude.{◌≡◌, ◌≢◌, ◌⊎◌, ◌+◌, ◌<◌, ◌≤◌, ◌^◌, ℕ, length, Err, IsTrue, IsSome, IfOk, Some, None};
+ghost use Rattle.std.specs.Prelude.{◌≡◌, ◌≢◌, ◌⊎◌, ◌+◌, ◌<◌, ◌≤◌, ◌^◌, ℕ, Err, IsTrue, IsSome, IfOk, Some, None};
 ghost use Rattle.page_ports.specs.Calls.{Grows};
 ghost use Rattle.mv_pages.specs.Alive.{AreEntriesOf};
 ghost use Rattle.mv_pages.specs.Edits.{new_entry};

@@ -1,5 +1,5 @@
 -- What an addition leaves alone outside the pages of the tree, whatever they hold.
-use Rattle.sb_tree.proofs.Common.{◌≡◌, ℕ, zero, suc, ◌-◌, ◌≤◌, ◌==◌, false, List, [], ◌∷◌, ◌++◌, get_or, take, drop, Option, Some, None, refl, ◌∙◌, subst, arith, flat_map, or_parts, flat_map-append, PageMap, names_page, names_page-append, SbEntry, Second, IsCut, entries_on, child_at, pages_below, IsStored, OthersStay}
+use Rattle.sb_tree.proofs.Common.{◌≡◌, ℕ, zero, suc, ◌-◌, ◌≤◌, ◌==◌, false, List, [], ◌∷◌, ◌++◌, get_or, take, drop, Option, Some, None, IsSome, refl, sym, ◌∙◌, subst, arith, flat_map, or_parts, flat_map-append, PageMap, names_page, names_page-append, SbEntry, Second, IsCut, entries_on, child_at, pages_below, IsStored, OthersStay}
 use Rattle.sb_tree.proofs.Freeing.{own_pages}
 use Rattle.sb_tree.proofs.Lists.{list_pages, pages_of_entries}
 use Rattle.sb_tree.proofs.Paths.{GoesBy-cut, child_at-path}
@@ -43,3 +43,12 @@ index_others (suc (suc level)) page child (suc k) v m0 m1 m2 m3 es index on cut 
     let first = rw read at at_level in
     others_then (pages_below (suc (suc level)) m0 page) (pages_below (suc level) m0 child) (page ∷ []) m0 m2 m3
     (outside_both level page child k v m0 es on cut is_child) first stored
+
+pub not_missing : (o : Option (List ℕ)) → o ≡ None → IsSome o → ⊥
+not_missing None none some = cc
+not_missing (Some bytes) none some = cc
+
+-- A page that was given out after a change was in the map before only where the change could take it out.
+pub given_outside : (pages : List ℕ) (m0 m1 : PageMap) (page : ℕ) → OthersStay pages m0 m1 → m1 page ≡ None → IsSome (m0 page)
+    → names_page pages page ≡ false → ⊥
+given_outside pages m0 m1 page stays none some outside = not_missing (m0 page) (sym (stays page outside some) ∙ none) some

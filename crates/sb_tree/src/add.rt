@@ -1,8 +1,8 @@
 //! Additions.
-ghost use Rattle.std.specs.Prelude.{◌≡◌, ◌≢◌, ◌+◌, ◌<◌, ◌≤◌, ◌^◌, ◌==◌, ◌⊎◌, false, ℕ, List, ◌∷◌, length, Some, None, Err, IsTrue, IfOk, OnOk, OnErr};
+ghost use Rattle.std.specs.Prelude.{◌≡◌, ◌≢◌, ◌+◌, ◌<◌, ◌≤◌, ◌^◌, ◌==◌, ◌⊎◌, false, ℕ, List, ◌∷◌, length, Some, None, Err, IsSome, IsTrue, IfOk, OnOk, OnErr};
 ghost use Rattle.bw_types.specs.declared.point.Point.{Point};
 ghost use Rattle.page_ports.specs.Calls.{Grows};
-ghost use Rattle.page_ports.specs.Frame.{Replaces};
+ghost use Rattle.page_ports.specs.Frame.{Replaces, names_page};
 ghost use Rattle.page_layout.specs.Damage.{IsDamagedBelow, NothingBeside};
 ghost use Rattle.page_layout.specs.Footprint.{NamesNoneTwice};
 ghost use Rattle.page_layout.specs.TreeValue.{IsTreeTyped, plain_tree_fits};
@@ -50,6 +50,9 @@ pub fn sb_add<S: Stage>(
         (S.map stage.old) (S.map stage.new)) }
     // Whatever the pages hold, those outside the tree stay as they are.
     ensures apart { OnOk result (IsTrue (S.tells stage.old) → OthersStay (tree_pages (S.map stage.old) tree.old) (S.map stage.old) (S.map stage.new)) }
+    // Whatever the pages hold, the root is the one of before, a page of the tree, or one that was given out.
+    ensures renamed { OnOk result (IsTrue (S.tells stage.old) → IsSome (S.map stage.old tree.new.root)
+        → names_page (tree_pages (S.map stage.old) tree.old) tree.new.root ≡ false → tree.new.root ≡ tree.old.root) }
     ensures count { OnOk result (tree.new.count ≡ tree.old.count + 1) }
     // What a page may spell before, it may spell afterwards, whatever the pages hold.
     ensures rules { OnOk result (IsTrue (plain_tree_fits tree.old) → IsTrue (plain_tree_fits tree.new)) }

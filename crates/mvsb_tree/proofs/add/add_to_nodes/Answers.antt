@@ -171,3 +171,11 @@ returns-clause-closed g c = λ tells.
       | inl same ↦ inl same
       | inr closed ↦ inr (inr (subst (λ (r : ℕ). IsRootClosed m0 r c.args.key c.args.version c.args.value) (c.in_ok-root.ensures.root tells) closed))
     ]
+
+pub returns-then-tree-eq0-clause-ends : goal.returns-then-tree-eq0-clause-ends
+returns-then-tree-eq0-clause-ends g c = λ tells. inr (c.in_ok-top.ensures.made tells).0
+
+pub returns-clause-ends : goal.returns-clause-ends
+returns-clause-ends g c = λ tells.
+    let read = c.root_at.ensures.reads.read in
+    subst (λ (m : PageMap). (c.add_at_root.new.last ≡ c.args.last.now) ⊎ (m c.add_at_root.new.last ≡ None)) read.map (c.in_ok-top-2.ensures.ends (read.tells ∙ tells))

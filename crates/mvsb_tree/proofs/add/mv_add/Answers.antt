@@ -1,18 +1,21 @@
-use Rattle.std.proofs.Common.{◌≡◌, ◌+◌, ◌^◌, ◌<◌, ◌≤◌, List, ◌∷◌, length, None, [], Err, inl, inr, IsTrue, refl, sym, ap, ◌∙◌, subst, arith, rules}
+use Rattle.std.proofs.Common.{◌≡◌, ◌+◌, ◌^◌, ◌<◌, ◌≤◌, ℕ, false, List, ◌∷◌, length, None, IsSome, [], Err, inl, inr, IsTrue, refl, sym, ap, ◌∙◌, subst, arith, rules}
 use Rattle.std.specs.List.{All}
 use Rattle.bw_types.specs.declared.point.Point.{Point}
 use Rattle.bw_types.specs.declared.tree.Tree.{Tree}
 use Rattle.std.proofs.lemmas.Result.{err_from_is_err_and}
+use Rattle.page_ports.specs.Frame.{names_page}
 use Rattle.page_ports.specs.Pages.{PageMap}
 use Rattle.page_ports.specs.declared.page.StageFault.TheVariants.{Damaged}
+use Rattle.dom_index.specs.Becoming.{MayName}
 use Rattle.sb_tree.specs.Stands.{SbStands}
 use Rattle.sb_tree.specs.Stands as over_versions
 use Rattle.sb_tree.specs.Damage as damage
 use Rattle.sb_tree.specs.Steps as dir_steps
 use Rattle.sb_tree.specs.Stored.{OthersStay}
-use Rattle.mvsb_tree.specs.AddDamage.{node_way}
+use Rattle.mvsb_tree.specs.AddDamage.{directory_pages}
 use Rattle.mvsb_tree.proofs.Directories.{damaged_before}
-use Rattle.mvsb_tree.proofs.Later.{both_stay}
+use Rattle.mvsb_tree.proofs.Indexing.{end_stays, root_may_name}
+use Rattle.mvsb_tree.specs.Index.{MayChangeAt}
 use Rattle.mvsb_tree.specs.Led.{Led}
 use Rattle.mvsb_tree.specs.Stands.{MvStands, is_marked, key_of}
 use Rattle.mvsb_tree.specs.Steps.{directory, place_count, root_level}
@@ -175,13 +178,43 @@ returns-in_err-lead_to-clause-damaged g c = λ page e tells. (
       | inr changes ↦ inr (inr (inl (changes, damaged_before m0 m1 order0 order1 (directory tree) c.args.version page (c.in_ok-ends.ensures.directories tells) (λ ordered. grows.free_in_order tells ordered) d1)))
     ])
 
-pub returns-clause-apart : goal.returns-clause-apart
-returns-clause-apart g c = λ tells there apart. (
+-- The directory is changed as the nodes left it.
+directory_stays : (g : Given.Over) (c : goal.After-grown g) → IsTrue (g.S.Pages.tells c.args.stage.now)
+    → OthersStay (directory_pages (g.S.Pages.map c.add_to_nodes.new.stage) c.args.tree.now) (g.S.Pages.map c.add_to_nodes.new.stage) (g.S.Pages.map c.lead_to.new.stage)
+directory_stays g c tells =
     let m1 : PageMap = g.S.Pages.map c.add_to_nodes.new.stage in
     let m2 : PageMap = g.S.Pages.map c.lead_to.new.stage in
     let d0 : OthersStay (dir_steps.tree_pages m1 c.directory-roots.result) m1 m2 = c.in_ok-lead_to.ensures.apart (c.add_to_nodes.ensures.grows.went_on.tells ∙ tells) in
-    let d1 = subst (λ (t : Tree). OthersStay (dir_steps.tree_pages m1 t) m1 m2) c.directory-roots.ensures d0 in
-    both_stay (g.S.Pages.map c.args.stage.now) m1 m2 (directory c.args.tree.now) (node_way (g.S.Pages.map c.args.stage.now) c.args.tree.now c.args.key c.args.version) there apart (c.in_ok-ends.ensures.apart tells) d1)
+    subst (λ (t : Tree). OthersStay (dir_steps.tree_pages m1 t) m1 m2) c.directory-roots.ensures d0
+
+pub returns-clause-apart : goal.returns-clause-apart
+returns-clause-apart g c = λ tells. (g.S.Pages.map c.add_to_nodes.new.stage, c.in_ok-ends.ensures.apart tells, directory_stays g c tells)
+
+-- Where the directory's new root was in the map and is none of its pages, it is the root of before.
+renamed : (g : Given.Over) (c : goal.After-grown g) → IsTrue (g.S.Pages.tells c.args.stage.now)
+    → IsSome (g.S.Pages.map c.add_to_nodes.new.stage c.lead_to.new.roots.root)
+    → names_page (directory_pages (g.S.Pages.map c.add_to_nodes.new.stage) c.args.tree.now) c.lead_to.new.roots.root ≡ false → c.lead_to.new.roots.root ≡ c.args.tree.now.root
+renamed g c tells =
+    let m1 : PageMap = g.S.Pages.map c.add_to_nodes.new.stage in
+    let page = c.lead_to.new.roots.root in
+    let Renamed : Tree → Type 0 = λ t. IsSome (m1 page) → names_page (dir_steps.tree_pages m1 t) page ≡ false → page ≡ t.root in
+    let r0 : Renamed c.directory-roots.result = c.in_ok-lead_to.ensures.renamed (c.add_to_nodes.ensures.grows.went_on.tells ∙ tells) in
+    subst (λ (t : Tree). Renamed t) c.directory-roots.ensures r0
+
+pub returns-clause-becomes : goal.returns-clause-becomes
+returns-clause-becomes g c = λ tells. (
+    let m0 : PageMap = g.S.Pages.map c.args.stage.now in
+    let tree = c.args.tree.now in
+    let May : ℕ → Type 0 = MayChangeAt m0 tree c.args.key c.args.version in
+    let root = root_may_name m0 (g.S.Pages.map c.add_to_nodes.new.stage) tree c.args.key c.args.version c.lead_to.new.roots.root (c.in_ok-ends.ensures.apart tells) (renamed g c tells) in
+    let last : IsSome (m0 c.add_to_nodes.new.last) → c.add_to_nodes.new.last ≡ tree.last = end_stays m0 tree.last c.add_to_nodes.new.last (c.in_ok-ends.ensures.ends tells) in
+    record {
+      grown = record {
+        count = c.grown.ensures.count;
+        root = subst (λ (page : ℕ). MayName May m0 tree.root page) (sym c.grown.ensures.root) root;
+      };
+      last = subst (λ (page : ℕ). IsSome (m0 page) → page ≡ tree.last) (sym c.grown.ensures.last) last;
+    })
 
 pub returns-clause-changes : goal.returns-clause-changes
 returns-clause-changes g c = λ tells. elim (c.in_ok-ends.ensures.closed tells) [

@@ -1,4 +1,4 @@
-use Rattle.std.proofs.Common.{◌≡◌, ◌≢◌, ◌+◌, ◌-◌, ◌^◌, ◌<◌, inl, inr, IsSome, ℕ, Some, None, Err, List, refl, sym, ap, ◌∙◌, subst, arith, rules}
+use Rattle.std.proofs.Common.{◌≡◌, ◌≢◌, ◌+◌, ◌-◌, ◌^◌, ◌<◌, ◌⊎◌, inl, inr, IsSome, ℕ, Some, None, Err, List, refl, sym, ap, ◌∙◌, subst, arith, rules}
 use Rattle.std.proofs.lemmas.Result.{IfOk-weaker, err_from_is_err_and}
 use Rattle.std.proofs.lemmas.Bool.{iff_false}
 use Rattle.page_ports.specs.Pages.{PageMap}
@@ -14,9 +14,10 @@ use Rattle.mvsb_tree.specs.AddDamage.{EndsOnWay, IsDamagedPastForAdd, IsMade, Is
 use Rattle.mvsb_tree.specs.Becoming.{new_pages}
 use Rattle.mvsb_tree.specs.Damage.{IsInPlace, root_place}
 use Rattle.mvsb_tree.specs.Ways.{way_pages}
-use Rattle.mvsb_tree.proofs.AddPast.{root_add_past, root_add_unfit, top_stays, whole_root}
+use Rattle.mvsb_tree.proofs.AddPast.{root_add_past, root_add_unfit, top_ends, top_stays, whole_root}
 use Rattle.mvsb_tree.proofs.Becoming.{ends_at_top, root_closed, root_split, root_stays}
 use Rattle.mvsb_tree.proofs.Directories as directories
+use Rattle.mvsb_tree.proofs.Ending.{ends_at_new}
 use Rattle.mvsb_tree.specs.Changed.{ReplacedFits}
 use Rattle.mvsb_tree.proofs.Assembling.{AddsBelow}
 use Rattle.mvsb_tree.proofs.Exits.{both_if, err_same_staged, exit_error, read_damaged}
@@ -210,6 +211,20 @@ returns-clause-apart g c = IfOk-weaker c.top_of.result _ _ (λ top is_top tells 
     let a3 = subst (λ (l : ℕ). OthersStay (way_pages l m0 root key v) m0 m1) (sym level) a2 in
     let first = a3 p off there_before in
     top_stays m1 m2 root node.level v c.in_ok-replaced.replaced c.add_on.new.last c.top_of.new.last top (is_top (search rules)) p (subst IsSome (sym first) there_before) ∙ first) c.top_of.ensures.top
+
+pub returns-clause-ends : goal.returns-clause-ends
+returns-clause-ends g c = IfOk-weaker c.top_of.result _ _ (λ top is_top tells.
+    let m1 : PageMap = g.S.Pages.map c.add_on.new.stage in
+    let level = c.read_node.new.node.level in
+    let v = c.args.version in
+    let last = c.args.last.now in
+    let last1 = c.add_on.new.last in
+    let last2 = c.top_of.new.last in
+    let replaced = c.in_ok-replaced.replaced in
+    let read = c.view_page.ensures.reads.read in
+    let made = c.in_ok-replaced.ensures.made (read.tells ∙ tells) in
+    let ends = ends_at_new (g.S.Pages.map c.view_page.new.pages) m1 last last1 last2 made.places (top_ends m1 (g.S.Pages.map c.top_of.new.stage) c.args.root level v replaced last1 last2 top (is_top (search rules))) in
+    subst (λ (m : PageMap). (last2 ≡ last) ⊎ (m last2 ≡ None)) read.map ends) c.top_of.ensures.top
 
 pub returns-clause-directories : goal.returns-clause-directories
 returns-clause-directories g c = IfOk-weaker c.top_of.result _ _ (λ top is_top tells.

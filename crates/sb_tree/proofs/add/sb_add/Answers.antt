@@ -1,8 +1,9 @@
-use Rattle.sb_tree.proofs.Common.{Some, ◌≡◌, ◌<◌, ◌^◌, inl, inr, IsTrue, List, [], ◌∷◌, Err, arith, sym, ap, ◌∙◌, refl, rules, err_from_is_err_and, Point, IsRaised, SecondFits, SbStands}
+use Rattle.sb_tree.proofs.Common.{Some, ◌≡◌, ◌<◌, ◌^◌, inl, inr, IsTrue, List, [], ◌∷◌, Err, arith, sym, ap, ◌∙◌, refl, rules, err_from_is_err_and, Point, PageMap, IsRaised, SecondFits, SbStands, tree_pages}
 use Rattle.page_ports.specs.declared.page.StageFault.TheVariants.{Damaged}
 use Rattle.sb_tree.proofs.Exits.{exit_error, same_damaged}
 use Rattle.sb_tree.proofs.Sound.{tree_undamaged}
 use Rattle.sb_tree.proofs.Growing.{grown_stands, grown_none, grown_split, grown_leaf, raised_of_tree, second_of_tree, root_spelled, few_levels, balanced_whole, balanced_first, balanced_split, full_there, full_root, bytes_of, Grown}
+use Rattle.sb_tree.proofs.Outside.{given_outside, not_missing}
 use Rattle.sb_tree.proofs.add.sb_add.Goals.{In_ok-add_below, In-Some, then-tree-ge16-via-then-tree-ge16, then-tree-ge16-via-else-tree-ge16+then-tree-lt3}
 use Rattle.sb_tree.proofs.add.sb_add.Given
 use Rattle.sb_tree.proofs.add.sb_add.Goals as goal
@@ -110,3 +111,15 @@ returns-in_ok-root-in-Some-clause-balanced g c = λ tells points s few balanced.
 
 pub returns-in_ok-root-in-Some-clause-change : goal.returns-in_ok-root-in-Some-clause-change
 returns-in_ok-root-in-Some-clause-change g c = λ tells points s. (grown_above g c tells points s).change
+
+pub returns-then-tree-eq0-clause-renamed : goal.returns-then-tree-eq0-clause-renamed
+returns-then-tree-eq0-clause-renamed g c = λ tells some outside.
+    let made = c.in_ok-root.ensures.made tells in
+    absurd (not_missing (g.S.Pages.map c.args.stage.now c.grown.result.root) (ap (g.S.Pages.map c.args.stage.now) c.grown.ensures.root ∙ made.0) some)
+
+pub returns-in_ok-root-in-Some-clause-renamed : goal.returns-in_ok-root-in-Some-clause-renamed
+returns-in_ok-root-in-Some-clause-renamed g c = λ tells some outside.
+    let m1 : PageMap = g.S.Pages.map c.add_below.new.stage in
+    let made = c.in_ok-root-in-Some.ensures.made (c.add_below.ensures.grows.went_on.tells ∙ tells) in
+    absurd (given_outside (tree_pages (g.S.Pages.map c.args.stage.now) c.args.tree.now) (g.S.Pages.map c.args.stage.now) m1 c.grown-in-Some.result.root
+    (c.in_ok-add_below.ensures.apart tells) (ap m1 c.grown-in-Some.ensures.root ∙ made.0) some outside)

@@ -3,6 +3,7 @@ use Rattle.std.proofs.lemmas.Result.{err_from_is_err_and}
 use Rattle.page_ports.specs.Calls.{Changes}
 use Rattle.page_ports.specs.declared.page.StageFault.TheVariants.{Damaged}
 use Rattle.dom_index.proofs.Exits.{exit_error}
+use Rattle.dom_index.proofs.FirstPages.{not_missing}
 use Rattle.dom_index.proofs.Outcomes.{changes_to_end, changes_to_refusal}
 use Rattle.dom_index.proofs.Standing.{growth_cases, has_first, list_grows, no_hole}
 use Rattle.dom_index.proofs.point_list.PointListDomIndex.add.Goals as goal
@@ -62,3 +63,12 @@ returns-clause-growth g c = λ tells points stands new low.
           subst (λ (most : ℕ). Changes g.S.Pages most c.args.stage.now c.put_first.new.stage (Ok tt)) (sym one)
           (changes_to_end g.S.Pages 1 c.args.stage.now c.put_first.new.stage _ c.in_ok-root.ensures.grows)
     ]
+
+pub returns-clause-becomes : goal.returns-clause-becomes
+returns-clause-becomes g c = λ tells. record {
+  count = refl;
+  root = λ some not_changed. elim (c.in_ok-root.ensures.put tells) [
+    | inl same ↦ same.0
+    | inr new ↦ absurd (not_missing (g.S.Pages.map c.args.stage.now c.in_ok-root.root) new.0 some)
+  ];
+}

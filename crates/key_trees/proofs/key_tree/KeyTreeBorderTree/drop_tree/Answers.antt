@@ -11,5 +11,5 @@ pub returns-clause-damaged : goal.returns-clause-damaged
 returns-clause-damaged g c = λ page e tells first freed lost. elim (c.mv_free.ensures.damaged page e tells first freed lost) [
   | inl (inl damaged) ↦ inl damaged
   | inl (inr twice) ↦ inl (inr (inr (inr twice)))
-  | inr again ↦ inr again.1
+  | inr again ↦ inr again
 ]

@@ -12,3 +12,6 @@ returns-clause-in_map c = λ pages dims tree points s. c.mv_laws.ensures.in_map 
 
 pub returns-clause-growth : goal.returns-clause-growth
 returns-clause-growth c = λ dims levels count some few. one_growth dims count some few
+
+pub returns-clause-becoming : goal.returns-clause-becoming
+returns-clause-becoming c = λ pages dims tree new point becomes. becomes.grown
