@@ -1,5 +1,6 @@
 pub mod Gone
 pub mod There
+pub mod Refusing
 pub mod Growth
 pub mod Numbers
 pub mod Pushing

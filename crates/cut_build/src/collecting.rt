@@ -13,8 +13,8 @@ ghost use Rattle.cut_build.specs.Collected.{IsCollected, IsDamagedForPoints, Rea
 
 use crate::sides::{after_part, laws_of_borders};
 use bw_types::{Point, Tree};
-use cut_pages::{is_sound, read_cuts, read_leaf};
-use cut_parts::BorderTree;
+use cut_pages::{read_cuts, read_leaf};
+use cut_parts::{BorderTree, is_sound};
 use cut_points::may_be_built;
 use page_layout::CutNode;
 use page_ports::{PageFault, Pages, StageFault};

@@ -1,5 +1,5 @@
 //! The pages of a tree of cuts, and of a part of one, freed.
-ghost use Rattle.std.specs.Prelude.{◌≡◌, ◌≢◌, ◌++◌, ◌∷◌, ◌<◌, ◌≤◌, ℕ, suc, List, [], None, Some, Err, IsTrue, IfOk, OnOk, length};
+ghost use Rattle.std.specs.Prelude.{◌≡◌, ◌≢◌, ◌++◌, ◌∷◌, ◌<◌, ◌≤◌, ℕ, List, [], None, Some, Err, IsTrue, IfOk, OnOk, length};
 ghost use Rattle.bw_types.specs.Empty.{empty_tree};
 ghost use Rattle.bw_types.specs.declared.point.Point.{Point};
 ghost use Rattle.page_ports.specs.Calls.{Changes};
@@ -17,15 +17,16 @@ ghost use Rattle.cut_pages.specs.Nodes.{AreNodes};
 
 use crate::sides::{after_part, laws_of_borders};
 use bw_types::Tree;
-use cut_pages::{is_sound, read_cuts, read_leaf};
-use cut_parts::BorderTree;
+use cut_pages::{read_cuts, read_leaf};
+use cut_parts::{BorderTree, is_sound};
 use page_layout::{CutNode, CutPage};
 use page_ports::{PageFault, Stage, StageFault};
 
 /// Frees the pages of a tree and of its borders, and no other. Each page is read before it is freed, since it names others.
 ///
-/// `Damaged` never comes where the tree stands, `PageLimit` never, and `NoMemory` only from the stage. After a refusal the stage
-/// is to be abandoned.
+/// `Damaged` never comes where the tree stands; else it carries a page that is gone by then, one that holds no leaf of as many points as
+/// are told of it or no cuts, one with a cut that is not sound, or what dropping a border calls damaged. `PageLimit` never comes, and
+/// `NoMemory` only from the stage. After a refusal the stage is to be abandoned.
 pub fn drop_tree<B: BorderTree, S: Stage>(stage: &mut S, tree: &Tree) -> Result<(), StageFault>
     ensures dropped { OnOk result (IsTrue (S.tells stage.old) → (points : List Point) → CutsStand B.BorderTree (S.map stage.old) tree.now points
         → Replaces (tree_pages B.BorderTree (S.map stage.old) tree.now) [] (S.map stage.old) (S.map stage.new)) }
@@ -34,9 +35,12 @@ pub fn drop_tree<B: BorderTree, S: Stage>(stage: &mut S, tree: &Tree) -> Result<
     ensures gone { OnOk result (IsTrue (S.tells stage.old) → (first : PageMap) (freed : List ℕ) → Replaces freed [] first (S.map stage.old)
         → AreInMap (S.map stage.old) (tree_pages B.BorderTree first tree.now)
         × Replaces (tree_pages B.BorderTree first tree.now) [] (S.map stage.old) (S.map stage.new)) }
+    // They are the pages of a part of as many points as the tree counts.
+    ensures there { OnOk result (IsTrue (S.tells stage.old) → (first : PageMap) (freed : List ℕ) → Replaces freed [] first (S.map stage.old)
+        → 1 ≤ tree.now.count → IsDropped B.BorderTree first (S.map stage.old) (S.map stage.new) tree.now.count (Entry tree.now.root ∷ [])) }
     ensures damaged { (page : ℕ) → result ≡ Err (StageFault.Damaged page) → IsTrue (S.tells stage.old)
         → (first : PageMap) (freed : List ℕ) → Replaces freed [] first (S.map stage.old)
-        → (1 ≤ tree.now.count) × IsDamagedForDrop B.BorderTree first tree.now.count (BeforePage tree.now.root) page }
+        → (1 ≤ tree.now.count) × IsDamagedForDrop B.BorderTree first freed tree.now.count (BeforePage tree.now.root) page }
     ensures sound { (points : List Point) (page : ℕ) → IsTrue (S.tells stage.old) → CutsStand B.BorderTree (S.map stage.old) tree.now points
         → result ≢ Err (StageFault.Damaged page) }
     ensures changes { Changes S.Pages 0 stage.old stage.new result }
@@ -64,7 +68,7 @@ fn drop_page<B: BorderTree, S: Stage>(
         → IsDropped B.BorderTree first (S.map stage.old) (S.map stage.new) count (Entry page ∷ [])) }
     ensures damaged { (damaged : ℕ) → result ≡ Err (StageFault.Damaged damaged) → IsTrue (S.tells stage.old)
         → (first : PageMap) (freed : List ℕ) → Replaces freed [] first (S.map stage.old)
-        → IsDamagedForDrop B.BorderTree first count (BeforePage page) damaged }
+        → IsDamagedForDrop B.BorderTree first freed count (BeforePage page) damaged }
     ensures sound { (part : Part) (damaged : ℕ) → IsTrue (S.tells stage.old) → first_page part ≡ Some page
         → PartStands B.BorderTree (S.map stage.old) count part → NamesNoneTwice (part_pages B.BorderTree (S.map stage.old) part)
         → result ≢ Err (StageFault.Damaged damaged) }
@@ -91,7 +95,8 @@ fn free_leaf<S: Stage>(stage: &mut S, page: u64, count: u32) -> Result<(), Stage
     ensures freed { OnOk result (IsTrue (S.tells stage.old) → S.map stage.new ≡ remove_page (S.map stage.old) page) }
     ensures held { OnOk result (IsTrue (S.tells stage.old)
         → (points : List Point) × HoldsLeaf (S.map stage.old) page points × (length points ≡ count) × (1 ≤ count)) }
-    ensures damaged { (damaged : ℕ) → result ≡ Err (StageFault.Damaged damaged) → damaged ≡ page }
+    ensures damaged { (damaged : ℕ) → result ≡ Err (StageFault.Damaged damaged)
+        → (damaged ≡ page) × (IsTrue (S.tells stage.old) → (points : List Point) → HoldsLeaf (S.map stage.old) page points → length points ≡ count → ⊥) }
     ensures sound { (points : List Point) (damaged : ℕ) → IsTrue (S.tells stage.old) → HoldsLeaf (S.map stage.old) page points
         → length points ≡ count → result ≢ Err (StageFault.Damaged damaged) }
     ensures changes { Changes S.Pages 0 stage.old stage.new result }
@@ -111,7 +116,8 @@ fn free_cuts<S: Stage>(stage: &mut S, page: u64) -> Result<CutPage, StageFault>
     ensures freed { IfOk result (λ cuts. IsTrue (S.tells stage.old)
         → HoldsCuts (S.map stage.old) page cuts.nodes.items × (S.map stage.new ≡ remove_page (S.map stage.old) page)) }
     ensures nodes { IfOk result (λ cuts. AreNodes cuts.nodes.items × (3 ≤ length cuts.nodes.items)) }
-    ensures damaged { (damaged : ℕ) → result ≡ Err (StageFault.Damaged damaged) → damaged ≡ page }
+    ensures damaged { (damaged : ℕ) → result ≡ Err (StageFault.Damaged damaged)
+        → (damaged ≡ page) × (IsTrue (S.tells stage.old) → (nodes : List CutNode) → HoldsCuts (S.map stage.old) page nodes → ⊥) }
     ensures sound { (nodes : List CutNode) (damaged : ℕ) → IsTrue (S.tells stage.old) → HoldsCuts (S.map stage.old) page nodes
         → result ≢ Err (StageFault.Damaged damaged) }
     ensures changes { Changes S.Pages 0 stage.old stage.new result }
@@ -126,7 +132,8 @@ fn free_cuts<S: Stage>(stage: &mut S, page: u64) -> Result<CutPage, StageFault>
     }
 }
 
-/// Frees the pages of the part of so many points with whose nodes these begin, which are nodes of this page, and no other.
+/// Frees the pages of the part of so many points with whose nodes these begin, which are nodes of this page, and no other. `Damaged`
+/// carries pages as for `drop_tree`, or this page, where the nodes are none of a part.
 #[cycle(drops)]
 pub fn drop_nodes<B: BorderTree, S: Stage>(
     stage: &mut S,
@@ -141,7 +148,7 @@ pub fn drop_nodes<B: BorderTree, S: Stage>(
         → IsDropped B.BorderTree first (S.map stage.old) (S.map stage.new) count nodes.now) }
     ensures damaged { (damaged : ℕ) → result ≡ Err (StageFault.Damaged damaged) → IsTrue (S.tells stage.old)
         → (first : PageMap) (freed : List ℕ) → Replaces freed [] first (S.map stage.old)
-        → IsDamagedForDrop B.BorderTree first count (BeforePart page nodes.now) damaged }
+        → IsDamagedForDrop B.BorderTree first freed count (BeforePart page nodes.now) damaged }
     ensures sound { (part : Part) (rest : List CutNode) (damaged : ℕ) → IsTrue (S.tells stage.old) → nodes.now ≡ nodes_of part ++ rest
         → PartStands B.BorderTree (S.map stage.old) count part → NamesNoneTwice (part_pages B.BorderTree (S.map stage.old) part)
         → result ≢ Err (StageFault.Damaged damaged) }
@@ -182,7 +189,7 @@ fn drop_cut<B: BorderTree, S: Stage>(
         → IsDropped B.BorderTree first (S.map stage.old) (S.map stage.new) count nodes.now) }
     ensures damaged { (damaged : ℕ) → result ≡ Err (StageFault.Damaged damaged) → IsTrue (S.tells stage.old)
         → (first : PageMap) (freed : List ℕ) → Replaces freed [] first (S.map stage.old)
-        → IsDamagedForDrop B.BorderTree first count (BeforeCut page nodes.now) damaged }
+        → IsDamagedForDrop B.BorderTree first freed count (BeforeCut page nodes.now) damaged }
     ensures sound { (part : Part) (rest : List CutNode) (damaged : ℕ) → IsTrue (S.tells stage.old) → nodes.now ≡ nodes_of part ++ rest
         → first_page part ≡ None → PartStands B.BorderTree (S.map stage.old) count part
         → NamesNoneTwice (part_pages B.BorderTree (S.map stage.old) part) → result ≢ Err (StageFault.Damaged damaged) }
@@ -232,7 +239,7 @@ fn drop_border<B: BorderTree, S: Stage>(
         → AreInMap (S.map stage.old) (B.footprint first border.now)
         × Replaces (B.footprint first border.now) [] (S.map stage.old) (S.map stage.new)) }
     ensures damaged { (page : ℕ) → result ≡ Err (StageFault.Damaged page) → IsTrue (S.tells stage.old)
-        → (first : PageMap) (freed : List ℕ) → Replaces freed [] first (S.map stage.old) → (64 < low) × B.damaged_for_drop first border.now page }
+        → (first : PageMap) (freed : List ℕ) → Replaces freed [] first (S.map stage.old) → (64 < low) × B.damaged_for_drop first freed border.now page }
     ensures sound { (points : List Point) (damaged : ℕ) → IsTrue (S.tells stage.old) → (64 < low → B.stands (S.map stage.old) border.now points)
         → result ≢ Err (StageFault.Damaged damaged) }
     ensures changes { Changes S.Pages 0 stage.old stage.new result }

@@ -1,6 +1,7 @@
 -- Where an addition comes, whatever the pages hold.
-use Rattle.std.proofs.Common.{◌≡◌, ℕ, zero, suc, ◌+◌, ◌-◌, ◌<◌, ◌≤◌, ◌==◌, true, false, inl, inr, List, [], ◌∷◌, length, get_or, set, drop, slice_index, refl, sym, ap, ◌∙◌, subst, arith}
+use Rattle.std.proofs.Common.{◌≡◌, ℕ, zero, suc, ◌+◌, ◌-◌, ◌<◌, ◌≤◌, ◌⊎◌, ◌==◌, true, false, inl, inr, List, [], ◌∷◌, length, get_or, set, drop, refl, sym, ap, ◌∙◌, subst, arith}
 use Rattle.std.proofs.lemmas.Bool.{eqb-true, or_cases}
+use Rattle.bw_types.specs.Without.{without_dimension}
 use Rattle.bw_types.specs.declared.point.Point.{Point}
 use Rattle.bw_types.specs.declared.tree.Tree.{Tree}
 use Rattle.page_ports.specs.Frame.{Replaces, names_page}
@@ -9,7 +10,8 @@ use Rattle.page_layout.specs.declared.cut_page.CutNode.{CutNode}
 use Rattle.page_layout.specs.declared.cut_page.CutNode.TheVariants.{Cut, Entry}
 use Rattle.cut_parts.specs.Borders.{OthersStay}
 use Rattle.cut_parts.specs.Damage.{IsSoundCut, Spot, BeforePage, BeforePart, BeforeCut, after_parts}
-use Rattle.cut_parts.specs.Reach.{BorderMayLeave, ComesTo}
+use Rattle.cut_parts.specs.Parts.{IsBalancedCut}
+use Rattle.cut_parts.specs.Reach.{BorderMayLeave, ComesTo, GoesHigh, GoesLow, GoesToBorder, IsMadeAnew}
 use Rattle.cut_parts.specs.Spelling.{HoldsCuts}
 use Rattle.cut_parts.specs.declared.border_tree.BorderTree.{Ghosts}
 use Rattle.cut_parts.proofs.Staying.{stay_by, stay_more}
@@ -55,6 +57,16 @@ behind_set (first ∷ others) (suc place) node =
     let next : suc place + 1 ≡ suc (place + 1) = omega arith in
     ap (λ (k : ℕ). drop k (first ∷ set others place node)) next ∙ behind_set others place node ∙ ap (λ (k : ℕ). drop k (first ∷ others)) (sym next)
 
+-- ---- where the point goes
+
+-- a cut that would not be balanced with the point is made anew
+pub goes_anew : (point : Point) (n dimension key low after : ℕ) → (GoesLow point dimension key × (after ≡ low + 1)) ⊎ (GoesHigh point dimension key × (after ≡ low))
+    → (IsBalancedCut (n + 1) after → ⊥) → IsMadeAnew point n dimension key low
+goes_anew point n dimension key low after goes none = elim goes [
+  | inl below ↦ inl (below.0, λ balanced. none (subst (λ (k : ℕ). IsBalancedCut (n + 1) k) (sym below.1) balanced))
+  | inr beyond ↦ inr (beyond.0, λ balanced. none (subst (λ (k : ℕ). IsBalancedCut (n + 1) k) (sym beyond.1) balanced))
+]
+
 -- ---- steps on the way
 
 module _ {B : Type 0} (g : Ghosts B) (here : PageMap → ℕ → Spot → Type 0) (point : Point) (m : PageMap) (n page : ℕ) where
@@ -91,15 +103,15 @@ module _ {B : Type 0} (g : Ghosts B) (here : PageMap → ℕ → Spot → Type 0
     pub comes_at_cut : here m n (BeforeCut page (Cut dimension key low border ∷ others)) → ComesTo g here point m n (BeforeCut page nodes)
     comes_at_cut at = subst (λ (ns : List CutNode). ComesTo g here point m n (BeforeCut page ns)) (sym is) (1, inl at)
 
-    pub comes_high : (highs : List CutNode) → IsSoundCut (suc g.DIMS) n dimension low border → key ≤ slice_index point.keys dimension → highs ≡ after_parts 1 others
-        → ComesTo g here point m (n - low) (BeforePart page highs) → ComesTo g here point m n (BeforeCut page nodes)
-    comes_high highs sound from after way =
+    pub comes_high : (highs : List CutNode) → IsSoundCut (suc g.DIMS) n dimension low border → GoesHigh point dimension key → IsBalancedCut (n + 1) low
+        → highs ≡ after_parts 1 others → ComesTo g here point m (n - low) (BeforePart page highs) → ComesTo g here point m n (BeforeCut page nodes)
+    comes_high highs sound from balanced after way =
         let w : ComesTo g here point m (n - low) (BeforePart page (after_parts 1 others)) =
         subst (λ (ns : List CutNode). ComesTo g here point m (n - low) (BeforePart page ns)) after way in
-        subst (λ (ns : List CutNode). ComesTo g here point m n (BeforeCut page ns)) (sym is) (suc w.0, inr (sound, inl (from, w.1)))
+        subst (λ (ns : List CutNode). ComesTo g here point m n (BeforeCut page ns)) (sym is) (suc w.0, inr (sound, inl ((from, balanced), w.1)))
 
-    pub comes_low : (m1 : PageMap) (lows : List CutNode) → IsSoundCut (suc g.DIMS) n dimension low border → slice_index point.keys dimension < key → BorderMayLeave g m low border m1
-        → lows ≡ others → ComesTo g here point m1 low (BeforePart page lows) → ComesTo g here point m n (BeforeCut page nodes)
+    pub comes_low : (m1 : PageMap) (lows : List CutNode) → IsSoundCut (suc g.DIMS) n dimension low border → GoesToBorder point n dimension key low
+        → BorderMayLeave g (without_dimension dimension point) m low border m1 → lows ≡ others → ComesTo g here point m1 low (BeforePart page lows) → ComesTo g here point m n (BeforeCut page nodes)
     comes_low m1 lows sound below leaves same way =
         let w : ComesTo g here point m1 low (BeforePart page others) =
         subst (λ (ns : List CutNode). ComesTo g here point m1 low (BeforePart page ns)) same way in

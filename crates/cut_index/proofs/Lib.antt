@@ -1,4 +1,5 @@
 pub mod Coming
+pub mod Naming
 pub mod Going
 pub mod Within
 pub mod Begun

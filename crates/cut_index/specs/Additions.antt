@@ -1,5 +1,5 @@
 -- A point that is added to a part.
-use Rattle.std.specs.Prelude.{◌≡◌, ℕ, suc, ◌+◌, ◌<◌, ◌≤◌, ◌==◌, false, Option, slice_index, slice_set, insert, take, drop, List, [], ◌∷◌, ◌++◌, length, IsPermutation, IsTrue}
+use Rattle.std.specs.Prelude.{◌≡◌, ℕ, suc, ◌+◌, ◌<◌, ◌≤◌, ◌==◌, false, Option, slice_index, slice_set, insert, take, drop, List, [], ◌∷◌, ◌++◌, length, IsPermutation, IsSome, IsTrue}
 use Rattle.std.specs.List.{All}
 use Rattle.bw_types.specs.Empty.{empty_tree}
 use Rattle.bw_types.specs.declared.point.Point.{Point}
@@ -103,6 +103,11 @@ pub record IsMovedAs {B : Type 0} (g : Ghosts B) (before after : PageMap) (n pag
   pub once : NamesNoneTwice (part_pages g after moved)
   pub balance : PartBalanced g before part → PartBalanced g after moved
   pub nodes_are : nodes_of moved ≡ nodes
+
+-- An entry with which the nodes begin then was the first node before, where its page was in the map and is none that may be changed.
+abbrev pub MayBegin : (ℕ → Type 0) → PageMap → List CutNode → List CutNode → Type 0
+MayBegin may pages old new = (child : ℕ) (others : List CutNode) → new ≡ Entry child ∷ others → IsSome (pages child) → ¬ may child
+    → (before : List CutNode) × (old ≡ Entry child ∷ before)
 
 -- what an addition below a page asks for is nodes of a page
 abbrev pub ChangeFits : Change → Type 0

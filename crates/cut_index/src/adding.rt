@@ -5,6 +5,7 @@ ghost use Rattle.bw_types.specs.Empty.{empty_tree};
 ghost use Rattle.page_layout.specs.CutPage.{cut_one};
 ghost use Rattle.page_layout.specs.declared.cut_page.CutNode.{CutNode};
 ghost use Rattle.page_layout.specs.declared.cut_page.CutNode.TheVariants as node;
+ghost use Rattle.dom_index.specs.Becoming.{MayName};
 ghost use Rattle.dom_index.specs.Points.{AreKeysBelow};
 ghost use Rattle.cut_parts.specs.Borders.{OthersStay};
 ghost use Rattle.cut_parts.specs.Damage.{BeforeCut, BeforePage, BeforePart};
@@ -13,7 +14,7 @@ ghost use Rattle.cut_parts.specs.Reach.{IsDamagedFrom, LeadsFrom};
 ghost use Rattle.cut_parts.specs.Spelling.{first_page, nodes_of};
 ghost use Rattle.cut_parts.specs.Standing.{PartBalanced};
 ghost use Rattle.cut_pages.specs.Nodes.{AreNodes};
-ghost use Rattle.cut_index.specs.Additions.{ChangeFits, IsAddedAs, IsGrownIn, IsTaken, MayTake, nodes_after};
+ghost use Rattle.cut_index.specs.Additions.{ChangeFits, IsAddedAs, IsGrownIn, IsTaken, MayBegin, MayTake, nodes_after};
 ghost use Rattle.cut_index.specs.Going.{GoesWell};
 ghost use Rattle.cut_index.specs.Growing.{inner_growth, page_growth};
 
@@ -25,8 +26,8 @@ use crate::sound::{entry_at, high_place, node_at};
 use crate::splitting::store;
 use crate::storing::stage_cuts;
 use bw_types::{Point, Tree};
-use cut_pages::{is_balanced, is_sound, replace_by_cut, replace_part, set_cut};
-use cut_parts::BorderTree;
+use cut_pages::{replace_by_cut, replace_part, set_cut};
+use cut_parts::{BorderTree, is_balanced, is_sound};
 use page_layout::{CutNode, CutPage};
 use page_ports::{Stage, StageFault};
 use std::alloc::Global;
@@ -51,6 +52,8 @@ pub fn page_add<B: BorderTree, S: Stage>(
     ensures few { count < 64 → IfOk result (λ change. change ≡ Change.Same) }
     ensures apart { OnOk result (IsTrue (S.tells stage.old)
         → OthersStay (LeadsFrom B.BorderTree point.now (S.map stage.old) count (BeforePage page)) (S.map stage.old) (S.map stage.new)) }
+    ensures named { IfOk result (λ change. IsTrue (S.tells stage.old) → (first : ℕ) → nodes_after change page ≡ node.Entry first ∷ []
+        → MayName (LeadsFrom B.BorderTree point.now (S.map stage.old) count (BeforePage page)) (S.map stage.old) page first) }
     ensures damaged { (damaged : ℕ) → result ≡ Err (StageFault.Damaged damaged) → IsTrue (S.tells stage.old)
         → IsDamagedFrom B.BorderTree point.now (S.map stage.old) count (BeforePage page) damaged ⊎ (¬ S.free_in_order stage.old) }
     ensures well { IsTrue (S.tells stage.old) → (part : Part) → first_page part ≡ Some page → MayTake B.BorderTree (S.map stage.old) count part point.now
@@ -126,6 +129,9 @@ fn part_add<B: BorderTree, S: Stage>(
     ensures nodes { OnOk result (AreNodes cuts.new.nodes.items) }
     ensures apart { OnOk result (IsTrue (S.tells stage.old)
         → OthersStay (LeadsFrom B.BorderTree point.now (S.map stage.old) count (BeforePart page (drop place cuts.old.nodes.items))) (S.map stage.old) (S.map stage.new)) }
+    ensures begins { OnOk result (IsTrue (S.tells stage.old)
+        → MayBegin (LeadsFrom B.BorderTree point.now (S.map stage.old) count (BeforePart page (drop place cuts.old.nodes.items))) (S.map stage.old)
+        cuts.old.nodes.items cuts.new.nodes.items) }
     ensures damaged { (damaged : ℕ) → result ≡ Err (StageFault.Damaged damaged) → IsTrue (S.tells stage.old)
         → IsDamagedFrom B.BorderTree point.now (S.map stage.old) count (BeforePart page (drop place cuts.old.nodes.items)) damaged ⊎ (¬ S.free_in_order stage.old) }
     ensures well { IsTrue (S.tells stage.old) → (part : Part) (front rest : List CutNode)
@@ -199,6 +205,9 @@ fn cut_add<B: BorderTree, S: Stage>(
     ensures nodes { OnOk result (AreNodes cuts.new.nodes.items) }
     ensures apart { OnOk result (IsTrue (S.tells stage.old)
         → OthersStay (LeadsFrom B.BorderTree point.now (S.map stage.old) count (BeforeCut page (drop place cuts.old.nodes.items))) (S.map stage.old) (S.map stage.new)) }
+    ensures begins { OnOk result (IsTrue (S.tells stage.old)
+        → MayBegin (LeadsFrom B.BorderTree point.now (S.map stage.old) count (BeforeCut page (drop place cuts.old.nodes.items))) (S.map stage.old)
+        cuts.old.nodes.items cuts.new.nodes.items) }
     ensures damaged { (damaged : ℕ) → result ≡ Err (StageFault.Damaged damaged) → IsTrue (S.tells stage.old)
         → IsDamagedFrom B.BorderTree point.now (S.map stage.old) count (BeforeCut page (drop place cuts.old.nodes.items)) damaged ⊎ (¬ S.free_in_order stage.old) }
     ensures well { IsTrue (S.tells stage.old) → (part : Part) (front rest : List CutNode)

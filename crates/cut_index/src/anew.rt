@@ -1,5 +1,5 @@
 //! A part that is made anew.
-ghost use Rattle.std.specs.Prelude.{◌≡◌, ◌+◌, ◌-◌, ◌*◌, ◌^◌, ◌≤◌, ◌<◌, ◌⊎◌, ◌++◌, ◌∷◌, [], ℕ, suc, List, length, drop, Err, IsTrue, IfOk, OnOk, IsPermutation};
+ghost use Rattle.std.specs.Prelude.{◌≡◌, ◌+◌, ◌-◌, ◌*◌, ◌^◌, ◌≤◌, ◌<◌, ◌⊎◌, ◌++◌, [], ℕ, suc, List, length, drop, Err, IsTrue, IfOk, OnOk, IsPermutation};
 ghost use Rattle.bw_types.specs.declared.point.Point.{Point};
 ghost use Rattle.page_ports.specs.Calls.{Changes, Grows};
 ghost use Rattle.page_ports.specs.Frame.{Replaces};
@@ -13,7 +13,7 @@ ghost use Rattle.cut_parts.specs.Reach.{IsDamagedAnew, IsDamagedForCollect, IsDa
 ghost use Rattle.cut_parts.specs.Spelling.{nodes_of};
 ghost use Rattle.cut_parts.specs.Standing.{PartStands, cuts_share, part_pages};
 ghost use Rattle.cut_pages.specs.Nodes.{AreNodes};
-ghost use Rattle.cut_index.specs.Additions.{IsGrownIn, MayTake};
+ghost use Rattle.cut_index.specs.Additions.{IsGrownIn, MayBegin, MayTake};
 ghost use Rattle.cut_build.specs.Built.{IsBuiltAt};
 ghost use Rattle.cut_build.specs.Collected.{IsCollected};
 ghost use Rattle.cut_index.specs.Going.{GoesWell};
@@ -30,7 +30,8 @@ use std::alloc::Global;
 /// Makes the part of so many points anew whose nodes begin at this place, with one point more: its points are collected, all its
 /// pages and borders are freed, and a part is built whose entry takes the place of the nodes.
 ///
-/// `Damaged` carries a page of the part, or the page of the nodes, where none may be built of the points.
+/// `Damaged` carries what collecting or dropping the part calls damaged, or the page of the nodes, where no tree may be built of its
+/// points and the new one.
 pub(crate) fn part_anew<B: BorderTree, S: Stage>(
     alloc: Global,
     stage: &mut S,
@@ -50,6 +51,8 @@ pub(crate) fn part_anew<B: BorderTree, S: Stage>(
     ensures nodes { OnOk result (AreNodes cuts.new.nodes.items) }
     ensures apart { OnOk result (IsTrue (S.tells stage.old)
         → OthersStay (IsOfPartThere B.BorderTree (S.map stage.old) count (drop place cuts.old.nodes.items)) (S.map stage.old) (S.map stage.new)) }
+    ensures begins { OnOk result (IsTrue (S.tells stage.old)
+        → MayBegin (IsOfPartThere B.BorderTree (S.map stage.old) count (drop place cuts.old.nodes.items)) (S.map stage.old) cuts.old.nodes.items cuts.new.nodes.items) }
     ensures damaged { (damaged : ℕ) → result ≡ Err (StageFault.Damaged damaged) → IsTrue (S.tells stage.old)
         → IsDamagedAnew B.BorderTree point.now damaged (S.map stage.old) count page (drop place cuts.old.nodes.items) ⊎ (¬ S.free_in_order stage.old) }
     ensures well { IsTrue (S.tells stage.old) → (part : Part) (front rest : List CutNode)
@@ -122,7 +125,7 @@ fn take_part<B: BorderTree, S: Stage>(
         → IsDropped B.BorderTree (S.map stage.old) (S.map stage.old) (S.map stage.new) count (drop place cuts.now.nodes.items)) }
     ensures damaged { (damaged : ℕ) → result ≡ Err (StageFault.Damaged damaged) → IsTrue (S.tells stage.old)
         → IsDamagedForCollect (suc B.DIMS) (S.map stage.old) count (BeforePart page (drop place cuts.now.nodes.items)) damaged
-        ⊎ IsDamagedForDrop B.BorderTree (S.map stage.old) count (BeforePart page (drop place cuts.now.nodes.items)) damaged }
+        ⊎ IsDamagedForDrop B.BorderTree (S.map stage.old) [] count (BeforePart page (drop place cuts.now.nodes.items)) damaged }
     ensures well { IsTrue (S.tells stage.old) → (part : Part) (rest : List CutNode) → drop place cuts.now.nodes.items ≡ nodes_of part ++ rest
         → PartStands B.BorderTree (S.map stage.old) count part → NamesNoneTwice (part_pages B.BorderTree (S.map stage.old) part)
         → GoesWell S.Pages 0 stage.old stage.new result }

@@ -1,9 +1,10 @@
 //! The border of a cut whose low side gets a point.
-ghost use Rattle.std.specs.Prelude.{◌≡◌, ◌+◌, ◌-◌, ◌*◌, ◌^◌, ◌≤◌, ◌<◌, ◌⊎◌, ◌∷◌, ℕ, suc, List, length, Option, Err, IsTrue, IfOk};
+ghost use Rattle.std.specs.Prelude.{◌≡◌, ◌+◌, ◌-◌, ◌*◌, ◌^◌, ◌<◌, ◌⊎◌, ◌∷◌, ℕ, suc, List, length, Option, Err, IsTrue, IfOk};
+ghost use Rattle.bw_types.specs.Without.{without_dimension};
 ghost use Rattle.bw_types.specs.declared.point.Point.{Point};
 ghost use Rattle.page_ports.specs.Calls.{Changes};
 ghost use Rattle.page_layout.specs.TreeValue.{IsTreeTyped, tree_fits};
-ghost use Rattle.dom_index.specs.Points.{AreKeysBelow, IsNewPoint};
+ghost use Rattle.dom_index.specs.Points.{AreKeysBelow};
 ghost use Rattle.cut_parts.specs.Borders.{MayBeBuilt, OthersStay};
 ghost use Rattle.cut_parts.specs.Parts.{Part, border_points, points_of};
 ghost use Rattle.cut_parts.specs.Reach.{BorderMayLeave, IsDamagedAtBorder, IsDamagedBegun, MayNotBeBuilt};
@@ -26,8 +27,8 @@ use std::alloc::Global;
 /// a leaf; where it is not any more, a border that is built of its points; and else the border with the point. `leaf` is the page
 /// of the low side, where that is an entry.
 ///
-/// `Damaged` carries the page of the cut, where the low side is no leaf of 64 points or none may be built of them, or what the
-/// border calls damaged.
+/// `Damaged` carries the page of the cut, where the low side is no entry or no tree may be built of its points; the leaf's page, where it
+/// has not 64; or what the border calls damaged.
 pub(crate) fn border_add<B: BorderTree, S: Stage>(
     alloc: Global,
     stage: &mut S,
@@ -44,7 +45,8 @@ pub(crate) fn border_add<B: BorderTree, S: Stage>(
     ensures grown { IfOk result (λ grown. IsTrue (S.tells stage.old) → (side : Part)
         → BorderTakes B.BorderTree (S.map stage.old) leaf dimension low border.now side point.now
         → BorderGrown B.BorderTree (S.map stage.old) (S.map stage.new) dimension low border.now grown (points_of side) point.now) }
-    ensures apart { IfOk result (λ grown. IsTrue (S.tells stage.old) → BorderMayLeave B.BorderTree (S.map stage.old) low border.now (S.map stage.new)) }
+    ensures apart { IfOk result (λ grown. IsTrue (S.tells stage.old)
+        → BorderMayLeave B.BorderTree (without_dimension dimension point.now) (S.map stage.old) low border.now (S.map stage.new)) }
     ensures damaged { (damaged : ℕ) → result ≡ Err (StageFault.Damaged damaged) → IsTrue (S.tells stage.old)
         → IsDamagedAtBorder B.BorderTree point.now damaged (S.map stage.old) page leaf dimension low border.now ⊎ (¬ S.free_in_order stage.old) }
     ensures well { IsTrue (S.tells stage.old) → (side : Part) → BorderTakes B.BorderTree (S.map stage.old) leaf dimension low border.now side point.now

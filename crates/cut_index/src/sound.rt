@@ -1,5 +1,5 @@
 //! The nodes at a place of a page.
-ghost use Rattle.std.specs.Prelude.{◌≡◌, ◌+◌, ◌-◌, ◌≤◌, ◌<◌, ◌++◌, ℕ, None, List, length, drop, get_or, IfSome, IsTrue};
+ghost use Rattle.std.specs.Prelude.{◌≡◌, ◌+◌, ◌-◌, ◌≤◌, ◌<◌, ◌++◌, None, List, length, drop, get_or, IfSome, IsTrue};
 ghost use Rattle.page_layout.specs.CutPage.{IsNodeTyped, node_fits};
 ghost use Rattle.page_layout.specs.declared.cut_page.CutNode.{CutNode};
 ghost use Rattle.cut_parts.specs.Damage.{after_parts};

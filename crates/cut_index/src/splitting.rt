@@ -4,6 +4,8 @@ ghost use Rattle.page_ports.specs.Calls.{Changes, Grows};
 ghost use Rattle.page_ports.specs.Frame.{Replaces};
 ghost use Rattle.page_ports.specs.Pages.{PageMap};
 ghost use Rattle.page_layout.specs.Footprint.{NamesNoneTwice};
+ghost use Rattle.page_layout.specs.declared.cut_page.CutNode.{CutNode};
+ghost use Rattle.page_layout.specs.declared.cut_page.CutNode.TheVariants.{Entry};
 ghost use Rattle.cut_parts.specs.Borders.{OthersStay};
 ghost use Rattle.cut_parts.specs.Parts.{Part};
 ghost use Rattle.cut_parts.specs.Spelling.{HoldsCuts, first_page, nodes_of};
@@ -25,6 +27,7 @@ fn page_of(cuts: &CutPage) -> Option<u64>
     ensures fits { AreNodes cuts.now.nodes.items → IfSome result (λ page. 3 ≤ page) }
     ensures alone { AreNodes cuts.now.nodes.items → IfSome result (λ page. length cuts.now.nodes.items ≡ 1) }
     ensures none { AreNodes cuts.now.nodes.items → result ≡ None → 3 ≤ length cuts.now.nodes.items }
+    ensures first { IfSome result (λ page. (others : List CutNode) × (cuts.now.nodes.items ≡ Entry page ∷ others)) }
 {
     match cuts.nodes.as_slice().first() {
         Some(CutNode::Entry { child }) => Some(*child),
@@ -48,6 +51,9 @@ pub(crate) fn store<B: BorderTree, S: Stage>(
     ensures damaged { (damaged : ℕ) → result ≡ Err (StageFault.Damaged damaged) → IsTrue (S.tells stage.old)
         → ((damaged ≡ page) × (S.map stage.old page ≡ None)) ⊎ (¬ S.free_in_order stage.old) }
     ensures well { IsTrue (S.tells stage.old) → IsSome (S.map stage.old page) → GoesWell S.Pages 1 stage.old stage.new result }
+    // An entry alone is that of the page, or stood first.
+    ensures alone { IfOk result (λ change. (first : ℕ) → nodes_after change page ≡ Entry first ∷ []
+        → (first ≡ page) ⊎ ((others : List CutNode) × (cuts.now.nodes.items ≡ Entry first ∷ others))) }
     ensures changes { Changes S.Pages 1 stage.old stage.new result }
 {
     B::border_laws();
@@ -79,6 +85,7 @@ fn page_split<B: BorderTree, S: Stage>(
     requires nodes { AreNodes cuts.now.nodes.items }
     requires many { 127 < length cuts.now.nodes.items }
     requires most { length cuts.now.nodes.items ≤ 129 }
+    ensures raised { IfOk result (λ change. (first : ℕ) → nodes_after change page ≡ Entry first ∷ [] → ⊥) }
     ensures stored { IfOk result (λ change. IsTrue (S.tells stage.old) → (n : ℕ) (part : Part) → cuts.now.nodes.items ≡ nodes_of part
         → PartStands B.BorderTree (S.map stage.old) n part → NamesNoneTwice (page ∷ part_pages B.BorderTree (S.map stage.old) part)
         → IsMovedAs B.BorderTree (S.map stage.old) (S.map stage.new) n page part (nodes_after change page)) }

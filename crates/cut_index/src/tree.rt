@@ -5,6 +5,7 @@ ghost use Rattle.page_ports.specs.Calls.{Changes, Grows};
 ghost use Rattle.page_ports.specs.Frame.{Replaces};
 ghost use Rattle.page_layout.specs.TreeValue.{IsTreeTyped, tree_fits};
 ghost use Rattle.page_layout.specs.declared.cut_page.CutNode.TheVariants.{Entry};
+ghost use Rattle.dom_index.specs.Becoming.{MayName};
 ghost use Rattle.dom_index.specs.Points.{AreKeysBelow, IsNewPoint};
 ghost use Rattle.cut_parts.specs.Borders.{OthersStay, TakesPoint};
 ghost use Rattle.cut_parts.specs.Damage.{BeforePage};
@@ -31,7 +32,7 @@ const MOST_POINTS: u32 = 0x8000_0000;
 
 /// Adds a point. Where the tree stood and the point is new to it, it stands for one point more.
 ///
-/// A point goes down the cuts to a leaf, into the borders of those cuts on its way of which it is below. Where a side of a cut would
+/// A point goes down the cuts to a leaf, and into the borders of those cuts on its way below which it lies. Where a side of a cut would
 /// have more than three fifths of its points, the part of this cut is made anew, and the addition ends with it. A leaf of 64 points
 /// and a page of 64 entries are split.
 ///
@@ -42,11 +43,13 @@ const MOST_POINTS: u32 = 0x8000_0000;
 /// none. `Damaged` never comes where the tree stands and is balanced, the point is new and the free pages are in order; else it
 /// carries
 ///
-/// - the root, where the tree has `2^31` points, or where that is no number of a page;
-/// - a page on the way of the point that holds no leaf of as many points as are told of it, or no cuts, or a cut that is not sound;
-///   one with whose points and the new one none may be built; or one that is gone after what was done below it;
-/// - what an addition to a border on the way calls damaged, or the leaf from which one would begin;
-/// - where a part is made anew, what collecting or dropping it calls damaged, or its page, where none may be built of its points;
+/// - the root, where it is no number of a page, or the tree has `2^31` points;
+/// - a page on the way of the point that holds no leaf of as many points as are told of it, or no cuts, or a cut that is not sound; a
+///   leaf of 64 points, of which with the new one no tree may be built; or a page that is gone after what was done below it;
+/// - where the point goes low, what an addition to the border calls damaged; and where a border begins, its leaf, if that has not 64
+///   points, or the page of the cut, if the low side is no leaf or no tree may be built of its points;
+/// - where a part is made anew, what collecting or dropping it calls damaged, or the page of its cut, where no tree may be built of its
+///   points and the new one;
 /// - any page, where the free pages are not in order.
 pub fn tree_add<B: BorderTree, S: Stage>(
     alloc: Global,
@@ -59,8 +62,10 @@ pub fn tree_add<B: BorderTree, S: Stage>(
     ensures added { OnOk result (IsTrue (S.tells stage.old) → (points : List Point) → CutsStand B.BorderTree (S.map stage.old) tree.old points
         → IsNewPoint (suc B.DIMS) points point.now
         → TakesPoint (CutsStand B.BorderTree) (tree_pages B.BorderTree) (CutsBalanced B.BorderTree) (S.map stage.old) (S.map stage.new) tree.old tree.new points point.now) }
-    // Whatever the pages hold, those to which the tree does not lead stay as they are.
-    ensures apart { OnOk result (IsTrue (S.tells stage.old) → OthersStay (Leads B.BorderTree (S.map stage.old) tree.old) (S.map stage.old) (S.map stage.new)) }
+    // Whatever the pages hold, those to which the tree does not lead the point stay as they are, and none of them becomes the root.
+    ensures apart { OnOk result (IsTrue (S.tells stage.old) → OthersStay (Leads B.BorderTree (S.map stage.old) tree.old point.now) (S.map stage.old) (S.map stage.new)) }
+    ensures root { OnOk result (IsTrue (S.tells stage.old)
+        → MayName (Leads B.BorderTree (S.map stage.old) tree.old point.now) (S.map stage.old) tree.old.root tree.new.root) }
     ensures count { OnOk result (tree.new.count ≡ tree.old.count + 1) }
     ensures rules { OnOk result (IsTrue (tree_fits tree.old) → IsTrue (tree_fits tree.new)) }
     ensures typed { IsTreeTyped tree.new }
@@ -154,6 +159,8 @@ fn root_add<B: BorderTree, S: Stage>(
     ensures number { IfOk result (λ first. 3 ≤ first) }
     ensures apart { OnOk result (IsTrue (S.tells stage.old)
         → OthersStay (LeadsFrom B.BorderTree point.now (S.map stage.old) count (BeforePage root)) (S.map stage.old) (S.map stage.new)) }
+    ensures named { IfOk result (λ first. IsTrue (S.tells stage.old)
+        → MayName (LeadsFrom B.BorderTree point.now (S.map stage.old) count (BeforePage root)) (S.map stage.old) root first) }
     ensures damaged { (damaged : ℕ) → result ≡ Err (StageFault.Damaged damaged) → IsTrue (S.tells stage.old)
         → IsDamagedFrom B.BorderTree point.now (S.map stage.old) count (BeforePage root) damaged ⊎ (¬ S.free_in_order stage.old) }
     ensures well { IsTrue (S.tells stage.old) → (part : Part) → first_page part ≡ Some root → MayTake B.BorderTree (S.map stage.old) count part point.now

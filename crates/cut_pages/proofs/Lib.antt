@@ -6,3 +6,4 @@ pub mod Walking
 pub mod Holding
 pub mod Entries
 pub mod ByHand
+pub mod Dividing

@@ -1,5 +1,6 @@
 //! The laws of nodes and of the pages that hold them: a function here does nothing, and its contract is the law.
 ghost use Rattle.cut_pages.specs.Nodes.{LeavesHoldPoints, PagesHoldNodes, PartsAreSkipped, PartsFillPlaces};
+ghost use Rattle.cut_pages.specs.Regions.{EntriesAreCutInTwo, PartsLieInside, RegionsLieWithin, SidesDivideRegions};
 
 /// The nodes of a part fill one place, and are passed as one part.
 pub fn parts_fill_places()
@@ -11,4 +12,13 @@ pub fn parts_fill_places()
 pub fn pages_hold_one()
     ensures cuts { PagesHoldNodes }
     ensures leaf { LeavesHoldPoints }
+{}
+
+/// What `replace_by_cut` and `split_first_cut` do to the regions of a page's entries; when the cuts of a page lie inside their regions; and
+/// that the regions of the entries then lie in the page's.
+pub fn cuts_divide_regions()
+    ensures replaced { EntriesAreCutInTwo }
+    ensures split { SidesDivideRegions }
+    ensures inside { PartsLieInside }
+    ensures within { RegionsLieWithin }
 {}

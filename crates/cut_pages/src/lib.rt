@@ -11,17 +11,15 @@ mod parts;
 mod putting;
 mod reading;
 mod searching;
-mod sound;
 mod splitting;
 #[cfg(test)]
 mod tests;
 
 pub use changing::{replace_by_cut, replace_part, set_cut};
-pub use laws::{pages_hold_one, parts_fill_places};
+pub use laws::{cuts_divide_regions, pages_hold_one, parts_fill_places};
 pub use nodes::Nodes;
 pub use parts::{after_part, part_length};
 pub use putting::{make_cuts, make_leaf, put_cuts, put_leaf};
 pub use reading::{leaf_sum, read_cuts, read_leaf, view_cuts};
 pub use searching::{find, region_of};
-pub use sound::{is_balanced, is_sound};
 pub use splitting::{Sides, split_first_cut};

@@ -1,11 +1,11 @@
-//! The entry whose region holds some keys, on pages by hand.
+//! Pages by hand: the entry whose region holds some keys, and a page of 65 entries that is split.
 ghost use Rattle.cut_pages.specs.Nodes.{AreNodes};
 ghost use Rattle.bw_types.specs.Empty.{empty_tree};
 ghost use Rattle.page_layout.specs.CutPage.{entry_count};
 ghost use Rattle.page_layout.specs.declared.cut_page.CutNode.TheVariants.{Cut, Entry};
-ghost use Rattle.std.specs.Prelude.{◌≡◌};
+ghost use Rattle.std.specs.Prelude.{◌≡◌, ◌≤◌};
 
-use super::{find, region_of};
+use super::{find, region_of, split_first_cut};
 use crate::parts::page_of;
 use bw_types::{Region, Tree};
 use page_layout::{CutNode, CutPage};
@@ -95,5 +95,65 @@ fn entries_of_high_sides_are_found(rt: HostRuntime) -> Result<(), Fail> {
     assert!(rt; region_of(&page, &ROOT, 1) == second);
     assert!(rt; region_of(&page, &ROOT, 2) == third);
     assert!(rt; region_of(&page, &ROOT, 3) == fourth);
+    Ok(())
+}
+
+// A cut of dimension 1 at 77 with so many points low, and their border.
+fn first_cut(low: u32) -> CutNode {
+    CutNode::Cut {
+        dimension: 1,
+        key: 77,
+        low,
+        border: Tree {
+            root: 9,
+            levels: 1,
+            count: low,
+            changes: 1,
+            last: 9,
+        },
+    }
+}
+
+// Makes these nodes a part in which each cut has one entry low.
+fn make_part(nodes: &mut [CutNode; 129], from: usize, to: usize) {
+    for place in from..to {
+        if place < 129 {
+            let is_cut = place % 2 == from % 2 && place + 1 != to;
+            nodes[place] = if is_cut {
+                cut(0, 100 + place as u64)
+            } else {
+                entry(3 + place as u64)
+            };
+        }
+    }
+}
+
+// Whether a page of 65 entries, whose high side begins at this node, is split into its first cut and the nodes of the two sides.
+fn is_split_at(high: usize) -> bool
+    requires { (1 ≤ high) × (high ≤ 129) }
+{
+    let first = first_cut(700);
+    let mut nodes = [first; 129];
+    make_part(&mut nodes, 1, high);
+    make_part(&mut nodes, high, 129);
+    let (front, highs) = nodes.split_at(high);
+    let (_, lows) = front.split_at(1);
+    match split_first_cut(&page_of(&nodes)) {
+        None => false,
+        Some(sides) => {
+            sides.cut == first && sides.low == page_of(lows) && sides.high == page_of(highs)
+        }
+    }
+}
+
+#[test]
+fn one_entry_low_and_64_high(rt: HostRuntime) -> Result<(), Fail> {
+    assert!(rt; is_split_at(2));
+    Ok(())
+}
+
+#[test]
+fn thirty_entries_low_and_35_high(rt: HostRuntime) -> Result<(), Fail> {
+    assert!(rt; is_split_at(60));
     Ok(())
 }

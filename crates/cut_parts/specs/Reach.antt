@@ -2,8 +2,8 @@
 --
 -- An addition goes down the cuts on the way of its point. Where it goes low at a cut the border is changed first, so what is below is
 -- read in the pages that the addition to the border left. In a tree that stands the border has no page of the low side, which is then
--- as it was. Where pages are shared, the way may lead anywhere from there, and what is said here allows it.
-use Rattle.std.specs.Prelude.{◌≡◌, ℕ, zero, suc, ◌-◌, ◌^◌, ◌<◌, ◌≤◌, ◌⊎◌, true, List, [], ◌∷◌, ◌++◌, length, Option, Some, None, slice_index}
+-- as it was. Where pages are shared or missing, the way may lead anywhere from there, and what is said here allows it.
+use Rattle.std.specs.Prelude.{◌≡◌, ℕ, zero, suc, ◌+◌, ◌-◌, ◌^◌, ◌<◌, ◌≤◌, ◌⊎◌, true, List, [], ◌∷◌, ◌++◌, length, Option, Some, None, slice_index}
 use Rattle.bw_types.specs.Empty.{empty_tree}
 use Rattle.bw_types.specs.Without.{without_dimension}
 use Rattle.bw_types.specs.declared.point.Point.{Point}
@@ -14,7 +14,7 @@ use Rattle.page_layout.specs.declared.cut_page.CutNode.{CutNode}
 use Rattle.page_layout.specs.declared.cut_page.CutNode.TheVariants.{Entry, Cut}
 use Rattle.cut_parts.specs.Borders.{MayBeBuilt, OthersStay}
 use Rattle.cut_parts.specs.Damage.{IsSoundCut, Spot, BeforePage, BeforePart, BeforeCut, after_parts}
-use Rattle.cut_parts.specs.Parts.{Part, Leaf, Split, HasShape, points_of}
+use Rattle.cut_parts.specs.Parts.{Part, Leaf, Split, HasShape, IsBalancedCut, points_of}
 use Rattle.cut_parts.specs.Spelling.{HoldsCuts, HoldsLeaf, IsSpelled, nodes_of}
 use Rattle.cut_parts.specs.Standing.{part_pages}
 use Rattle.cut_parts.specs.declared.border_tree.BorderTree.{Ghosts}
@@ -36,8 +36,8 @@ pub record IsThere (pages : PageMap) (n : ℕ) (nodes : List CutNode) : Type 0 w
   pub fit : BordersFit part
   pub spelled : IsSpelled pages part
 
--- Such a part was dropped from a map that had lost other pages before. Of what this map was at first: all pages of the part were still
--- there, and are gone; nothing else changed.
+-- Such a part, of the map as it was first, was dropped from one that had lost other pages since. All its pages were still there, and are
+-- gone; nothing else changed.
 pub record IsDropped {B : Type 0} (g : Ghosts B) (first old new : PageMap) (n : ℕ) (nodes : List CutNode) : Type 0 where
   pub is : IsThere first n nodes
   pub there : AreInMap old (part_pages g first is.part)
@@ -84,25 +84,52 @@ WalksTo dims here pages n spot = (steps : ℕ) × WalksWithin dims here steps pa
 abbrev pub IsDamagedForCollect : ℕ → PageMap → ℕ → Spot → ℕ → Type 0
 IsDamagedForCollect dims pages n spot damaged = WalksTo dims (IsNotAsTold dims damaged pages) pages n spot
 
--- Dropping a part may call a page damaged to which it comes, since that may be gone where it is reached a second time; and what dropping a
--- border may.
-abbrev pub MayRefuseDrop : {B : Type 0} → Ghosts B → ℕ → PageMap → ℕ → Spot → Type 0
-MayRefuseDrop g damaged pages n (BeforePage page) = damaged ≡ page
-MayRefuseDrop g damaged pages n (BeforePart page []) = damaged ≡ page
-MayRefuseDrop g damaged pages n (BeforePart page (node ∷ nodes)) = ⊥
-MayRefuseDrop g damaged pages n (BeforeCut page []) = damaged ≡ page
-MayRefuseDrop g damaged pages n (BeforeCut page (Entry child ∷ nodes)) = damaged ≡ page
-MayRefuseDrop g damaged pages n (BeforeCut page (Cut dimension key low border ∷ nodes)) =
-    ((damaged ≡ page) × (IsSoundCut (suc g.DIMS) n dimension low border → ⊥)) ⊎ ((64 < low) × g.damaged_for_drop pages border damaged)
+-- Dropping a part, of a map that had lost some pages before, comes within so many steps to what it calls damaged: a page that is gone by
+-- then; one that is not as told; or what dropping a border may. At a cut that is sound it drops the border, the low side and the high one.
+abbrev pub DropsWithin : {B : Type 0} → Ghosts B → ℕ → PageMap → ℕ → List ℕ → ℕ → Spot → Type 0
+DropsWithin g damaged first zero freed n spot = ⊥
+DropsWithin g damaged first (suc steps) freed n (BeforePage page) =
+    ((damaged ≡ page) × (names_page freed page ≡ true))
+    ⊎ (IsNotAsTold (suc g.DIMS) damaged first n (BeforePage page)
+    ⊎ ((64 < n) × ((nodes : List CutNode) × HoldsCuts first page nodes × DropsWithin g damaged first steps (freed ++ (page ∷ [])) n (BeforeCut page nodes))))
+DropsWithin g damaged first (suc steps) freed n (BeforePart page []) = damaged ≡ page
+DropsWithin g damaged first (suc steps) freed n (BeforePart page (Entry child ∷ nodes)) = DropsWithin g damaged first steps freed n (BeforePage child)
+DropsWithin g damaged first (suc steps) freed n (BeforePart page (Cut dimension key low border ∷ nodes)) =
+    DropsWithin g damaged first steps freed n (BeforeCut page (Cut dimension key low border ∷ nodes))
+DropsWithin g damaged first (suc steps) freed n (BeforeCut page []) = damaged ≡ page
+DropsWithin g damaged first (suc steps) freed n (BeforeCut page (Entry child ∷ nodes)) = damaged ≡ page
+DropsWithin g damaged first (suc steps) freed n (BeforeCut page (Cut dimension key low border ∷ nodes)) =
+    IsNotAsTold (suc g.DIMS) damaged first n (BeforeCut page (Cut dimension key low border ∷ nodes))
+    ⊎ (IsSoundCut (suc g.DIMS) n dimension low border
+    × (((64 < low) × g.damaged_for_drop first freed border damaged)
+    ⊎ (DropsWithin g damaged first steps (freed ++ g.footprint first border) low (BeforePart page nodes)
+    ⊎ ((lows : IsThere first low nodes)
+    × DropsWithin g damaged first steps ((freed ++ g.footprint first border) ++ part_pages g first lows.part) (n - low) (BeforePart page (after_parts 1 nodes))))))
 
-abbrev pub IsDamagedForDrop : {B : Type 0} → Ghosts B → PageMap → ℕ → Spot → ℕ → Type 0
-IsDamagedForDrop g pages n spot damaged = WalksTo (suc g.DIMS) (MayRefuseDrop g damaged pages) pages n spot
+abbrev pub IsDamagedForDrop : {B : Type 0} → Ghosts B → PageMap → List ℕ → ℕ → Spot → ℕ → Type 0
+IsDamagedForDrop g first freed n spot damaged = (steps : ℕ) × DropsWithin g damaged first steps freed n spot
 
 -- ---- where an addition comes
 
--- An addition to the border of a cut with so many points low may leave these pages. One that is begun takes new pages alone.
-abbrev pub BorderMayLeave : {B : Type 0} → Ghosts B → PageMap → ℕ → Tree → PageMap → Type 0
-BorderMayLeave g before low border after = OthersStay (λ page. (64 < low) × g.may_change before border page) before after
+-- An addition of the point to the border of a cut with so many points low may leave these pages. One that is begun takes new pages alone.
+abbrev pub BorderMayLeave : {B : Type 0} → Ghosts B → Point → PageMap → ℕ → Tree → PageMap → Type 0
+BorderMayLeave g point before low border after = OthersStay (λ page. (64 < low) × g.may_change before border point page) before after
+
+-- A point goes low at a cut, or high.
+abbrev pub GoesLow : Point → ℕ → ℕ → Type 0
+GoesLow point dimension key = slice_index point.keys dimension < key
+
+abbrev pub GoesHigh : Point → ℕ → ℕ → Type 0
+GoesHigh point dimension key = key ≤ slice_index point.keys dimension
+
+-- With the point a side of a cut of n points, so many of them low, has more than three fifths, and the part of the cut is made anew.
+abbrev pub IsMadeAnew : Point → ℕ → ℕ → ℕ → ℕ → Type 0
+IsMadeAnew point n dimension key low =
+    (GoesLow point dimension key × (IsBalancedCut (n + 1) (low + 1) → ⊥)) ⊎ (GoesHigh point dimension key × (IsBalancedCut (n + 1) low → ⊥))
+
+-- The point goes low, and the sides stay balanced, so that it is added to the border.
+abbrev pub GoesToBorder : Point → ℕ → ℕ → ℕ → ℕ → Type 0
+GoesToBorder point n dimension key low = GoesLow point dimension key × IsBalancedCut (n + 1) (low + 1)
 
 -- An addition of the point comes within so many steps to a place of which this holds, in the pages of then.
 abbrev pub ComesWithin : {B : Type 0} → Ghosts B → (PageMap → ℕ → Spot → Type 0) → Point → ℕ → PageMap → ℕ → Spot → Type 0
@@ -119,9 +146,9 @@ ComesWithin g here point (suc steps) pages n (BeforeCut page (Entry child ∷ no
 ComesWithin g here point (suc steps) pages n (BeforeCut page (Cut dimension key low border ∷ nodes)) =
     here pages n (BeforeCut page (Cut dimension key low border ∷ nodes))
     ⊎ (IsSoundCut (suc g.DIMS) n dimension low border
-    × (((key ≤ slice_index point.keys dimension) × ComesWithin g here point steps pages (n - low) (BeforePart page (after_parts 1 nodes)))
-    ⊎ ((slice_index point.keys dimension < key)
-    × ((after : PageMap) × BorderMayLeave g pages low border after × ComesWithin g here point steps after low (BeforePart page nodes)))))
+    × (((GoesHigh point dimension key × IsBalancedCut (n + 1) low) × ComesWithin g here point steps pages (n - low) (BeforePart page (after_parts 1 nodes)))
+    ⊎ (GoesToBorder point n dimension key low
+    × ((after : PageMap) × BorderMayLeave g (without_dimension dimension point) pages low border after × ComesWithin g here point steps after low (BeforePart page nodes)))))
 
 abbrev pub ComesTo : {B : Type 0} → Ghosts B → (PageMap → ℕ → Spot → Type 0) → Point → PageMap → ℕ → Spot → Type 0
 ComesTo g here point pages n spot = (steps : ℕ) × ComesWithin g here point steps pages n spot
@@ -132,24 +159,25 @@ ComesTo g here point pages n spot = (steps : ℕ) × ComesWithin g here point st
 abbrev pub IsOfPartThere : {B : Type 0} → Ghosts B → PageMap → ℕ → List CutNode → ℕ → Type 0
 IsOfPartThere g pages n nodes page = (there : IsThere pages n nodes) × (names_page (part_pages g pages there.part) page ≡ true)
 
--- An addition that has come there may change the page: it is the page before which it stands; a page of the border of the cut; or, where the
--- part is made anew, a page of the part.
-abbrev pub ChangesAt : {B : Type 0} → Ghosts B → ℕ → PageMap → ℕ → Spot → Type 0
-ChangesAt g page pages n (BeforePage first) = page ≡ first
-ChangesAt g page pages n (BeforePart first nodes) = ⊥
-ChangesAt g page pages n (BeforeCut first []) = ⊥
-ChangesAt g page pages n (BeforeCut first (Entry child ∷ nodes)) = ⊥
-ChangesAt g page pages n (BeforeCut first (Cut dimension key low border ∷ nodes)) =
-    ((64 < low) × g.may_change pages border page)
-    ⊎ IsOfPartThere g pages n (Cut dimension key low border ∷ nodes) page
+-- An addition of the point that has come there may change the page: it is the page before which it stands; at a cut that is sound, a page
+-- of the border where the point goes low; or a page of the part, where that is made anew.
+abbrev pub ChangesAt : {B : Type 0} → Ghosts B → Point → ℕ → PageMap → ℕ → Spot → Type 0
+ChangesAt g point page pages n (BeforePage first) = page ≡ first
+ChangesAt g point page pages n (BeforePart first nodes) = ⊥
+ChangesAt g point page pages n (BeforeCut first []) = ⊥
+ChangesAt g point page pages n (BeforeCut first (Entry child ∷ nodes)) = ⊥
+ChangesAt g point page pages n (BeforeCut first (Cut dimension key low border ∷ nodes)) =
+    IsSoundCut (suc g.DIMS) n dimension low border
+    × ((GoesToBorder point n dimension key low × ((64 < low) × g.may_change pages border (without_dimension dimension point) page))
+    ⊎ (IsMadeAnew point n dimension key low × IsOfPartThere g pages n (Cut dimension key low border ∷ nodes) page))
 
 -- The part of n points before which an addition of the point stands leads to this page.
 abbrev pub LeadsFrom : {B : Type 0} → Ghosts B → Point → PageMap → ℕ → Spot → ℕ → Type 0
-LeadsFrom g point pages n spot page = ComesTo g (ChangesAt g page) point pages n spot
+LeadsFrom g point pages n spot page = ComesTo g (ChangesAt g point page) point pages n spot
 
--- The tree leads to this page: an addition of some point may change it.
-abbrev pub Leads : {B : Type 0} → Ghosts B → PageMap → Tree → ℕ → Type 0
-Leads g pages tree page = (1 ≤ tree.count) × ((point : Point) × LeadsFrom g point pages tree.count (BeforePage tree.root) page)
+-- The tree leads to this page: an addition of the point may change it.
+abbrev pub Leads : {B : Type 0} → Ghosts B → PageMap → Tree → Point → ℕ → Type 0
+Leads g pages tree point page = (1 ≤ tree.count) × LeadsFrom g point pages tree.count (BeforePage tree.root) page
 
 -- ---- what it calls damaged
 
@@ -180,11 +208,12 @@ IsDamagedAtBorder g point damaged pages page leaf dimension low border =
     ((low ≡ 64) × IsDamagedBegun (suc g.DIMS) point damaged pages page leaf)
     ⊎ ((64 < low) × g.damaged_for_add pages border (without_dimension dimension point) damaged)
 
--- What making the part anew may call damaged: what collecting it or dropping it may; or its page, where none may be built of the points.
+-- What making the part anew may call damaged: what collecting it or dropping it may; or the page of the cut,
+-- where no tree may be built of its points and the new one.
 abbrev pub IsDamagedAnew : {B : Type 0} → Ghosts B → Point → ℕ → PageMap → ℕ → ℕ → List CutNode → Type 0
 IsDamagedAnew g point damaged pages n page nodes =
     IsDamagedForCollect (suc g.DIMS) pages n (BeforePart page nodes) damaged
-    ⊎ (IsDamagedForDrop g pages n (BeforePart page nodes) damaged
+    ⊎ (IsDamagedForDrop g pages [] n (BeforePart page nodes) damaged
     ⊎ ((damaged ≡ page) × ((there : IsThere pages n nodes) × MayNotBeBuilt (suc g.DIMS) (points_of there.part ++ (point ∷ [])))))
 
 -- The page was there, and is gone after what the addition did below it.
@@ -203,8 +232,9 @@ IsDamagedAt g point damaged pages n (BeforeCut page []) = damaged ≡ page
 IsDamagedAt g point damaged pages n (BeforeCut page (Entry child ∷ nodes)) = damaged ≡ page
 IsDamagedAt g point damaged pages n (BeforeCut page (Cut dimension key low border ∷ nodes)) =
     IsNotAsTold (suc g.DIMS) damaged pages n (BeforeCut page (Cut dimension key low border ∷ nodes))
-    ⊎ (IsDamagedAtBorder g point damaged pages page (first_entry nodes) dimension low border
-    ⊎ IsDamagedAnew g point damaged pages n page (Cut dimension key low border ∷ nodes))
+    ⊎ (IsSoundCut (suc g.DIMS) n dimension low border
+    × ((GoesToBorder point n dimension key low × IsDamagedAtBorder g point damaged pages page (first_entry nodes) dimension low border)
+    ⊎ (IsMadeAnew point n dimension key low × IsDamagedAnew g point damaged pages n page (Cut dimension key low border ∷ nodes))))
 
 abbrev pub IsDamagedFrom : {B : Type 0} → Ghosts B → Point → PageMap → ℕ → Spot → ℕ → Type 0
 IsDamagedFrom g point pages n spot damaged = ComesTo g (IsDamagedAt g point damaged) point pages n spot

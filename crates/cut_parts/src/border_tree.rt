@@ -1,5 +1,5 @@
 //! A kind of trees that are the borders of trees of one dimension more.
-ghost use Rattle.std.specs.Prelude.{◌≡◌, ◌≢◌, ◌+◌, ◌-◌, ◌*◌, ◌^◌, ◌<◌, ◌≤◌, ◌⊎◌, ℕ, List, [], ◌∷◌, length, Err, IsTrue, IfOk, OnOk, OnErr, IsPermutation};
+ghost use Rattle.std.specs.Prelude.{◌≡◌, ◌≢◌, ◌+◌, ◌-◌, ◌*◌, ◌^◌, ◌<◌, ◌≤◌, ◌⊎◌, ℕ, List, [], length, Err, IsTrue, IfOk, OnOk, OnErr, IsPermutation};
 ghost use Rattle.bw_types.specs.Dominance.{dominance_sum};
 ghost use Rattle.bw_types.specs.declared.point.Point.{Point};
 ghost use Rattle.bw_types.specs.declared.tree.Tree.{Tree};
@@ -45,14 +45,14 @@ pub trait BorderTree {
     /// What a sum at these keys and this version calls damaged.
     ghost damaged_for_sum: { PageMap → Tree → List ℕ → ℕ → ℕ → Type 0 };
 
-    /// An addition to the tree may change this page, whatever the pages hold.
-    ghost may_change: { PageMap → Tree → ℕ → Type 0 };
+    /// An addition of this point to the tree may change this page, whatever the pages hold.
+    ghost may_change: { PageMap → Tree → Point → ℕ → Type 0 };
 
     /// What an addition of this point may call damaged, beside the free pages.
     ghost damaged_for_add: { PageMap → Tree → Point → ℕ → Type 0 };
 
-    /// What dropping the tree may call damaged.
-    ghost damaged_for_drop: { PageMap → Tree → ℕ → Type 0 };
+    /// What dropping the tree may call damaged, of a map that had lost these pages before.
+    ghost damaged_for_drop: { PageMap → List ℕ → Tree → ℕ → Type 0 };
 
     /// The sum of the weights of the points whose version and keys are at or below those given, modulo `2^128`.
     ///
@@ -92,7 +92,7 @@ pub trait BorderTree {
             → IsNewPoint DIMS points point.now → TakesPoint stands footprint balanced (S.map stage.old) (S.map stage.new) tree.old tree.new points point.now) }
         // Whatever the pages hold, those that an addition may not change stay as they are.
         ensures apart { OnOk result (IsTrue (S.tells stage.old)
-            → OthersStay (may_change (S.map stage.old) tree.old) (S.map stage.old) (S.map stage.new)) }
+            → OthersStay (may_change (S.map stage.old) tree.old point.now) (S.map stage.old) (S.map stage.new)) }
         ensures count { OnOk result (tree.new.count ≡ tree.old.count + 1) }
         ensures rules { OnOk result (IsTrue (tree_fits tree.old) → IsTrue (tree_fits tree.new)) }
         ensures typed { IsTreeTyped tree.new }
@@ -140,7 +140,7 @@ pub trait BorderTree {
             → AreInMap (S.map stage.old) (footprint first tree.now)
             × Replaces (footprint first tree.now) [] (S.map stage.old) (S.map stage.new)) }
         ensures damaged { (page : ℕ) → result ≡ Err (StageFault.Damaged page) → IsTrue (S.tells stage.old)
-            → (first : PageMap) (freed : List ℕ) → Replaces freed [] first (S.map stage.old) → damaged_for_drop first tree.now page }
+            → (first : PageMap) (freed : List ℕ) → Replaces freed [] first (S.map stage.old) → damaged_for_drop first freed tree.now page }
         ensures sound { (points : List Point) (page : ℕ) → IsTrue (S.tells stage.old) → stands (S.map stage.old) tree.now points
             → result ≢ Err (StageFault.Damaged page) }
         ensures changes { Changes S.Pages 0 stage.old stage.new result };

@@ -3,8 +3,8 @@
 //! A cut parts points at a key of one dimension. It keeps how many are on its low side, and a border: a tree of one dimension
 //! less over these, without the cut's dimension. What is asked of borders is `BorderTree`. The definitions are in specs/: a part,
 //! its points and its value in `Parts`, how pages spell it in `Spelling`, when a tree stands for points in `Standing`, which page
-//! a sum calls damaged in `Damage`, and the numbers of pages in `Depths`. Their laws are the contracts of `laws`. `is_sound` and
-//! `is_balanced` test a cut.
+//! a sum calls damaged in `Damage`, and where other calls come, whatever the pages hold, in `Reach`. Their laws are the contracts
+//! of `laws`. `is_sound` and `is_balanced` test a cut.
 #![tactic(auto)]
 
 mod border_tree;

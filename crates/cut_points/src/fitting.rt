@@ -1,5 +1,5 @@
 //! Whether a tree may be built of points.
-ghost use Rattle.std.specs.Prelude.{◌≡◌, ◌<◌, ◌≤◌, ◌-◌, ◌^◌, ◌↔◌, IsTrue, length, IsPermutation};
+ghost use Rattle.std.specs.Prelude.{◌<◌, ◌≤◌, ◌-◌, ◌^◌, ◌↔◌, IsTrue, length, IsPermutation};
 ghost use Rattle.std.specs.List.{All, AllAdjacentBelow};
 ghost use Rattle.cut_points.specs.Medians.{KeysDiffer, key_of};
 ghost use Rattle.cut_parts.specs.Borders.{MayBeBuilt, ShareNoKey};

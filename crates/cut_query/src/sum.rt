@@ -1,5 +1,5 @@
 //! The sum of a tree, of a part, and of a cut.
-ghost use Rattle.std.specs.Prelude.{◌≡◌, ◌+◌, ◌-◌, ◌<◌, ◌≤◌, ◌⊎◌, ◌++◌, ◌↔◌, ℕ, suc, List, length, Some, None, Err, IsTrue, OnOk};
+ghost use Rattle.std.specs.Prelude.{◌≡◌, ◌+◌, ◌-◌, ◌<◌, ◌≤◌, ◌⊎◌, ◌++◌, ℕ, suc, List, length, Some, None, Err, IsTrue, OnOk};
 ghost use Rattle.bw_types.specs.Without.{keys_without};
 ghost use Rattle.bw_types.specs.Dominance.{dominance_sum};
 ghost use Rattle.bw_types.specs.declared.point.Point.{Point};
@@ -7,15 +7,15 @@ ghost use Rattle.page_ports.specs.Calls.{OnlyReads};
 ghost use Rattle.page_layout.specs.declared.cut_page.CutNode.{CutNode};
 ghost use Rattle.dom_index.specs.Points.{AreKeysBelow};
 ghost use Rattle.cut_parts.specs.Borders.{IsSum};
-ghost use Rattle.cut_parts.specs.Damage.{BeforeCut, BeforePage, BeforePart, IsDamagedForSum, IsDamagedOnWay, IsSoundCut};
+ghost use Rattle.cut_parts.specs.Damage.{BeforeCut, BeforePage, BeforePart, IsDamagedForSum, IsDamagedOnWay};
 ghost use Rattle.bw_types.specs.Depths.{IsCost, reads_within};
-ghost use Rattle.cut_parts.specs.Parts.{Part, IsBalancedCut, points_of};
+ghost use Rattle.cut_parts.specs.Parts.{Part, points_of};
 ghost use Rattle.cut_parts.specs.Spelling.{first_page, nodes_of};
 ghost use Rattle.cut_parts.specs.Standing.{CutsBalanced, CutsStand, PartBalanced, PartStands, cuts_cost};
 
 use bw_types::Tree;
 use cut_pages::{Nodes, leaf_sum, view_cuts};
-use cut_parts::BorderTree;
+use cut_parts::{BorderTree, is_sound};
 use cut_points::drop_key;
 use page_layout::CutNode;
 use page_ports::{PageFault, Pages, blank_page};
@@ -59,30 +59,6 @@ fn dims_above<B: BorderTree>() -> u8
 {
     B::border_laws();
     B::DIMS + 1
-}
-
-// Whether a cut may leave so many points of so many low.
-fn is_balanced(count: u32, low: u32) -> bool
-    ensures { IsTrue result ↔ IsBalancedCut count low }
-{
-    if count <= 64 || low < 1 || count <= low {
-        return false;
-    }
-    let most = 3 * u64::from(count);
-    5 * u64::from(low) <= most && 5 * u64::from(count - low) <= most
-}
-
-// Whether a cut is as one of so many points has to be.
-fn is_sound<B: BorderTree>(count: u32, dimension: u8, low: u32, border: &Tree) -> bool
-    ensures { IsTrue result ↔ IsSoundCut (suc B.DIMS) count dimension low border.now }
-{
-    if dimension >= dims_above::<B>() || !is_balanced(count, low) {
-        return false;
-    }
-    if low > 64 {
-        return border.count == low;
-    }
-    *border == Tree::default()
 }
 
 // The sum of a part of so many points that begins with this page.

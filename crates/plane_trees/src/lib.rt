@@ -5,8 +5,6 @@
 mod beside;
 #[cfg(test)]
 mod bounds;
-#[cfg(test)]
-mod failing;
 mod plane_tree;
 #[cfg(test)]
 mod samples;

@@ -40,11 +40,11 @@ impl BorderTree for PlaneTree {
 
     ghost damaged_for_sum = { λ pages tree keys version page. IsDamagedForSum ⟦<KeyTree as BorderTree>⟧ pages tree keys version page };
 
-    ghost may_change = { λ pages tree page. Leads ⟦<KeyTree as BorderTree>⟧ pages tree page };
+    ghost may_change = { λ pages tree point page. Leads ⟦<KeyTree as BorderTree>⟧ pages tree point page };
 
     ghost damaged_for_add = { λ pages tree point page. IsDamagedForAdd ⟦<KeyTree as BorderTree>⟧ pages tree point page };
 
-    ghost damaged_for_drop = { λ pages tree page. (1 ≤ tree.count) × IsDamagedForDrop ⟦<KeyTree as BorderTree>⟧ pages tree.count (BeforePage tree.root) page };
+    ghost damaged_for_drop = { λ pages freed tree page. (1 ≤ tree.count) × IsDamagedForDrop ⟦<KeyTree as BorderTree>⟧ pages freed tree.count (BeforePage tree.root) page };
 
     fn sum<P: Pages>(
         pages: &mut P,

@@ -1,9 +1,8 @@
 //! Additions of which one call of the stage fails, and additions that meet the limit of pages.
-ghost use Rattle.std.specs.Prelude.{◌≤◌};
 
-use crate::failing::FailingStage;
 use crate::samples::{add, built, point_at, row};
 use bw_types::Tree;
+use failing_stage::FailingStage;
 use page_ports::{MemStage, Stage, StageFault};
 use std::alloc::Global;
 use std::test::Fail;

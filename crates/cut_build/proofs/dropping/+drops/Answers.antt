@@ -1,4 +1,4 @@
-use Rattle.std.proofs.Common.{rules, sym, subst, ap, ◌∙◌, ◌≡◌, ◌++◌, ◌∷◌, ◌-◌, List, [], ℕ, suc, length, inl, inr, Err, arith}
+use Rattle.std.proofs.Common.{rules, sym, subst, ap, ◌∙◌, ◌≡◌, ◌++◌, ◌∷◌, ◌-◌, List, [], ℕ, suc, length, Err, arith}
 use Rattle.std.proofs.lemmas.Bool.{false≢true}
 use Rattle.page_ports.specs.Pages.{PageMap}
 use Rattle.page_ports.specs.declared.page.StageFault.{StageFault}
@@ -6,7 +6,7 @@ use Rattle.page_ports.specs.declared.page.StageFault.TheVariants.{Damaged}
 use Rattle.page_layout.specs.declared.cut_page.CutNode.{CutNode}
 use Rattle.page_layout.specs.declared.cut_page.CutNode.TheVariants.{Entry, Cut}
 use Rattle.cut_parts.specs.Damage.{BeforeCut}
-use Rattle.cut_parts.specs.Reach.{IsDamagedForDrop, IsDropped, MayRefuseDrop}
+use Rattle.cut_parts.specs.Reach.{IsDamagedForDrop, IsDropped}
 use Rattle.cut_parts.specs.Parts.{border_points, points_of}
 use Rattle.cut_parts.specs.Spelling.{nodes_of}
 use Rattle.cut_parts.specs.Standing.{part_pages}
@@ -14,7 +14,8 @@ use Rattle.cut_parts.proofs.Nodes.{IsCutOf, cut_of, entry_of}
 use Rattle.cut_build.proofs.Cuts.{cut_is_sound, first_node, in_page, sides_of}
 use Rattle.cut_build.proofs.Gone as gone
 use Rattle.cut_build.proofs.Leaving.{cut_dropped, cut_left, high_left, low_left, page_dropped}
-use Rattle.cut_build.proofs.There.{no_nodes, some_node, walks_at_cut, walks_cut, walks_entry, walks_here, walks_high, walks_in, walks_low}
+use Rattle.cut_build.proofs.Refusing.{cut_refused, cuts_refused, drops_border, drops_cut, drops_entry, drops_high, drops_in, drops_low, leaf_refused}
+use Rattle.cut_build.proofs.There.{no_nodes, some_node}
 use Rattle.cut_build.proofs.dropping.+drops.Goals as goal
 
 pub drop_cut-returns-in-Err-drop_nodes-clause-sound : goal.drop_cut-returns-in-Err-drop_nodes-clause-sound
@@ -120,8 +121,8 @@ drop_cut-returns-then-not-is_sound-clause-damaged g t c = λ damaged e tells fir
     let m : PageMap = g.S.Pages.map c.args.stage.now in
     let begun : Cut c.in-Cut.dimension c.in-Cut.key c.in-Cut.low c.in-Cut.border ∷ c.in-Some.rest.now ≡ c.args.nodes.now = search rules in
     let same : damaged ≡ c.args.page = cc in
-    walks_at_cut dims (MayRefuseDrop b damaged first) first n c.args.page c.in-Cut.dimension c.in-Cut.key c.in-Cut.low c.in-Cut.border c.args.nodes.now c.in-Some.rest.now (sym begun)
-    (inl (same, λ sound. false≢true (sym c.if-not-is_sound.true ∙ c.is_sound.ensures.1 sound)))
+    cut_refused b damaged first freed n c.args.page c.in-Cut.dimension c.in-Cut.key c.in-Cut.low c.in-Cut.border c.args.nodes.now c.in-Some.rest.now (sym begun)
+    same (λ sound. false≢true (sym c.if-not-is_sound.true ∙ c.is_sound.ensures.1 sound))
 
 pub drop_cut-returns-in-Err-clause-damaged : goal.drop_cut-returns-in-Err-clause-damaged
 drop_cut-returns-in-Err-clause-damaged g t c = λ damaged e tells first freed lost.
@@ -130,8 +131,8 @@ drop_cut-returns-in-Err-clause-damaged g t c = λ damaged e tells first freed lo
     let n : ℕ = c.args.count in
     let m : PageMap = g.S.Pages.map c.args.stage.now in
     let begun : Cut c.in-Cut.dimension c.in-Cut.key c.in-Cut.low c.in-Cut.border ∷ c.in-Some.rest.now ≡ c.args.nodes.now = search rules in
-    walks_at_cut dims (MayRefuseDrop b damaged first) first n c.args.page c.in-Cut.dimension c.in-Cut.key c.in-Cut.low c.in-Cut.border c.args.nodes.now c.in-Some.rest.now (sym begun)
-    (inr (c.drop_border.ensures.damaged damaged (c.in-Err.is ∙ e) tells first freed lost))
+    drops_border b damaged first freed n c.args.page c.in-Cut.dimension c.in-Cut.key c.in-Cut.low c.in-Cut.border c.args.nodes.now c.in-Some.rest.now (sym begun)
+    (c.is_sound.ensures.0 c.if-not-is_sound.false) (c.drop_border.ensures.damaged damaged (c.in-Err.is ∙ e) tells first freed lost)
 
 pub drop_cut-returns-in-Err-drop_nodes-clause-damaged : goal.drop_cut-returns-in-Err-drop_nodes-clause-damaged
 drop_cut-returns-in-Err-drop_nodes-clause-damaged g t c = λ damaged e tells first freed lost.
@@ -144,7 +145,7 @@ drop_cut-returns-in-Err-drop_nodes-clause-damaged g t c = λ damaged e tells fir
     let own : List ℕ = b.footprint first c.in-Cut.border in
     let border = c.in-Ok.ensures.gone tells first freed lost sound.few in
     let more = gone.lost_more freed own first m (g.S.Pages.map c.drop_border.new.stage) lost border.1 in
-    walks_low dims (MayRefuseDrop b damaged first) first n c.args.page c.in-Cut.dimension c.in-Cut.key c.in-Cut.low c.in-Cut.border c.args.nodes.now c.in-Some.rest.now (sym begun) sound
+    drops_low b damaged first freed n c.args.page c.in-Cut.dimension c.in-Cut.key c.in-Cut.low c.in-Cut.border c.args.nodes.now c.in-Some.rest.now (sym begun) sound
     (c.drop_nodes.ensures.damaged damaged (c.in-Err-drop_nodes.is ∙ e) (c.in-Ok.ensures.changes.went_on.tells ∙ tells) first (freed ++ own) more)
 
 pub drop_cut-returns-in-Err-drop_nodes-2-clause-damaged : goal.drop_cut-returns-in-Err-drop_nodes-2-clause-damaged
@@ -164,8 +165,8 @@ drop_cut-returns-in-Err-drop_nodes-2-clause-damaged g t c = λ damaged e tells f
     let lows : IsDropped b first m1 m2 c.in-Cut.low c.in-Some.rest.now = c.in-Ok-drop_nodes.ensures.gone told first (freed ++ own) more in
     let left : List ℕ = part_pages b first lows.is.part in
     let last = gone.lost_more (freed ++ own) left first m1 m2 more lows.change in
-    walks_high dims (MayRefuseDrop b damaged first) first n c.args.page c.in-Cut.dimension c.in-Cut.key c.in-Cut.low c.in-Cut.border c.args.nodes.now c.in-Some.rest.now
-    c.after_part.result.now (sym begun) sound c.after_part.ensures.after
+    drops_high b damaged first freed n c.args.page c.in-Cut.dimension c.in-Cut.key c.in-Cut.low c.in-Cut.border c.args.nodes.now c.in-Some.rest.now (sym begun)
+    c.after_part.result.now sound lows.is c.after_part.ensures.after
     (c.drop_nodes-2.ensures.damaged damaged (c.in-Err-drop_nodes-2.is ∙ e) (c.in-Ok-drop_nodes.ensures.changes.went_on.tells ∙ told) first ((freed ++ own) ++ left) last)
 
 pub drop_cut-returns-in-Ok-drop_nodes-2-clause-gone : goal.drop_cut-returns-in-Ok-drop_nodes-2-clause-gone
@@ -200,7 +201,7 @@ pub drop_nodes-returns-in-Err-clause-damaged : goal.drop_nodes-returns-in-Err-cl
 drop_nodes-returns-in-Err-clause-damaged g t c = λ damaged e tells first freed lost.
     let b = g.B.BorderTree in
     let begun = first_node c.args.nodes.now (Entry c.in-Some-Entry.child) (search rules) (search rules) in
-    walks_entry (suc b.DIMS) (MayRefuseDrop b damaged first) first c.args.count c.args.page c.in-Some-Entry.child c.args.nodes.now begun.0 begun.1
+    drops_entry b damaged first freed c.args.count c.args.page c.in-Some-Entry.child c.args.nodes.now begun.0 begun.1
     (c.drop_page.ensures.damaged damaged (c.in-Err.is ∙ e) tells first freed lost)
 
 pub drop_nodes-returns-in-Ok-clause-gone : goal.drop_nodes-returns-in-Ok-clause-gone
@@ -214,13 +215,13 @@ drop_nodes-returns-in-Err-drop_cut-clause-damaged g t c = λ damaged e tells fir
     let b = g.B.BorderTree in
     let cut = c.in-Some-Cut in
     let begun = first_node c.args.nodes.now (Cut cut.field-0-0 cut.field-0-1 cut.field-0-2 cut.field-0-3) (search rules) (search rules) in
-    walks_cut (suc b.DIMS) (MayRefuseDrop b damaged first) first c.args.count c.args.page cut.field-0-0 cut.field-0-1 cut.field-0-2 cut.field-0-3 c.args.nodes.now begun.0 begun.1
+    drops_cut b damaged first freed c.args.count c.args.page cut.field-0-0 cut.field-0-1 cut.field-0-2 cut.field-0-3 c.args.nodes.now begun.0 begun.1
     (c.drop_cut.ensures.damaged damaged (c.in-Err-drop_cut.is ∙ e) tells first freed lost)
 
 pub drop_page-returns-in-Err-clause-damaged : goal.drop_page-returns-in-Err-clause-damaged
 drop_page-returns-in-Err-clause-damaged g t c = λ damaged e tells first freed lost.
-    let b = g.B.BorderTree in
-    walks_here (suc b.DIMS) (MayRefuseDrop b damaged first) first c.args.count c.args.page (c.free_leaf.ensures.damaged damaged (c.in-Err.is ∙ e))
+    let why = c.free_leaf.ensures.damaged damaged (c.in-Err.is ∙ e) in
+    leaf_refused g.B.BorderTree damaged first freed c.args.count (g.S.Pages.map c.args.stage.now) c.args.page lost c.if-count-le64.true why.0 (why.1 tells)
 
 pub drop_page-returns-in-Ok-clause-gone : goal.drop_page-returns-in-Ok-clause-gone
 drop_page-returns-in-Ok-clause-gone g t c = λ tells first freed lost.
@@ -230,10 +231,9 @@ drop_page-returns-in-Ok-clause-gone g t c = λ tells first freed lost.
 
 pub drop_page-returns-in-Err-free_cuts-clause-damaged : goal.drop_page-returns-in-Err-free_cuts-clause-damaged
 drop_page-returns-in-Err-free_cuts-clause-damaged g t c = λ damaged e tells first freed lost.
-    let b = g.B.BorderTree in
     let is : c.in-Err-free_cuts.fault ≡ Damaged damaged = cc in
-    walks_here (suc b.DIMS) (MayRefuseDrop b damaged first) first c.args.count c.args.page
-    (c.free_cuts.ensures.damaged damaged (c.in-Err-free_cuts.is ∙ ap (λ (fault : StageFault). Err fault) is))
+    let why = c.free_cuts.ensures.damaged damaged (c.in-Err-free_cuts.is ∙ ap (λ (fault : StageFault). Err fault) is) in
+    cuts_refused g.B.BorderTree damaged first freed c.args.count (g.S.Pages.map c.args.stage.now) c.args.page lost (omega (arith, c.if-count-le64.false)) why.0 (why.1 tells)
 
 pub drop_page-returns-in-Err-drop_cut-clause-damaged : goal.drop_page-returns-in-Err-drop_cut-clause-damaged
 drop_page-returns-in-Err-drop_cut-clause-damaged g t c = λ damaged e tells first freed lost.
@@ -244,8 +244,8 @@ drop_page-returns-in-Err-drop_cut-clause-damaged g t c = λ damaged e tells firs
     let taken = c.in-Ok-free_cuts.ensures.freed tells in
     let held = gone.holds_first _ _ freed first m c.args.page nodes lost taken.0 in
     let more = gone.lost_more freed (c.args.page ∷ []) first m m1 lost (gone.one_freed m m1 c.args.page taken.1) in
-    walks_in (suc b.DIMS) (MayRefuseDrop b damaged first) first c.args.count c.args.page nodes (omega (arith, c.if-count-le64.false)) held
-    (subst (λ (ns : List CutNode). IsDamagedForDrop b first c.args.count (BeforeCut c.args.page ns) damaged) c.as_slice.ensures.value
+    drops_in b damaged first freed c.args.count c.args.page nodes (omega (arith, c.if-count-le64.false)) held
+    (subst (λ (ns : List CutNode). IsDamagedForDrop b first (freed ++ (c.args.page ∷ [])) c.args.count (BeforeCut c.args.page ns) damaged) c.as_slice.ensures.value
     (c.drop_cut.ensures.damaged damaged (c.in-Err-drop_cut.is ∙ e) (c.in-Ok-free_cuts.ensures.changes.went_on.tells ∙ tells) first (freed ++ (c.args.page ∷ [])) more))
 
 pub drop_page-returns-in-Ok-drop_cut-clause-gone : goal.drop_page-returns-in-Ok-drop_cut-clause-gone

@@ -40,3 +40,6 @@ returns-in-Ok-clause-gone g c = λ tells first freed lost.
       subst (λ (ps : List ℕ). AreInMap m ps) (sym pages) k.there,
       subst (λ (ps : List ℕ). Replaces ps [] m (g.S.Pages.map c.drop_page.new.stage)) (sym pages) k.change,
     )
+
+pub returns-in-Ok-clause-there : goal.returns-in-Ok-clause-there
+returns-in-Ok-clause-there g c = λ tells first freed lost some. c.in-Ok.ensures.gone tells first freed lost

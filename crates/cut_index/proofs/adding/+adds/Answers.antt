@@ -1,6 +1,7 @@
-use Rattle.std.proofs.Common.{◌≡◌, ◌+◌, ◌-◌, ◌<◌, ◌≤◌, ◌∷◌, [], ℕ, List, length, None, refl, sym, ap, ◌∙◌, subst, arith, IsSome, slice_index, Option, get_or, drop, Err, inl, inr, rules}
+use Rattle.std.proofs.Common.{◌≡◌, ◌+◌, ◌-◌, ◌<◌, ◌≤◌, ◌⊎◌, ◌∷◌, [], ℕ, List, length, None, refl, sym, ap, ◌∙◌, subst, arith, IsSome, slice_index, Option, get_or, drop, Err, inl, inr, rules}
 use Rattle.std.specs.Prelude.{IfSome}
 use Rattle.std.proofs.lemmas.Bool.{false≢true}
+use Rattle.bw_types.specs.Without.{without_dimension}
 use Rattle.page_ports.specs.Pages.{PageMap}
 use Rattle.page_ports.specs.declared.page.StageFault.{StageFault}
 use Rattle.page_ports.specs.declared.page.StageFault.TheVariants.{Damaged}
@@ -9,18 +10,19 @@ use Rattle.page_layout.specs.declared.cut_page.CutNode.TheVariants.{Cut, Entry}
 use Rattle.cut_parts.specs.Parts.{IsBalancedCut, points_of}
 use Rattle.cut_parts.specs.Borders.{OthersStay}
 use Rattle.cut_parts.specs.Damage.{BeforeCut, BeforePage, BeforePart}
-use Rattle.cut_parts.specs.Reach.{ChangesAt, IsDamagedAnew, IsDamagedAt, IsDamagedAtBorder, IsDamagedFrom, IsOfPartThere, LeadsFrom}
+use Rattle.cut_parts.specs.Reach.{ChangesAt, GoesHigh, GoesLow, IsDamagedAnew, IsDamagedAt, IsDamagedAtBorder, IsDamagedFrom, IsMadeAnew, IsOfPartThere, LeadsFrom}
 use Rattle.cut_parts.specs.Spelling.{first_page}
 use Rattle.cut_parts.specs.Standing.{PartBalanced, part_pages}
 use Rattle.page_layout.specs.Footprint.{NamesNoneTwice}
-use Rattle.cut_index.specs.Additions.{IsAddedAs, MayTake, nodes_after}
+use Rattle.cut_index.specs.Additions.{IsAddedAs, MayBegin, MayTake, nodes_after}
 use Rattle.cut_index.specs.Growing.{border_growth, inner_growth, page_growth}
 use Rattle.cut_index.specs.declared.change.Change.{Change}
 use Rattle.cut_parts.proofs.Staying.{stay_more, stay_then}
-use Rattle.cut_index.proofs.Coming.{behind_set, comes_at_cut, comes_cut, comes_entry, comes_here, comes_high, comes_in, comes_low, comes_no_cut, comes_no_node, comes_none, node_first, none_from, stay_at}
+use Rattle.cut_index.proofs.Coming.{behind_set, comes_at_cut, comes_cut, comes_entry, comes_here, comes_high, comes_in, comes_low, comes_no_cut, comes_no_node, comes_none, goes_anew, node_first, none_from, stay_at}
 use Rattle.cut_index.proofs.Begun.{leaf_held}
 use Rattle.cut_index.proofs.Going.{well_as, well_then, went_then}
 use Rattle.cut_index.proofs.Growing.{CutAt, cut_at, entry_taken, leaf_cut, leaf_grown, went_high, went_low}
+use Rattle.cut_index.proofs.Naming.{begins_low, begins_more, begins_taken, named_alone}
 use Rattle.cut_index.proofs.NewPoints.{with_new}
 use Rattle.cut_index.proofs.Numbers.{anew_number, high_number, inner_number, leaf_number, low_number, page_number}
 use Rattle.cut_index.proofs.OnTheWay.{after_low, begins_with, border_balanced, cut_many, cut_sound, high_side, is_inside, is_within, low_side, no_entry, takes_border}
@@ -534,10 +536,17 @@ cut_add-returns-in-Err-clause-damaged g t c = λ damaged e tells.
     let cut = c.in-Some-Cut in
     let first : here ≡ Cut cut.dimension cut.key cut.low cut.border ∷ others =
     node_first nodes c.args.place (Cut cut.dimension cut.key cut.low cut.border) cut.ensures.node.0 (λ d. sym cut.field-0-is ∙ cut.ensures.node.1 d) in
+    let goes : (GoesLow p cut.dimension cut.key × (c.if-goes_low.low_after ≡ cut.low + 1)) ⊎ (GoesHigh p cut.dimension cut.key × (c.if-goes_low.low_after ≡ cut.low)) = elim c.if-goes_low.branch [
+      | cut_add-then-goes_low w ↦ let below : slice_index p.keys cut.dimension < cut.key = rw c.from.ensures at w.if-goes_low.true in inl (below, w.low_after-is)
+      | cut_add-else-goes_low w ↦ let beyond : cut.key ≤ slice_index p.keys cut.dimension = rw c.from.ensures at w.if-goes_low.false in inr (beyond, w.low_after-is)
+    ] in
+    let anew : IsMadeAnew p n cut.dimension cut.key cut.low = goes_anew p n cut.dimension cut.key cut.low c.if-goes_low.low_after goes
+    (λ balanced. false≢true (sym c.if-not-is_balanced.true ∙ c.is_balanced.ensures.1 balanced)) in
+    let sound = c.is_sound.ensures.0 c.if-not-is_sound.false in
     let is : c.in-Err.fault ≡ Damaged damaged = cc in
     elim (c.part_anew.ensures.damaged damaged (c.in-Err.is ∙ ap (λ (fault : StageFault). Err fault) is) tells) [
       | inl found ↦ inl (comes_at_cut b (IsDamagedAt b p damaged) p m0 n page cut.dimension cut.key cut.low cut.border here others first
-          (inr (inr (subst (λ (ns : List CutNode). IsDamagedAnew b p damaged m0 n page ns) first found))))
+          (inr (sound, inr (anew, subst (λ (ns : List CutNode). IsDamagedAnew b p damaged m0 n page ns) first found))))
       | inr unordered ↦ inr unordered
     ]
 
@@ -554,8 +563,15 @@ cut_add-returns-in-Ok-clause-apart g t c = λ tells.
     let cut = c.in-Some-Cut in
     let first : here ≡ Cut cut.dimension cut.key cut.low cut.border ∷ others =
     node_first nodes c.args.place (Cut cut.dimension cut.key cut.low cut.border) cut.ensures.node.0 (λ d. sym cut.field-0-is ∙ cut.ensures.node.1 d) in
+    let goes : (GoesLow p cut.dimension cut.key × (c.if-goes_low.low_after ≡ cut.low + 1)) ⊎ (GoesHigh p cut.dimension cut.key × (c.if-goes_low.low_after ≡ cut.low)) = elim c.if-goes_low.branch [
+      | cut_add-then-goes_low w ↦ let below : slice_index p.keys cut.dimension < cut.key = rw c.from.ensures at w.if-goes_low.true in inl (below, w.low_after-is)
+      | cut_add-else-goes_low w ↦ let beyond : cut.key ≤ slice_index p.keys cut.dimension = rw c.from.ensures at w.if-goes_low.false in inr (beyond, w.low_after-is)
+    ] in
+    let anew : IsMadeAnew p n cut.dimension cut.key cut.low = goes_anew p n cut.dimension cut.key cut.low c.if-goes_low.low_after goes
+    (λ balanced. false≢true (sym c.if-not-is_balanced.true ∙ c.is_balanced.ensures.1 balanced)) in
+    let sound = c.is_sound.ensures.0 c.if-not-is_sound.false in
     stay_more (IsOfPartThere b m0 n here) (LeadsFrom b p m0 n (BeforeCut page here)) m0 (g.S.Pages.map c.part_anew.new.stage) (c.in-Ok.ensures.apart tells)
-    (λ q x. comes_at_cut b (ChangesAt b q) p m0 n page cut.dimension cut.key cut.low cut.border here others first (inr (subst (λ (ns : List CutNode). IsOfPartThere b m0 n ns q) first x)))
+    (λ q x. comes_at_cut b (ChangesAt b p q) p m0 n page cut.dimension cut.key cut.low cut.border here others first (sound, inr (anew, subst (λ (ns : List CutNode). IsOfPartThere b m0 n ns q) first x)))
 
 pub cut_add-returns-in-Err-part_add-clause-damaged : goal.cut_add-returns-in-Err-part_add-clause-damaged
 cut_add-returns-in-Err-part_add-clause-damaged g t c = λ damaged e tells.
@@ -572,11 +588,16 @@ cut_add-returns-in-Err-part_add-clause-damaged g t c = λ damaged e tells.
     node_first nodes c.args.place (Cut cut.dimension cut.key cut.low cut.border) cut.ensures.node.0 (λ d. sym cut.field-0-is ∙ cut.ensures.node.1 d) in
     let sound = c.is_sound.ensures.0 c.if-not-is_sound.false in
     let beyond : cut.key ≤ slice_index p.keys cut.dimension = rw c.from.ensures at c.if-not-goes_low.true in
+    let low_is : c.if-goes_low.low_after ≡ cut.low = elim c.if-goes_low.branch [
+      | cut_add-then-goes_low w ↦ absurd (let below = w.if-goes_low.true in let above = c.if-not-goes_low.true in omega (arith, below, above))
+      | cut_add-else-goes_low w ↦ w.low_after-is
+    ] in
+    let stays : IsBalancedCut (n + 1) cut.low = subst (λ (k : ℕ). IsBalancedCut (n + 1) k) low_is (c.is_balanced.ensures.0 c.if-not-is_balanced.false) in
     let highs : List CutNode = drop c.high_place-high.result nodes in
     let after = c.high_place-high.ensures.rest in
     let is : c.in-Err-part_add.fault ≡ Damaged damaged = cc in
     elim (c.part_add.ensures.damaged damaged (c.in-Err-part_add.is ∙ ap (λ (fault : StageFault). Err fault) is) tells) [
-      | inl found ↦ inl (comes_high b (IsDamagedAt b p damaged) p m0 n page cut.dimension cut.key cut.low cut.border here others first highs sound beyond after found)
+      | inl found ↦ inl (comes_high b (IsDamagedAt b p damaged) p m0 n page cut.dimension cut.key cut.low cut.border here others first highs sound beyond stays after found)
       | inr unordered ↦ inr unordered
     ]
 
@@ -595,10 +616,15 @@ cut_add-returns-in-Ok-part_add-clause-apart g t c = λ tells.
     node_first nodes c.args.place (Cut cut.dimension cut.key cut.low cut.border) cut.ensures.node.0 (λ d. sym cut.field-0-is ∙ cut.ensures.node.1 d) in
     let sound = c.is_sound.ensures.0 c.if-not-is_sound.false in
     let beyond : cut.key ≤ slice_index p.keys cut.dimension = rw c.from.ensures at c.if-not-goes_low.true in
+    let low_is : c.if-goes_low.low_after ≡ cut.low = elim c.if-goes_low.branch [
+      | cut_add-then-goes_low w ↦ absurd (let below = w.if-goes_low.true in let above = c.if-not-goes_low.true in omega (arith, below, above))
+      | cut_add-else-goes_low w ↦ w.low_after-is
+    ] in
+    let stays : IsBalancedCut (n + 1) cut.low = subst (λ (k : ℕ). IsBalancedCut (n + 1) k) low_is (c.is_balanced.ensures.0 c.if-not-is_balanced.false) in
     let highs : List CutNode = drop c.high_place-high.result nodes in
     let after = c.high_place-high.ensures.rest in
     stay_more (LeadsFrom b p m0 (n - cut.low) (BeforePart page highs)) (LeadsFrom b p m0 n (BeforeCut page here)) m0 (g.S.Pages.map c.part_add.new.stage) (c.in-Ok-part_add.ensures.apart tells)
-    (λ q x. comes_high b (ChangesAt b q) p m0 n page cut.dimension cut.key cut.low cut.border here others first highs sound beyond after x)
+    (λ q x. comes_high b (ChangesAt b p q) p m0 n page cut.dimension cut.key cut.low cut.border here others first highs sound beyond stays after x)
 
 pub cut_add-returns-in-Err-border_add-clause-damaged : goal.cut_add-returns-in-Err-border_add-clause-damaged
 cut_add-returns-in-Err-border_add-clause-damaged g t c = λ damaged e tells.
@@ -613,10 +639,17 @@ cut_add-returns-in-Err-border_add-clause-damaged g t c = λ damaged e tells.
     let cut = c.in-Some-Cut in
     let first : here ≡ Cut cut.dimension cut.key cut.low cut.border ∷ others =
     node_first nodes c.args.place (Cut cut.dimension cut.key cut.low cut.border) cut.ensures.node.0 (λ d. sym cut.field-0-is ∙ cut.ensures.node.1 d) in
+    let sound = c.is_sound.ensures.0 c.if-not-is_sound.false in
+    let below : slice_index p.keys cut.dimension < cut.key = rw c.from.ensures at c.if-not-goes_low.false in
+    let low_is : c.if-goes_low.low_after ≡ cut.low + 1 = elim c.if-goes_low.branch [
+      | cut_add-then-goes_low w ↦ w.low_after-is
+      | cut_add-else-goes_low w ↦ absurd (let above = w.if-goes_low.false in let under = c.if-not-goes_low.false in omega (arith, above, under))
+    ] in
+    let stays : IsBalancedCut (n + 1) (cut.low + 1) = subst (λ (k : ℕ). IsBalancedCut (n + 1) k) low_is (c.is_balanced.ensures.0 c.if-not-is_balanced.false) in
     let is : c.in-Err-border_add.fault ≡ Damaged damaged = cc in
     elim (c.border_add.ensures.damaged damaged (c.in-Err-border_add.is ∙ ap (λ (fault : StageFault). Err fault) is) tells) [
       | inl found ↦ inl (comes_at_cut b (IsDamagedAt b p damaged) p m0 n page cut.dimension cut.key cut.low cut.border here others first
-          (inr (inl (subst (λ (o : Option ℕ). IsDamagedAtBorder b p damaged m0 page o cut.dimension cut.low cut.border) c.entry_at-leaf.ensures.entry found))))
+          (inr (sound, inl ((below, stays), subst (λ (o : Option ℕ). IsDamagedAtBorder b p damaged m0 page o cut.dimension cut.low cut.border) c.entry_at-leaf.ensures.entry found))))
       | inr unordered ↦ inr unordered
     ]
 
@@ -635,6 +668,11 @@ cut_add-returns-in-Err-part_add-2-clause-damaged g t c = λ damaged e tells.
     node_first nodes c.args.place (Cut cut.dimension cut.key cut.low cut.border) cut.ensures.node.0 (λ d. sym cut.field-0-is ∙ cut.ensures.node.1 d) in
     let sound = c.is_sound.ensures.0 c.if-not-is_sound.false in
     let below : slice_index p.keys cut.dimension < cut.key = rw c.from.ensures at c.if-not-goes_low.false in
+    let low_is : c.if-goes_low.low_after ≡ cut.low + 1 = elim c.if-goes_low.branch [
+      | cut_add-then-goes_low w ↦ w.low_after-is
+      | cut_add-else-goes_low w ↦ absurd (let above = w.if-goes_low.false in let under = c.if-not-goes_low.false in omega (arith, above, under))
+    ] in
+    let stays : IsBalancedCut (n + 1) (cut.low + 1) = subst (λ (k : ℕ). IsBalancedCut (n + 1) k) low_is (c.is_balanced.ensures.0 c.if-not-is_balanced.false) in
     let m1 : PageMap = g.S.Pages.map c.border_add.new.stage in
     let went = c.in-Ok-border_add.ensures.changes.went_on in
     let leaves = c.in-Ok-border_add.ensures.apart tells in
@@ -644,7 +682,7 @@ cut_add-returns-in-Err-part_add-2-clause-damaged g t c = λ damaged e tells.
     ∙ behind_set nodes c.args.place (Cut cut.dimension cut.key (cut.low + 1) c.in-Ok-border_add.border) in
     let is : c.in-Err-part_add-2.fault ≡ Damaged damaged = cc in
     elim (c.part_add-in-Ok-border_add.ensures.damaged damaged (c.in-Err-part_add-2.is ∙ ap (λ (fault : StageFault). Err fault) is) (went.tells ∙ tells)) [
-      | inl found ↦ inl (comes_low b (IsDamagedAt b p damaged) p m0 n page cut.dimension cut.key cut.low cut.border here others first m1 lows sound below leaves same found)
+      | inl found ↦ inl (comes_low b (IsDamagedAt b p damaged) p m0 n page cut.dimension cut.key cut.low cut.border here others first m1 lows sound (below, stays) leaves same found)
       | inr unordered ↦ inr (λ order. unordered (went.free_in_order tells order))
     ]
 
@@ -663,6 +701,11 @@ cut_add-returns-in-Ok-part_add-2-clause-apart g t c = λ tells.
     node_first nodes c.args.place (Cut cut.dimension cut.key cut.low cut.border) cut.ensures.node.0 (λ d. sym cut.field-0-is ∙ cut.ensures.node.1 d) in
     let sound = c.is_sound.ensures.0 c.if-not-is_sound.false in
     let below : slice_index p.keys cut.dimension < cut.key = rw c.from.ensures at c.if-not-goes_low.false in
+    let low_is : c.if-goes_low.low_after ≡ cut.low + 1 = elim c.if-goes_low.branch [
+      | cut_add-then-goes_low w ↦ w.low_after-is
+      | cut_add-else-goes_low w ↦ absurd (let above = w.if-goes_low.false in let under = c.if-not-goes_low.false in omega (arith, above, under))
+    ] in
+    let stays : IsBalancedCut (n + 1) (cut.low + 1) = subst (λ (k : ℕ). IsBalancedCut (n + 1) k) low_is (c.is_balanced.ensures.0 c.if-not-is_balanced.false) in
     let m1 : PageMap = g.S.Pages.map c.border_add.new.stage in
     let went = c.in-Ok-border_add.ensures.changes.went_on in
     let leaves = c.in-Ok-border_add.ensures.apart tells in
@@ -670,10 +713,10 @@ cut_add-returns-in-Ok-part_add-2-clause-apart g t c = λ tells.
     let lows : List CutNode = drop (c.args.place + 1) changed in
     let same : lows ≡ others = ap (λ (ns : List CutNode). drop (c.args.place + 1) ns) c.set_cut.ensures.set
     ∙ behind_set nodes c.args.place (Cut cut.dimension cut.key (cut.low + 1) c.in-Ok-border_add.border) in
-    stay_then (λ q. (64 < cut.low) × b.may_change m0 cut.border q) (LeadsFrom b p m1 cut.low (BeforePart page lows)) (LeadsFrom b p m0 n (BeforeCut page here)) m0 m1
+    stay_then (λ q. (64 < cut.low) × b.may_change m0 cut.border (without_dimension cut.dimension p) q) (LeadsFrom b p m1 cut.low (BeforePart page lows)) (LeadsFrom b p m0 n (BeforeCut page here)) m0 m1
     (g.S.Pages.map c.part_add-in-Ok-border_add.new.stage) leaves (c.in-Ok-part_add-2.ensures.apart (went.tells ∙ tells))
-    (λ q x. comes_at_cut b (ChangesAt b q) p m0 n page cut.dimension cut.key cut.low cut.border here others first (inl x))
-    (λ q x. comes_low b (ChangesAt b q) p m0 n page cut.dimension cut.key cut.low cut.border here others first m1 lows sound below leaves same x)
+    (λ q x. comes_at_cut b (ChangesAt b p q) p m0 n page cut.dimension cut.key cut.low cut.border here others first (sound, inl ((below, stays), x)))
+    (λ q x. comes_low b (ChangesAt b p q) p m0 n page cut.dimension cut.key cut.low cut.border here others first m1 lows sound (below, stays) leaves same x)
 
 pub part_add-returns-in-None-clause-damaged : goal.part_add-returns-in-None-clause-damaged
 part_add-returns-in-None-clause-damaged g t c = λ damaged e tells.
@@ -721,7 +764,7 @@ part_add-returns-in-Ok-clause-apart g t c = λ tells.
     let first : here ≡ Cut cut.field-0-0 cut.field-0-1 cut.field-0-2 cut.field-0-3 ∷ others =
     node_first nodes c.args.place (Cut cut.field-0-0 cut.field-0-1 cut.field-0-2 cut.field-0-3) cut.ensures.node.0 (λ d. sym cut.field-0-is ∙ cut.ensures.node.1 d) in
     stay_more (LeadsFrom b p m0 n (BeforeCut page here)) (LeadsFrom b p m0 n (BeforePart page here)) m0 (g.S.Pages.map c.cut_add.new.stage) (c.in-Ok.ensures.apart tells)
-    (λ q x. comes_cut b (ChangesAt b q) p m0 n page cut.field-0-0 cut.field-0-1 cut.field-0-2 cut.field-0-3 here others first x)
+    (λ q x. comes_cut b (ChangesAt b p q) p m0 n page cut.field-0-0 cut.field-0-1 cut.field-0-2 cut.field-0-3 here others first x)
 
 pub part_add-returns-in-Err-page_add-clause-damaged : goal.part_add-returns-in-Err-page_add-clause-damaged
 part_add-returns-in-Err-page_add-clause-damaged g t c = λ damaged e tells.
@@ -754,7 +797,7 @@ part_add-returns-in-Ok-page_add-clause-apart g t c = λ tells.
     let entry = c.in-Some-Entry in
     let first : here ≡ Entry entry.child ∷ others = node_first nodes c.args.place (Entry entry.child) entry.ensures.node.0 (λ d. sym entry.field-0-is ∙ entry.ensures.node.1 d) in
     stay_more (LeadsFrom b p m0 n (BeforePage entry.child)) (LeadsFrom b p m0 n (BeforePart page here)) m0 (g.S.Pages.map c.page_add.new.stage) (c.in-Ok-page_add.ensures.apart tells)
-    (λ q x. comes_entry b (ChangesAt b q) p m0 n page entry.child here others first x)
+    (λ q x. comes_entry b (ChangesAt b p q) p m0 n page entry.child here others first x)
 
 pub page_add-returns-in-Err-clause-damaged : goal.page_add-returns-in-Err-clause-damaged
 page_add-returns-in-Err-clause-damaged g t c = λ damaged e tells.
@@ -776,7 +819,7 @@ page_add-returns-in-Ok-clause-apart g t c = λ tells.
     let n : ℕ = c.args.count in
     let p = c.args.point.now in
     stay_more (λ q. q ≡ page) (LeadsFrom b p m0 n (BeforePage page)) m0 (g.S.Pages.map c.leaf_add.new.stage)
-    (stay_at page (page ∷ []) m0 (g.S.Pages.map c.leaf_add.new.stage) (c.in-Ok.ensures.change tells)) (λ q x. comes_here b (ChangesAt b q) p m0 n page x)
+    (stay_at page (page ∷ []) m0 (g.S.Pages.map c.leaf_add.new.stage) (c.in-Ok.ensures.change tells)) (λ q x. comes_here b (ChangesAt b p q) p m0 n page x)
 
 pub page_add-returns-in-Err-leaf_split-clause-damaged : goal.page_add-returns-in-Err-leaf_split-clause-damaged
 page_add-returns-in-Err-leaf_split-clause-damaged g t c = λ damaged e tells.
@@ -804,7 +847,7 @@ page_add-returns-in-Ok-leaf_split-clause-apart g t c = λ tells.
     let p = c.args.point.now in
     let m1 : PageMap = g.S.Pages.map c.leaf_split.new.stage in
     stay_more (λ q. q ≡ page) (LeadsFrom b p m0 n (BeforePage page)) m0 m1 (stay_at page (page ∷ c.in-Ok-leaf_split.cut.high ∷ []) m0 m1 (c.in-Ok-leaf_split.ensures.change tells))
-    (λ q x. comes_here b (ChangesAt b q) p m0 n page x)
+    (λ q x. comes_here b (ChangesAt b p q) p m0 n page x)
 
 pub page_add-returns-in-Err-stage_cuts-clause-damaged : goal.page_add-returns-in-Err-stage_cuts-clause-damaged
 page_add-returns-in-Err-stage_cuts-clause-damaged g t c = λ damaged e tells.
@@ -891,7 +934,7 @@ page_add-returns-in-Ok-store-clause-apart g t c = λ tells.
     let then = c.in-Ok-cut_add.ensures.changes.went_on in
     stay_then (LeadsFrom b p m0 n (BeforeCut page nodes)) (λ q. q ≡ page) (LeadsFrom b p m0 n (BeforePage page)) m0 m2 (g.S.Pages.map c.store.new.stage) left
     (c.in-Ok-store.ensures.apart (then.tells ∙ told))
-    (λ q x. comes_in b (ChangesAt b q) p m0 n page nodes many held x) (λ q x. comes_here b (ChangesAt b q) p m0 n page x)
+    (λ q x. comes_in b (ChangesAt b p q) p m0 n page nodes many held x) (λ q x. comes_here b (ChangesAt b p q) p m0 n page x)
 
 pub cut_add-returns-in_default-clause-damaged : goal.cut_add-returns-in_default-clause-damaged
 cut_add-returns-in_default-clause-damaged g t c = λ damaged e tells.
@@ -916,3 +959,143 @@ cut_add-returns-in_default-2-clause-damaged g t c = λ damaged e tells.
     let nodes : List CutNode = c.args.cuts.now.nodes.items in
     let same : damaged ≡ c.args.page = cc in
     inl (comes_no_node b (IsDamagedAt b p damaged) p m0 c.args.count c.args.page (drop c.args.place nodes) (none_from nodes c.args.place (c.node_at.ensures.none c.in_default.is)) same)
+
+pub cut_add-returns-in-Ok-clause-begins : goal.cut_add-returns-in-Ok-clause-begins
+cut_add-returns-in-Ok-clause-begins g t c = λ tells.
+    let b = g.B.BorderTree in
+    let m0 : PageMap = g.S.Pages.map c.args.stage.now in
+    let page : ℕ = c.args.page in
+    let n : ℕ = c.args.count in
+    let p = c.args.point.now in
+    let nodes : List CutNode = c.args.cuts.now.nodes.items in
+    let here : List CutNode = drop c.args.place nodes in
+    let others : List CutNode = drop (c.args.place + 1) nodes in
+    let cut = c.in-Some-Cut in
+    let first : here ≡ Cut cut.dimension cut.key cut.low cut.border ∷ others =
+    node_first nodes c.args.place (Cut cut.dimension cut.key cut.low cut.border) cut.ensures.node.0 (λ d. sym cut.field-0-is ∙ cut.ensures.node.1 d) in
+    let goes : (GoesLow p cut.dimension cut.key × (c.if-goes_low.low_after ≡ cut.low + 1)) ⊎ (GoesHigh p cut.dimension cut.key × (c.if-goes_low.low_after ≡ cut.low)) = elim c.if-goes_low.branch [
+      | cut_add-then-goes_low w ↦ let below : slice_index p.keys cut.dimension < cut.key = rw c.from.ensures at w.if-goes_low.true in inl (below, w.low_after-is)
+      | cut_add-else-goes_low w ↦ let beyond : cut.key ≤ slice_index p.keys cut.dimension = rw c.from.ensures at w.if-goes_low.false in inr (beyond, w.low_after-is)
+    ] in
+    let anew : IsMadeAnew p n cut.dimension cut.key cut.low = goes_anew p n cut.dimension cut.key cut.low c.if-goes_low.low_after goes
+    (λ balanced. false≢true (sym c.if-not-is_balanced.true ∙ c.is_balanced.ensures.1 balanced)) in
+    let sound = c.is_sound.ensures.0 c.if-not-is_sound.false in
+    let cuts : List CutNode = c.part_anew.new.cuts.nodes.items in
+    begins_more (IsOfPartThere b m0 n here) (LeadsFrom b p m0 n (BeforeCut page here)) m0 nodes cuts (c.in-Ok.ensures.begins tells)
+    (λ q x. comes_at_cut b (ChangesAt b p q) p m0 n page cut.dimension cut.key cut.low cut.border here others first (sound, inr (anew, subst (λ (ns : List CutNode). IsOfPartThere b m0 n ns q) first x)))
+
+pub cut_add-returns-in-Ok-part_add-clause-begins : goal.cut_add-returns-in-Ok-part_add-clause-begins
+cut_add-returns-in-Ok-part_add-clause-begins g t c = λ tells.
+    let b = g.B.BorderTree in
+    let m0 : PageMap = g.S.Pages.map c.args.stage.now in
+    let page : ℕ = c.args.page in
+    let n : ℕ = c.args.count in
+    let p = c.args.point.now in
+    let nodes : List CutNode = c.args.cuts.now.nodes.items in
+    let here : List CutNode = drop c.args.place nodes in
+    let others : List CutNode = drop (c.args.place + 1) nodes in
+    let cut = c.in-Some-Cut in
+    let first : here ≡ Cut cut.dimension cut.key cut.low cut.border ∷ others =
+    node_first nodes c.args.place (Cut cut.dimension cut.key cut.low cut.border) cut.ensures.node.0 (λ d. sym cut.field-0-is ∙ cut.ensures.node.1 d) in
+    let sound = c.is_sound.ensures.0 c.if-not-is_sound.false in
+    let beyond : cut.key ≤ slice_index p.keys cut.dimension = rw c.from.ensures at c.if-not-goes_low.true in
+    let low_is : c.if-goes_low.low_after ≡ cut.low = elim c.if-goes_low.branch [
+      | cut_add-then-goes_low w ↦ absurd (let below = w.if-goes_low.true in let above = c.if-not-goes_low.true in omega (arith, below, above))
+      | cut_add-else-goes_low w ↦ w.low_after-is
+    ] in
+    let stays : IsBalancedCut (n + 1) cut.low = subst (λ (k : ℕ). IsBalancedCut (n + 1) k) low_is (c.is_balanced.ensures.0 c.if-not-is_balanced.false) in
+    let highs : List CutNode = drop c.high_place-high.result nodes in
+    let after = c.high_place-high.ensures.rest in
+    begins_more (LeadsFrom b p m0 (n - cut.low) (BeforePart page highs)) (LeadsFrom b p m0 n (BeforeCut page here)) m0 nodes c.part_add.new.cuts.nodes.items (c.in-Ok-part_add.ensures.begins tells)
+    (λ q x. comes_high b (ChangesAt b p q) p m0 n page cut.dimension cut.key cut.low cut.border here others first highs sound beyond stays after x)
+
+pub cut_add-returns-in-Ok-part_add-2-clause-begins : goal.cut_add-returns-in-Ok-part_add-2-clause-begins
+cut_add-returns-in-Ok-part_add-2-clause-begins g t c = λ tells.
+    let b = g.B.BorderTree in
+    let m0 : PageMap = g.S.Pages.map c.args.stage.now in
+    let page : ℕ = c.args.page in
+    let n : ℕ = c.args.count in
+    let p = c.args.point.now in
+    let nodes : List CutNode = c.args.cuts.now.nodes.items in
+    let here : List CutNode = drop c.args.place nodes in
+    let others : List CutNode = drop (c.args.place + 1) nodes in
+    let cut = c.in-Some-Cut in
+    let first : here ≡ Cut cut.dimension cut.key cut.low cut.border ∷ others =
+    node_first nodes c.args.place (Cut cut.dimension cut.key cut.low cut.border) cut.ensures.node.0 (λ d. sym cut.field-0-is ∙ cut.ensures.node.1 d) in
+    let sound = c.is_sound.ensures.0 c.if-not-is_sound.false in
+    let below : slice_index p.keys cut.dimension < cut.key = rw c.from.ensures at c.if-not-goes_low.false in
+    let low_is : c.if-goes_low.low_after ≡ cut.low + 1 = elim c.if-goes_low.branch [
+      | cut_add-then-goes_low w ↦ w.low_after-is
+      | cut_add-else-goes_low w ↦ absurd (let above = w.if-goes_low.false in let under = c.if-not-goes_low.false in omega (arith, above, under))
+    ] in
+    let stays : IsBalancedCut (n + 1) (cut.low + 1) = subst (λ (k : ℕ). IsBalancedCut (n + 1) k) low_is (c.is_balanced.ensures.0 c.if-not-is_balanced.false) in
+    let m1 : PageMap = g.S.Pages.map c.border_add.new.stage in
+    let went = c.in-Ok-border_add.ensures.changes.went_on in
+    let leaves = c.in-Ok-border_add.ensures.apart tells in
+    let changed : List CutNode = c.set_cut.new.page.nodes.items in
+    let lows : List CutNode = drop (c.args.place + 1) changed in
+    let same : lows ≡ others = ap (λ (ns : List CutNode). drop (c.args.place + 1) ns) c.set_cut.ensures.set
+    ∙ behind_set nodes c.args.place (Cut cut.dimension cut.key (cut.low + 1) c.in-Ok-border_add.border) in
+    begins_low (λ q. (64 < cut.low) × b.may_change m0 cut.border (without_dimension cut.dimension p) q) (LeadsFrom b p m1 cut.low (BeforePart page lows)) (LeadsFrom b p m0 n (BeforeCut page here)) m0 m1
+    nodes changed c.part_add-in-Ok-border_add.new.cuts.nodes.items c.args.place (Cut cut.dimension cut.key (cut.low + 1) c.in-Ok-border_add.border) refl c.set_cut.ensures.set leaves
+    (c.in-Ok-part_add-2.ensures.begins (went.tells ∙ tells))
+    (λ q x. comes_at_cut b (ChangesAt b p q) p m0 n page cut.dimension cut.key cut.low cut.border here others first (sound, inl ((below, stays), x)))
+    (λ q x. comes_low b (ChangesAt b p q) p m0 n page cut.dimension cut.key cut.low cut.border here others first m1 lows sound (below, stays) leaves same x)
+
+pub part_add-returns-in-Ok-clause-begins : goal.part_add-returns-in-Ok-clause-begins
+part_add-returns-in-Ok-clause-begins g t c = λ tells.
+    let b = g.B.BorderTree in
+    let m0 : PageMap = g.S.Pages.map c.args.stage.now in
+    let page : ℕ = c.args.page in
+    let n : ℕ = c.args.count in
+    let p = c.args.point.now in
+    let nodes : List CutNode = c.args.cuts.now.nodes.items in
+    let here : List CutNode = drop c.args.place nodes in
+    let others : List CutNode = drop (c.args.place + 1) nodes in
+    let cut = c.in-Some-Cut in
+    let first : here ≡ Cut cut.field-0-0 cut.field-0-1 cut.field-0-2 cut.field-0-3 ∷ others =
+    node_first nodes c.args.place (Cut cut.field-0-0 cut.field-0-1 cut.field-0-2 cut.field-0-3) cut.ensures.node.0 (λ d. sym cut.field-0-is ∙ cut.ensures.node.1 d) in
+    begins_more (LeadsFrom b p m0 n (BeforeCut page here)) (LeadsFrom b p m0 n (BeforePart page here)) m0 nodes c.cut_add.new.cuts.nodes.items (c.in-Ok.ensures.begins tells)
+    (λ q x. comes_cut b (ChangesAt b p q) p m0 n page cut.field-0-0 cut.field-0-1 cut.field-0-2 cut.field-0-3 here others first x)
+
+pub part_add-returns-in-Ok-page_add-clause-begins : goal.part_add-returns-in-Ok-page_add-clause-begins
+part_add-returns-in-Ok-page_add-clause-begins g t c = λ tells.
+    let b = g.B.BorderTree in
+    let m0 : PageMap = g.S.Pages.map c.args.stage.now in
+    let page : ℕ = c.args.page in
+    let n : ℕ = c.args.count in
+    let p = c.args.point.now in
+    let nodes : List CutNode = c.args.cuts.now.nodes.items in
+    let here : List CutNode = drop c.args.place nodes in
+    let others : List CutNode = drop (c.args.place + 1) nodes in
+    let entry = c.in-Some-Entry in
+    let first : here ≡ Entry entry.child ∷ others = node_first nodes c.args.place (Entry entry.child) entry.ensures.node.0 (λ d. sym entry.field-0-is ∙ entry.ensures.node.1 d) in
+    let changed : List CutNode = c.take_change.new.cuts.nodes.items in
+    begins_more (LeadsFrom b p m0 n (BeforePage entry.child)) (LeadsFrom b p m0 n (BeforePart page here)) m0 nodes changed
+    (begins_taken (LeadsFrom b p m0 n (BeforePage entry.child)) m0 nodes changed c.args.place entry.child c.in-Ok-page_add.change entry.ensures.node.0 (λ d. sym entry.field-0-is ∙ entry.ensures.node.1 d)
+    c.in-Ok-page_add.ensures.fits (c.in-Ok-page_add.ensures.named tells) c.take_change.ensures.taken)
+    (λ q x. comes_entry b (ChangesAt b p q) p m0 n page entry.child here others first x)
+
+pub page_add-returns-in-Ok-store-clause-named : goal.page_add-returns-in-Ok-store-clause-named
+page_add-returns-in-Ok-store-clause-named g t c = λ tells first alone.
+    let b = g.B.BorderTree in
+    let m0 : PageMap = g.S.Pages.map c.args.stage.now in
+    let page : ℕ = c.args.page in
+    let n : ℕ = c.args.count in
+    let p = c.args.point.now in
+    let not_few = c.if-count-lt64.false in
+    let not_full = c.if-count-eq64.false in
+    let many : 64 < n = omega (arith, not_few, not_full) in
+    let m1 : PageMap = g.S.Pages.map c.stage_cuts.new.stage in
+    let same : m1 ≡ m0 = c.in-Ok-stage_cuts.ensures.map in
+    let went = c.in-Ok-stage_cuts.ensures.grows.went_on in
+    let told = went.tells ∙ tells in
+    let nodes : List CutNode = c.in-Ok-stage_cuts.cuts.nodes.items in
+    let held = c.in-Ok-stage_cuts.ensures.found tells in
+    let m2 : PageMap = g.S.Pages.map c.cut_add.new.stage in
+    let left : OthersStay (LeadsFrom b p m0 n (BeforeCut page nodes)) m0 m2 =
+    subst (λ (a : PageMap). OthersStay (LeadsFrom b p a n (BeforeCut page nodes)) a m2) same (c.in-Ok-cut_add.ensures.apart told) in
+    let begins : MayBegin (LeadsFrom b p m0 n (BeforeCut page nodes)) m0 nodes c.cut_add.new.cuts.nodes.items =
+    subst (λ (a : PageMap). MayBegin (LeadsFrom b p a n (BeforeCut page nodes)) a nodes c.cut_add.new.cuts.nodes.items) same (c.in-Ok-cut_add.ensures.begins told) in
+    named_alone (LeadsFrom b p m0 n (BeforeCut page nodes)) (LeadsFrom b p m0 n (BeforePage page)) m0 nodes c.cut_add.new.cuts.nodes.items page first c.in-Ok-stage_cuts.ensures.nodes
+    c.in-Ok-stage_cuts.ensures.many.0 begins (c.in-Ok-store.ensures.alone first alone) (λ q x. comes_in b (ChangesAt b p q) p m0 n page nodes many held x)

@@ -7,7 +7,7 @@ use Rattle.page_ports.specs.Pages.{PageMap}
 use Rattle.page_ports.specs.declared.page.StageFault.{StageFault}
 use Rattle.page_ports.specs.declared.page.StageFault.TheVariants.{Damaged}
 use Rattle.page_layout.specs.declared.cut_page.CutNode.{CutNode}
-use Rattle.cut_parts.specs.Borders.{MayBeBuilt}
+use Rattle.cut_parts.specs.Borders.{MayBeBuilt, OthersStay}
 use Rattle.cut_parts.specs.Parts.{points_of}
 use Rattle.cut_parts.specs.Reach.{IsDropped, IsOfPartThere}
 use Rattle.cut_parts.specs.Spelling.{nodes_of}
@@ -16,6 +16,7 @@ use Rattle.cut_parts.proofs.Staying.{stay_by, stay_more, stay_then}
 use Rattle.cut_index.proofs.Coming.{stay_all}
 use Rattle.cut_index.proofs.MadeAnew.{again_may, made_anew, share_of}
 use Rattle.cut_index.proofs.Going.{well_then}
+use Rattle.cut_index.proofs.Naming.{begins_anew, begins_named, given_out}
 use Rattle.cut_index.proofs.Places.{drop_all_front}
 use Rattle.cut_index.proofs.anew.part_anew.Goals as goal
 
@@ -89,3 +90,21 @@ returns-clause-apart g c = λ tells.
     stay_then (IsOfPartThere b m0 n nodes) (λ p. ⊥) (IsOfPartThere b m0 n nodes) m0 m1 m2
     (stay_more (λ p. names_page (part_pages b m0 k.is.part) p ≡ true) (IsOfPartThere b m0 n nodes) m0 m1 (stay_by (part_pages b m0 k.is.part) [] m0 m1 k.change) (λ p named. (k.is, named)))
     (stay_all (part_pages b m2 built.part) m1 m2 built.is.change) (λ p x. x) (λ p x. absurd x)
+
+pub returns-clause-begins : goal.returns-clause-begins
+returns-clause-begins g c = λ tells.
+    let b = g.B.BorderTree in
+    let m0 : PageMap = g.S.Pages.map c.args.stage.now in
+    let m1 : PageMap = g.S.Pages.map c.take_part.new.stage in
+    let m2 : PageMap = g.S.Pages.map c.build_again.new.stage in
+    let n : ℕ = c.args.count in
+    let nodes : List CutNode = c.args.cuts.now.nodes.items in
+    let may : ℕ → Type 0 = IsOfPartThere b m0 n (drop c.args.place nodes) in
+    let k : IsDropped b m0 m0 m1 n (drop c.args.place nodes) = c.in-Ok.ensures.gone tells in
+    let left : OthersStay may m0 m1 =
+    stay_more (λ p. names_page (part_pages b m0 k.is.part) p ≡ true) may m0 m1 (stay_by (part_pages b m0 k.is.part) [] m0 m1 k.change) (λ p named. (k.is, named)) in
+    let child : ℕ = c.in-Ok-build_again.child in
+    let points : List Point = c.as_mut_slice.result.now in
+    let built = c.in-Ok-build_again.ensures.built (c.in-Ok.ensures.changes.went_on.tells ∙ tells) points (IsPermutation-refl points) in
+    begins_anew may m0 nodes c.replace_part.new.page.nodes.items c.args.place child c.requires.place
+    (given_out may m0 m1 m2 (part_pages b m2 built.part) child left built.is.change (begins_named b m2 built.part child built.begins)) c.replace_part.ensures.set

@@ -22,8 +22,8 @@ returns-in-Err-drop_nodes-clause-damaged g c = λ damaged e tells.
     take_rest slice c.args.place ∙ ap (λ (ns : List CutNode). drop c.args.place ns) c.as_slice.ensures.value in
     let read = c.in-Ok.ensures.reads.read in
     let m1 : PageMap = g.S.Pages.map c.collect_nodes.new.pages in
-    inr (subst (λ (ns : List CutNode). IsDamagedForDrop b m c.args.count (BeforePart c.args.page ns) damaged) from
-    (subst (λ (a : PageMap). IsDamagedForDrop b a c.args.count (BeforePart c.args.page (take (length slice - c.args.place) (drop c.args.place slice))) damaged) read.map
+    inr (subst (λ (ns : List CutNode). IsDamagedForDrop b m [] c.args.count (BeforePart c.args.page ns) damaged) from
+    (subst (λ (a : PageMap). IsDamagedForDrop b a [] c.args.count (BeforePart c.args.page (take (length slice - c.args.place) (drop c.args.place slice))) damaged) read.map
     (c.drop_nodes.ensures.damaged damaged (c.in-Err-drop_nodes.is ∙ e) (read.tells ∙ tells) m1 [] (Replaces-same [] m1))))
 
 pub returns-in-Err-drop_nodes-clause-well : goal.returns-in-Err-drop_nodes-clause-well

@@ -5,13 +5,14 @@ use Rattle.std.proofs.lemmas.Bool.{eq-eqb, le-ltb, ne_eqb}
 use Rattle.bw_types.specs.Without.{keys_without, without_dimension}
 use Rattle.bw_types.specs.declared.point.Point.{Point}
 use Rattle.dom_index.specs.Points.{AreKeysBelow, IsNewPoint}
-use Rattle.cut_parts.specs.Borders.{TakesPoint}
+use Rattle.cut_parts.specs.Borders.{OthersStay, TakesPoint}
 use Rattle.cut_parts.specs.Parts.{border_points, points_of}
 use Rattle.cut_parts.specs.Standing.{PartStands}
 use Rattle.cut_parts.specs.declared.border_tree.BorderTree.{Ghosts}
 use Rattle.cut_parts.proofs.BorderPoints.{still_below}
 use Rattle.cut_parts.proofs.Depths.{parts_are_counted}
 use Rattle.cut_parts.proofs.Halves.{length_mapped}
+use Rattle.cut_parts.proofs.Staying.{stay_more}
 use Rattle.page_ports.specs.Calls.{Changes, WentOn}
 use Rattle.page_ports.specs.declared.page.StageFault.{StageFault}
 use Rattle.page_ports.specs.declared.pages.Pages.{Ghosts as PageGhosts}
@@ -141,3 +142,13 @@ returns-in-Err-add-clause-damaged g c = λ damaged e tells.
       | inl found ↦ inl (inr (more, subst (λ (p : Point). b.damaged_for_add m c.args.border.now p damaged) c.drop_dimension.ensures found))
       | inr unordered ↦ inr unordered
     ]
+
+pub returns-in-Ok-add-clause-apart : goal.returns-in-Ok-add-clause-apart
+returns-in-Ok-add-clause-apart g c = λ tells.
+    let b = g.B.BorderTree in
+    let m0 : PageMap = g.S.Pages.map c.args.stage.now in
+    let m1 : PageMap = g.S.Pages.map c.add.new.stage in
+    let more : 64 < c.args.low = omega (arith, c.if-low-lt64.false, c.if-low-eq64.false) in
+    let left : OthersStay (b.may_change m0 c.args.border.now (without_dimension c.args.dimension c.args.point.now)) m0 m1 =
+    subst (λ (p : Point). OthersStay (b.may_change m0 c.args.border.now p) m0 m1) c.drop_dimension.ensures (c.in-Ok-add.ensures.apart tells) in
+    stay_more (b.may_change m0 c.args.border.now (without_dimension c.args.dimension c.args.point.now)) _ m0 m1 left (λ q x. (more, x))

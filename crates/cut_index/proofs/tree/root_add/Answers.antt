@@ -3,8 +3,11 @@ use Rattle.page_ports.specs.Pages.{PageMap}
 use Rattle.page_ports.specs.declared.page.StageFault.{StageFault}
 use Rattle.page_ports.specs.declared.page.StageFault.TheVariants.{Damaged}
 use Rattle.page_layout.specs.declared.cut_page.CutNode.TheVariants.{Entry}
+use Rattle.cut_parts.specs.Damage.{BeforePage}
+use Rattle.cut_parts.specs.Reach.{LeadsFrom}
 use Rattle.cut_index.specs.Additions.{IsAddedAs, nodes_after}
 use Rattle.cut_index.specs.declared.change.Change.{Change}
+use Rattle.cut_index.proofs.Naming.{given_out, one_names}
 use Rattle.cut_index.proofs.Pieces.{new_home}
 use Rattle.cut_index.proofs.tree.root_add.Goals as goal
 
@@ -25,3 +28,13 @@ pub returns-in-Err-clause-damaged : goal.returns-in-Err-clause-damaged
 returns-in-Err-clause-damaged g c = λ damaged e tells.
     let is : c.in-Err.fault ≡ Damaged damaged = cc in
     c.page_add.ensures.damaged damaged (c.in-Err.is ∙ ap (λ (fault : StageFault). Err fault) is) tells
+
+pub returns-in-Ok-clause-named : goal.returns-in-Ok-clause-named
+returns-in-Ok-clause-named g c = λ tells some beside.
+    let b = g.B.BorderTree in
+    let m0 : PageMap = g.S.Pages.map c.args.stage.now in
+    let m1 : PageMap = g.S.Pages.map c.page_add.new.stage in
+    let up = c.in-Ok-Raised in
+    let made = c.in-Ok.ensures.made (up.ensures.changes.went_on.tells ∙ tells) in
+    absurd (given_out (LeadsFrom b c.args.point.now m0 c.args.count (BeforePage c.args.root)) m0 m1 (g.S.Pages.map c.new_root.new.stage) (c.in-Ok.first ∷ []) c.in-Ok.first
+    (up.ensures.apart tells) made.1 (one_names c.in-Ok.first) some beside)

@@ -1,13 +1,16 @@
-use Rattle.std.proofs.Common.{◌≡◌, ℕ, suc, ◌-◌, ◌≤◌, length, subst, Err, inl, inr, ap, ◌∙◌, arith}
+use Rattle.std.proofs.Common.{◌≡◌, ℕ, suc, ◌-◌, ◌≤◌, length, IsSome, refl, sym, subst, Err, inl, inr, ap, ◌∙◌, arith}
+use Rattle.bw_types.specs.declared.tree.Tree.{Tree}
 use Rattle.page_ports.specs.Pages.{PageMap}
 use Rattle.page_ports.specs.declared.page.StageFault.{StageFault}
 use Rattle.page_ports.specs.declared.page.StageFault.TheVariants.{Damaged}
+use Rattle.dom_index.proofs.FirstPages.{not_missing}
 use Rattle.cut_parts.specs.Damage.{BeforePage}
 use Rattle.cut_parts.specs.Reach.{Leads, LeadsFrom}
 use Rattle.cut_parts.specs.Standing.{cuts_growth}
 use Rattle.cut_parts.proofs.Staying.{stay_more}
 use Rattle.cut_index.specs.Growing.{root_growth}
 use Rattle.cut_index.proofs.Going.{changes_as}
+use Rattle.cut_index.proofs.Naming.{one_names}
 use Rattle.cut_index.proofs.NewPoints.{with_new}
 use Rattle.cut_index.proofs.Numbers.{root_none, tree_number}
 use Rattle.cut_index.proofs.WholeTrees.{tree_balanced, tree_began, tree_takes, tree_took}
@@ -134,8 +137,8 @@ returns-in-Ok-root_add-clause-apart g c = λ tells.
     let p = c.args.point.now in
     let tree = c.args.tree.now in
     let not_none = c.if-tree-eq0.false in
-    stay_more (LeadsFrom b p m tree.count (BeforePage tree.root)) (Leads b m tree) m (g.S.Pages.map c.root_add.new.stage) (c.in-Ok-root_add.ensures.apart tells)
-    (λ q x. (omega (arith, not_none), (p, x)))
+    stay_more (LeadsFrom b p m tree.count (BeforePage tree.root)) (Leads b m tree p) m (g.S.Pages.map c.root_add.new.stage) (c.in-Ok-root_add.ensures.apart tells)
+    (λ q x. (omega (arith, not_none), x))
 
 pub returns-in-Err-root_add-clause-damaged : goal.returns-in-Err-root_add-clause-damaged
 returns-in-Err-root_add-clause-damaged g c = λ page e tells.
@@ -145,3 +148,17 @@ returns-in-Err-root_add-clause-damaged g c = λ page e tells.
       | inl found ↦ inl (omega (arith, not_none), inr found)
       | inr unordered ↦ inr unordered
     ]
+
+pub returns-in-Ok-clause-root : goal.returns-in-Ok-clause-root
+returns-in-Ok-clause-root g c = λ tells some beside.
+    let first : ℕ = c.in-Ok.first.root in
+    let made = c.in-Ok.ensures.made tells in
+    absurd (not_missing (g.S.Pages.map c.args.stage.now first) (made.1.fresh first refl (one_names first)) some)
+
+pub returns-in-Ok-root_add-clause-root : goal.returns-in-Ok-root_add-clause-root
+returns-in-Ok-root_add-clause-root g c = λ tells some beside.
+    let not_none = c.if-tree-eq0.false in
+    let is : c.tree_of.result.root ≡ c.in-Ok-root_add.root = ap (λ (tree : Tree). tree.root) c.tree_of.ensures in
+    let m : PageMap = g.S.Pages.map c.args.stage.now in
+    is ∙ c.in-Ok-root_add.ensures.named tells (subst (λ (page : ℕ). IsSome (m page)) is some)
+    (λ x. beside (omega (arith, not_none), subst (λ (page : ℕ). LeadsFrom g.B.BorderTree c.args.point.now m c.args.tree.now.count (BeforePage c.args.tree.now.root) page) (sym is) x))
