@@ -15,7 +15,7 @@ use Rattle.cut_parts.specs.Standing.{CutsStand, cuts_cost, levels_of}
 use Rattle.mvsb_tree.specs.contracts.mv_index.MvIndexDomIndex.TheImpl as line
 use Rattle.key_trees.specs.contracts.key_tree.KeyTreeBorderTree.TheImpl as key
 use Rattle.plane_trees.specs.contracts.plane_tree.PlaneTreeBorderTree.TheImpl as plane
-use Rattle.ba_tree.specs.Over.{BalancedOver, IsDamagedForAdd, IsDamagedForSum, StandsOver, pages_over, tree_growth}
+use Rattle.ba_tree.specs.Over.{BalancedOver, IsDamagedForAdd, IsDamagedForSum, MayBecome, MayChange, StandsOver, pages_over, tree_growth}
 
 pub is_three : (dims : ℕ) → 1 ≤ dims → dims ≤ 3 → dims ≢ 1 → dims ≢ 2 → dims ≡ 3
 is_three dims some few not_one not_two = omega (arith, some, few, not_one, not_two)
@@ -55,6 +55,18 @@ add_damaged_at pages dims as_many tree point page same damaged =
       | inl here ↦ inl (subst (λ (n : ℕ). IsDamagedForAdd line.ghosts key.ghosts plane.ghosts pages n tree point page) (sym same) here)
       | inr other ↦ inr other
     ]
+
+-- What an addition may change over so many dimensions, it may over as many.
+pub change_at : (pages : PageMap) (dims as_many : ℕ) (tree : Tree) (point : Point) (page : ℕ) → dims ≡ as_many
+    → MayChange line.ghosts key.ghosts plane.ghosts pages as_many tree point page → MayChange line.ghosts key.ghosts plane.ghosts pages dims tree point page
+change_at pages dims as_many tree point page same may =
+    subst (λ (n : ℕ). MayChange line.ghosts key.ghosts plane.ghosts pages n tree point page) (sym same) may
+
+-- What an addition over so many dimensions may make of a tree, it may over as many.
+pub becomes_at : (pages : PageMap) (dims as_many : ℕ) (tree : Tree) (point : Point) (new : Tree) → dims ≡ as_many
+    → MayBecome line.ghosts key.ghosts plane.ghosts pages as_many tree point new → MayBecome line.ghosts key.ghosts plane.ghosts pages dims tree point new
+becomes_at pages dims as_many tree point new same becomes =
+    subst (λ (n : ℕ). MayBecome line.ghosts key.ghosts plane.ghosts pages n tree point new) (sym same) becomes
 
 pub pages_at : (before after : PageMap) (dims as_many : ℕ) (tree grown : Tree) → dims ≡ as_many
     → Replaces (pages_over line.ghosts key.ghosts plane.ghosts before as_many tree) (pages_over line.ghosts key.ghosts plane.ghosts after as_many grown) before after

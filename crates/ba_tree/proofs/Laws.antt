@@ -4,12 +4,13 @@ use Rattle.bw_types.specs.declared.point.Point.{Point}
 use Rattle.bw_types.specs.declared.tree.Tree.{Tree}
 use Rattle.page_ports.specs.Frame.{AgreeOn, AreInMap}
 use Rattle.page_ports.specs.Pages.{PageMap}
+use Rattle.dom_index.specs.Becoming.{IsTreeAfter}
 use Rattle.cut_parts.specs.Borders.{HoldForTrees}
 use Rattle.cut_parts.specs.Standing.{CutsBalanced, CutsStand, cuts_cost, cuts_growth, cuts_share, tree_pages}
 use Rattle.mvsb_tree.specs.contracts.mv_index.MvIndexDomIndex.TheImpl as line
 use Rattle.key_trees.specs.contracts.key_tree.KeyTreeBorderTree.TheImpl as key
 use Rattle.plane_trees.specs.contracts.plane_tree.PlaneTreeBorderTree.TheImpl as plane
-use Rattle.ba_tree.specs.Over.{BalancedOver, StandsOver, pages_over}
+use Rattle.ba_tree.specs.Over.{BalancedOver, MayBecome, MayChange, StandsOver, pages_over}
 
 -- What holds of trees of cuts over two dimensions, and over three.
 abbrev HoldOverTwo : Type 0
@@ -58,3 +59,13 @@ any_order one two three pages zero tree points others stands same = absurd stand
 any_order one two three pages (suc zero) tree points others stands same = one pages 1 tree points others stands same
 any_order one two three pages (suc (suc zero)) tree points others stands same = two.any_order pages tree points others stands same
 any_order one two three pages (suc (suc (suc dims))) tree points others stands same = three.any_order pages tree points others stands same
+
+-- A tree becomes one of one point more, whose root is named as an addition may name it.
+pub becoming : ((pages : PageMap) (dims : ℕ) (tree new : Tree) (point : Point) → line.ghosts.may_become pages dims tree point new
+    → IsTreeAfter (line.ghosts.may_change pages dims tree point) pages tree new)
+    → (pages : PageMap) (dims : ℕ) (tree new : Tree) (point : Point) → MayBecome line.ghosts key.ghosts plane.ghosts pages dims tree point new
+    → IsTreeAfter (MayChange line.ghosts key.ghosts plane.ghosts pages dims tree point) pages tree new
+becoming one pages zero tree new point becomes = absurd becomes
+becoming one pages (suc zero) tree new point becomes = one pages 1 tree new point becomes
+becoming one pages (suc (suc zero)) tree new point becomes = becomes
+becoming one pages (suc (suc (suc dims))) tree new point becomes = becomes

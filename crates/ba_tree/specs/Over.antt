@@ -5,6 +5,7 @@ use Rattle.bw_types.specs.Depths.{added_pages}
 use Rattle.bw_types.specs.declared.point.Point.{Point}
 use Rattle.bw_types.specs.declared.tree.Tree.{Tree}
 use Rattle.page_ports.specs.Pages.{PageMap}
+use Rattle.dom_index.specs.Becoming.{IsTreeAfter}
 use Rattle.dom_index.specs.declared.index.DomIndex as index
 use Rattle.cut_parts.specs.Damage as cuts
 use Rattle.cut_parts.specs.Reach as reach
@@ -40,12 +41,19 @@ module _ {M K P : Type 0} (line : index.Ghosts M) (key : border.Ghosts K) (plane
   IsDamagedForSum pages (suc (suc zero)) tree keys version page = cuts.IsDamagedForSum key pages tree keys version page
   IsDamagedForSum pages (suc (suc (suc dims))) tree keys version page = cuts.IsDamagedForSum plane pages tree keys version page
 
-  -- What an addition may change, whatever the pages hold.
-  abbrev pub MayChange : PageMap → ℕ → Tree → ℕ → Type 0
-  MayChange pages zero tree page = ⊥
-  MayChange pages (suc zero) tree page = line.may_change pages 1 tree page
-  MayChange pages (suc (suc zero)) tree page = reach.Leads key pages tree page
-  MayChange pages (suc (suc (suc dims))) tree page = reach.Leads plane pages tree page
+  -- What an addition of the point may change, whatever the pages hold.
+  abbrev pub MayChange : PageMap → ℕ → Tree → Point → ℕ → Type 0
+  MayChange pages zero tree point page = ⊥
+  MayChange pages (suc zero) tree point page = line.may_change pages 1 tree point page
+  MayChange pages (suc (suc zero)) tree point page = reach.Leads key pages tree point page
+  MayChange pages (suc (suc (suc dims))) tree point page = reach.Leads plane pages tree point page
+
+  -- What tree an addition of the point may make of it, whatever the pages hold.
+  abbrev pub MayBecome : PageMap → ℕ → Tree → Point → Tree → Type 0
+  MayBecome pages zero tree point new = ⊥
+  MayBecome pages (suc zero) tree point new = line.may_become pages 1 tree point new
+  MayBecome pages (suc (suc zero)) tree point new = IsTreeAfter (reach.Leads key pages tree point) pages tree new
+  MayBecome pages (suc (suc (suc dims))) tree point new = IsTreeAfter (reach.Leads plane pages tree point) pages tree new
 
   -- What an addition of the point may call damaged, whatever the pages hold.
   abbrev pub IsDamagedForAdd : PageMap → ℕ → Tree → Point → ℕ → Type 0

@@ -5,7 +5,7 @@ ghost use Rattle.page_ports.specs.Calls.{Changes};
 ghost use Rattle.page_ports.specs.Frame.{Replaces};
 ghost use Rattle.page_layout.specs.TreeValue.{IsTreeTyped, tree_fits};
 ghost use Rattle.dom_index.specs.Points.{AreKeysBelow, HasRoom, IsNewPoint};
-ghost use Rattle.ba_tree.specs.Over.{BalancedOver, IsDamagedForAdd, MayChange, StandsOver, pages_over, tree_growth};
+ghost use Rattle.ba_tree.specs.Over.{BalancedOver, IsDamagedForAdd, MayBecome, MayChange, StandsOver, pages_over, tree_growth};
 
 use bw_types::{Point, Tree};
 use cut_index::tree_add;
@@ -46,8 +46,10 @@ pub fn add_point<S: Stage>(
         (pages_over ⟦<MvIndex as DomIndex>⟧ ⟦<KeyTree as BorderTree>⟧ ⟦<PlaneTree as BorderTree>⟧ (S.map stage.new) dims tree.new)
         (S.map stage.old) (S.map stage.new)) }
     ensures apart { OnOk result (IsTrue (S.tells stage.old) → (page : ℕ) → IsSome (S.map stage.old page)
-        → ¬ MayChange ⟦<MvIndex as DomIndex>⟧ ⟦<KeyTree as BorderTree>⟧ ⟦<PlaneTree as BorderTree>⟧ (S.map stage.old) dims tree.old page
+        → ¬ MayChange ⟦<MvIndex as DomIndex>⟧ ⟦<KeyTree as BorderTree>⟧ ⟦<PlaneTree as BorderTree>⟧ (S.map stage.old) dims tree.old point.now page
         → S.map stage.new page ≡ S.map stage.old page) }
+    ensures becomes { OnOk result (IsTrue (S.tells stage.old)
+        → MayBecome ⟦<MvIndex as DomIndex>⟧ ⟦<KeyTree as BorderTree>⟧ ⟦<PlaneTree as BorderTree>⟧ (S.map stage.old) dims tree.old point.now tree.new) }
     ensures low { OnOk result (IsTrue (S.tells stage.old) → (points : List Point)
         → StandsOver ⟦<MvIndex as DomIndex>⟧ ⟦<KeyTree as BorderTree>⟧ ⟦<PlaneTree as BorderTree>⟧ (S.map stage.old) dims tree.old points
         → IsNewPoint dims points point.now → 2 ≤ dims → HasRoom tree.old → tree.new.levels ≡ 1) }

@@ -1,6 +1,6 @@
 //! The index of the product.
 ghost use Rattle.bw_types.specs.Depths.{query_pages};
-ghost use Rattle.ba_tree.specs.Over.{BalancedOver, IsDamagedForAdd, IsDamagedForSum, MayChange, StandsOver, pages_over, tree_growth};
+ghost use Rattle.ba_tree.specs.Over.{BalancedOver, IsDamagedForAdd, IsDamagedForSum, MayBecome, MayChange, StandsOver, pages_over, tree_growth};
 
 use crate::adding::add_point;
 use crate::sum::dom_sum;
@@ -39,7 +39,9 @@ impl DomIndex for BaIndex {
 
     ghost growth = { tree_growth };
 
-    ghost may_change = { λ pages dims tree page. MayChange ⟦<MvIndex as DomIndex>⟧ ⟦<KeyTree as BorderTree>⟧ ⟦<PlaneTree as BorderTree>⟧ pages dims tree page };
+    ghost may_change = { λ pages dims tree point page. MayChange ⟦<MvIndex as DomIndex>⟧ ⟦<KeyTree as BorderTree>⟧ ⟦<PlaneTree as BorderTree>⟧ pages dims tree point page };
+
+    ghost may_become = { λ pages dims tree point new. MayBecome ⟦<MvIndex as DomIndex>⟧ ⟦<KeyTree as BorderTree>⟧ ⟦<PlaneTree as BorderTree>⟧ pages dims tree point new };
 
     ghost damaged_for_sum = { λ pages dims tree keys version page. IsDamagedForSum ⟦<MvIndex as DomIndex>⟧ ⟦<KeyTree as BorderTree>⟧ ⟦<PlaneTree as BorderTree>⟧ pages dims tree keys version page };
 

@@ -191,7 +191,7 @@ fn enter_root<X: DomIndex, S: Stage>(
         → TreeEnters X.DomIndex params.now.dims (S.map stage.old) (S.map stage.new) root.old root.new
         (entry_points params.now place (entered object.now stamp)) points) }
     ensures reached { OnOk result (IsTrue (S.tells stage.old)
-        → AdditionsMayLeave X.DomIndex params.now.dims (count_of_points params.now place) (S.map stage.old) root.old (S.map stage.new) root.new) }
+        → AdditionsMayLeave X.DomIndex params.now (entered object.now stamp) place (count_of_points params.now place) (S.map stage.old) root.old (S.map stage.new) root.new) }
     ensures damaged { (page : ℕ) → result ≡ Err (StageFault.Damaged page) → IsTrue (S.tells stage.old)
         → IsDamagedForPoints X.DomIndex params.now (entered object.now stamp) place (S.map stage.old) root.old page ⊎ (¬ S.free_in_order stage.old) }
     ensures rules { OnOk result (IsTrue (tree_fits root.old) → IsTrue (tree_fits root.new)) }

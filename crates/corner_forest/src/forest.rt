@@ -1,5 +1,5 @@
 //! The trees of a warehouse.
-ghost use Rattle.std.specs.Prelude.{◌≡◌, ◌≤◌, ◌^◌, replicate};
+ghost use Rattle.std.specs.Prelude.{◌≡◌, ◌≤◌, replicate};
 ghost use Rattle.bw_types.specs.Empty.{empty_tree};
 ghost use Rattle.bw_types.specs.Fits.{IsInRange};
 ghost use Rattle.corner_forest.specs.Entries.{root_count, corner_count};

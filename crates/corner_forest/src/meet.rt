@@ -1,6 +1,5 @@
 //! Sums and counts of the objects that meet a query.
 ghost use Rattle.std.specs.Prelude.{◌≡◌, ◌≢◌, ◌+◌, ◌*◌, ◌^◌, ◌<◌, ◌≤◌, ◌≤ℤ◌, ◌<ℤ◌, ℕ, true, List, length, ℤ, pos, neg_ℤ, Some, Err, IsTrue, IfOk};
-ghost use Rattle.std.specs.List.{All};
 ghost use Rattle.bw_types.specs.Fits.{IsInRange, ends_fit};
 ghost use Rattle.bw_types.specs.declared.point.Point.{Point};
 ghost use Rattle.page_ports.specs.Calls.{OnlyReads};

@@ -5,8 +5,6 @@ ghost use Rattle.bw_types.specs.Residues.{residue, signed_of};
 ghost use Rattle.bw_types.specs.declared.point.Point.{Point};
 ghost use Rattle.page_ports.specs.Calls.{OnlyReads};
 ghost use Rattle.box_corners.specs.Corners.{integral_corner as corner_of_integral, query_end as end_of_query};
-ghost use Rattle.box_corners.specs.Subsets.{residue_signed_by};
-ghost use Rattle.box_corners.specs.Sums.{residue_sum_below};
 ghost use Rattle.poly_moments.specs.Integrals.{query_corner as corner_of_query};
 ghost use Rattle.poly_moments.specs.Planes.{plane_count, planes_value};
 ghost use Rattle.poly_moments.specs.PlaneSums.{Entered, integral_at};

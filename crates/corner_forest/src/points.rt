@@ -1,5 +1,5 @@
 //! The points of an entry.
-ghost use Rattle.std.specs.Prelude.{◌≡◌, ◌+◌, ◌*◌, ◌^◌, ◌<◌, ◌≤◌, IsTrue, IsSome, nat_lt, if◌then◌else◌};
+ghost use Rattle.std.specs.Prelude.{◌≡◌, ◌+◌, ◌*◌, ◌^◌, ◌<◌, IsTrue, IsSome, nat_lt, if◌then◌else◌};
 ghost use Rattle.bw_types.specs.Fits.{IsInRange, object_fits};
 ghost use Rattle.bw_types.specs.Keys.{point_key as key_of_point};
 ghost use Rattle.box_corners.specs.Corners.{corner_keys};

@@ -1,6 +1,6 @@
 //! A commit: a batch is judged, entered in pages that stand by, and made lasting, all of it or nothing.
 ghost use Rattle.std.specs.Prelude.{◌≡◌, ◌≢◌, ℕ, ◌+◌, ◌^◌, ◌<◌, ◌≤◌, ◌==◌, ◌⊎◌, true, None, Err, length, IsTrue, IfOk};
-ghost use Rattle.std.specs.List.{All, list_all};
+ghost use Rattle.std.specs.List.{list_all};
 ghost use Rattle.bw_types.specs.Fits.{row_fits};
 ghost use Rattle.bw_types.specs.History.{History, flat, last_version};
 ghost use Rattle.bw_types.specs.Lawful.{IsLawfulBatch};

@@ -2,7 +2,7 @@
 //!
 //! So the pages of the table are got together: those of a tree, which may be built anew in between, do not push them out
 //! of the cache.
-ghost use Rattle.std.specs.Prelude.{◌≡◌, ℕ, ◌+◌, ◌-◌, ◌*◌, ◌^◌, ◌<◌, ◌≤◌, length, IsTrue, IfOk};
+ghost use Rattle.std.specs.Prelude.{◌≡◌, ◌+◌, ◌-◌, ◌*◌, ◌^◌, ◌<◌, ◌≤◌, length, IsTrue, IfOk};
 ghost use Rattle.std.specs.List.{list_all};
 ghost use Rattle.bw_types.specs.Fits.{row_fits};
 ghost use Rattle.bw_types.specs.History.{History, changes, flat};

@@ -3,12 +3,11 @@ ghost use Rattle.std.specs.Prelude.{◌≡◌, ◌≢◌, ◌⊎◌, ◌+◌, �
 ghost use Rattle.bw_types.specs.History.{History};
 ghost use Rattle.bw_types.specs.declared.params.Params.{Params};
 ghost use Rattle.page_disk.specs.Calls.{WritesAsTold};
-ghost use Rattle.page_disk.specs.Image.{PageList};
 ghost use Rattle.page_disk.specs.Since.{LeavesNow, LeavesOnly};
 ghost use Rattle.redo_journal.specs.Gates.{is_empty};
 ghost use Rattle.redo_journal.specs.Settled.{SettlesTo};
-ghost use Rattle.page_space.specs.Faults.{AtBadJournal, AtDamaged, AtEmpty, AtNoMemory, is_disk};
-ghost use Rattle.page_space.specs.Opening.{StandsAlike, StandsWhole};
+ghost use Rattle.page_space.specs.Faults.{AtBadJournal, AtDamaged, AtEmpty, is_disk};
+ghost use Rattle.page_space.specs.Opening.{StandsAlike};
 ghost use Rattle.page_space.specs.Settling.{HasNoReplay, IsBadAt, replay_reads};
 ghost use Rattle.page_warehouse.specs.Opened.{GoTogether, IsDamagedToOpen, opened_disk};
 ghost use Rattle.corner_forest.specs.Entries.{root_count};

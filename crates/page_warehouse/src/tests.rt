@@ -1,6 +1,4 @@
 //! Warehouses on a recording disk: made, opened, queried, and stopped after each call.
-ghost use Rattle.std.specs.Prelude.{◌≡◌};
-ghost use Rattle.bw_types.specs.Fits.{IsInRange};
 
 use crate::{Created, Warehouse, create};
 use bw_types::{Kind, Params, Query, query_fits};

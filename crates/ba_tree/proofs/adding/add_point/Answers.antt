@@ -3,7 +3,7 @@ use Rattle.bw_types.specs.Depths.{added_pages}
 use Rattle.cut_parts.specs.Standing.{cuts_growth}
 use Rattle.key_trees.specs.contracts.key_tree.KeyTreeBorderTree.TheImpl as key
 use Rattle.plane_trees.specs.contracts.plane_tree.PlaneTreeBorderTree.TheImpl as plane
-use Rattle.ba_tree.proofs.Cases.{add_damaged_at, balanced_at, growth_over, is_three, low_after, new_at, pages_at, stands_at}
+use Rattle.ba_tree.proofs.Cases.{add_damaged_at, balanced_at, becomes_at, change_at, growth_over, is_three, low_after, new_at, pages_at, stands_at}
 use Rattle.ba_tree.proofs.adding.add_point.Goals as goal
 
 pub returns-in-Err-clause-damaged : goal.returns-in-Err-clause-damaged
@@ -74,3 +74,24 @@ returns-in-Ok-tree_add-2-clause-growth g c = λ tells points stands new balanced
     growth_over g.S.Pages c.args.dims (length points) (cuts_growth plane.ghosts (length points)) c.args.tree.now.levels c.args.tree.now.count c.args.stage.now
     c.tree_add-2.new.stage _ (omega (arith, same)) stood.levels stood.count (ap (λ (d : ℕ). added_pages d (length points)) (sym same))
     (c.in-Ok-tree_add-2.ensures.growth tells points stood is_new low) (c.in-Ok-tree_add-2.ensures.small tells points stood is_new low)
+
+pub returns-in-Ok-clause-becomes : goal.returns-in-Ok-clause-becomes
+returns-in-Ok-clause-becomes g c = λ tells. becomes_at _ _ 1 _ _ _ c.if-dims-eq1.true (c.in-Ok.ensures.becomes tells)
+
+pub returns-in-Ok-tree_add-clause-becomes : goal.returns-in-Ok-tree_add-clause-becomes
+returns-in-Ok-tree_add-clause-becomes g c = λ tells.
+    becomes_at _ _ 2 _ _ _ c.if-dims-eq2.true (record { count = c.in-Ok-tree_add.ensures.count; root = c.in-Ok-tree_add.ensures.root tells })
+
+pub returns-in-Ok-tree_add-2-clause-becomes : goal.returns-in-Ok-tree_add-2-clause-becomes
+returns-in-Ok-tree_add-2-clause-becomes g c = λ tells.
+    let same = is_three c.args.dims c.requires.dims.0 c.requires.dims.1 c.if-dims-eq1.false c.if-dims-eq2.false in
+    becomes_at _ _ 3 _ _ _ same (record { count = c.in-Ok-tree_add-2.ensures.count; root = c.in-Ok-tree_add-2.ensures.root tells })
+
+pub returns-in-Ok-clause-apart : goal.returns-in-Ok-clause-apart
+returns-in-Ok-clause-apart g c = λ tells page some not_changed.
+    c.in-Ok.ensures.apart tells page some (λ may. not_changed (change_at _ _ 1 _ _ page c.if-dims-eq1.true may))
+
+pub returns-in-Ok-tree_add-2-clause-apart : goal.returns-in-Ok-tree_add-2-clause-apart
+returns-in-Ok-tree_add-2-clause-apart g c = λ tells page some not_changed.
+    let same = is_three c.args.dims c.requires.dims.0 c.requires.dims.1 c.if-dims-eq1.false c.if-dims-eq2.false in
+    c.in-Ok-tree_add-2.ensures.apart tells page some (λ may. not_changed (change_at _ _ 3 _ _ page same may))

@@ -162,7 +162,7 @@ loop-place-preserved g c =
           (goes_on g.X.DomIndex c.index_laws.ensures.by_its_pages c.index_laws.ensures.balance c.index_laws.ensures.in_map c.index_laws.ensures.once params before mid after old items (get_or old k empty_tree) c.enter_root.new.root (drop (k + 1) old) entries e k c.loop-place.invariant.len now entering);
       reached = λ tells.
           let step : k + 1 ≡ suc k = omega arith in
-          subst (λ (m : ℕ). TreesMayLeave g.X.DomIndex params old m before after) (sym step)
+          subst (λ (m : ℕ). TreesMayLeave g.X.DomIndex params e old m before after) (sym step)
           (mid, c.enter_root.new.root, c.loop-place.invariant.reached tells, c.in_ok-enter_root.ensures.reached (search rules));
       rules = λ all.
           subst (λ (l : List Tree). All (λ (t : Tree). IsTrue (tree_fits t)) l) (sym c.push.ensures.items)

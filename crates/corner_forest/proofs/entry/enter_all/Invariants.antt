@@ -20,7 +20,7 @@ invariant-loop-place g l =
       went : WentOn pages (pages.allotted l.stage + 1) l.fn.stage l.stage;
       enters : IsTrue (pages.tells l.fn.stage) → (entries : List Entered) → MayEnter index before params l.fn.old entries e
           → IsEntering index params before (pages.map l.stage) l.fn.old (l.roots.items ++ drop l.place l.fn.old) entries e l.place;
-      reached : IsTrue (pages.tells l.fn.stage) → TreesMayLeave index params l.fn.old l.place before (pages.map l.stage);
+      reached : IsTrue (pages.tells l.fn.stage) → TreesMayLeave index params e l.fn.old l.place before (pages.map l.stage);
       rules : All (λ t. IsTrue (tree_fits t)) l.fn.old → All (λ t. IsTrue (tree_fits t)) l.roots.items;
       growth : IsTrue (pages.tells l.fn.stage) → (entries : List Entered) → MayEnter index before params l.fn.old entries e
           → AreBalanced index before params l.fn.old

@@ -5,8 +5,8 @@ use Rattle.bw_types.specs.declared.point.Point.{Point}
 use Rattle.page_ports.specs.Calls.{Changes, WentOn}
 use Rattle.page_ports.specs.declared.page.StageFault.TheVariants.{Damaged}
 use Rattle.dom_index.specs.Points.{IsNewPoint}
-use Rattle.corner_forest.specs.EntryDamage.{AdditionsMayLeave}
-use Rattle.corner_forest.specs.Entries.{point_count}
+use Rattle.corner_forest.specs.EntryDamage.{AdditionsMayLeave, MayLeave}
+use Rattle.corner_forest.specs.Entries.{entry_point, point_count}
 use Rattle.corner_forest.specs.Enters.{TakesMore, TreeEnters, entered, points_from, step_growth, sum_below, tree_growth}
 use Rattle.corner_forest.proofs.Adding.{added_length, first_within, growth_within, has_room, more_pages, most_pages, near_next, new_next, next_points, one_added, step_within}
 use Rattle.corner_forest.proofs.Exits.{exit_error}
@@ -55,7 +55,7 @@ returns-in_err-add-clause-damaged g c = λ page asked tells.
         mid,
         c.loop-i.root,
         inside,
-        subst (λ (m : ℕ). AdditionsMayLeave g.X.DomIndex dims m before c.args.root.now mid c.loop-i.root) many (c.loop-i.invariant.reached tells),
+        subst (λ (m : ℕ). AdditionsMayLeave g.X.DomIndex params e c.args.place m before c.args.root.now mid c.loop-i.root) many (c.loop-i.invariant.reached tells),
         subst (λ (q : Point). g.X.DomIndex.damaged_for_add mid dims c.loop-i.root q page) c.entry_point-point.ensures.point here,
       )
       | inr not_so ↦ inr (λ order. not_so (c.loop-i.invariant.went.free_in_order tells order))
@@ -180,8 +180,21 @@ loop-i-preserved g c =
           (λ low. c.in_ok-add.ensures.balanced (search rules) (added ++ points) entered_so_far.stands is_new low);
       reached = λ tells.
           let step : i + 1 ≡ suc i = omega arith in
-          subst (λ (m : ℕ). AdditionsMayLeave g.X.DomIndex dims m before c.args.root.now (g.S.Pages.map c.add.new.stage) c.add.new.tree) (sym step)
-          (mid, c.loop-i.root, c.loop-i.invariant.reached tells, c.in_ok-add.ensures.apart (search rules));
+          let of_params : n - 1 - i ≡ point_count params c.args.place - 1 - i = omega (arith, c.point_count-count.ensures.count) in
+          let is : c.entry_point-point.result ≡ entry_point params e c.args.place (point_count params c.args.place - 1 - i) =
+          c.entry_point-point.ensures.point ∙ ap (λ (corner : ℕ). entry_point params e c.args.place corner) of_params in
+          let left : MayLeave g.X.DomIndex dims mid c.loop-i.root c.entry_point-point.result (g.S.Pages.map c.add.new.stage) c.add.new.tree =
+          record {
+            apart = c.in_ok-add.ensures.apart (search rules);
+            becomes = c.in_ok-add.ensures.becomes (search rules);
+            enters = λ points stands new. record {
+              stands = c.in_ok-add.ensures.stands (search rules) points stands new;
+              change = c.in_ok-add.ensures.change (search rules) points stands new;
+              balanced = λ low. c.in_ok-add.ensures.balanced (search rules) points stands new low;
+            };
+          } in
+          subst (λ (m : ℕ). AdditionsMayLeave g.X.DomIndex params e c.args.place m before c.args.root.now (g.S.Pages.map c.add.new.stage) c.add.new.tree) (sym step)
+          (mid, c.loop-i.root, c.loop-i.invariant.reached tells, subst (λ (q : Point). MayLeave g.X.DomIndex dims mid c.loop-i.root q (g.S.Pages.map c.add.new.stage) c.add.new.tree) is left);
       rules = search rules;
       growth = λ tells points stands new low.
           let entered_so_far = c.loop-i.invariant.enters tells points stands new in
@@ -302,7 +315,7 @@ pub returns-clause-reached : goal.returns-clause-reached
 returns-clause-reached g c = λ tells.
     let n = c.point_count-count.result in
     let done : c.loop-i.i ≡ n = omega (arith, c.loop-i-test.false, c.loop-i.auto.i-end) in
-    subst (λ (m : ℕ). AdditionsMayLeave g.X.DomIndex c.args.params.now.dims m (g.S.Pages.map c.args.stage.now) c.args.root.now (g.S.Pages.map c.loop-i.stage) c.loop-i.root)
+    subst (λ (m : ℕ). AdditionsMayLeave g.X.DomIndex c.args.params.now (entered c.args.object.now c.args.stamp) c.args.place m (g.S.Pages.map c.args.stage.now) c.args.root.now (g.S.Pages.map c.loop-i.stage) c.loop-i.root)
     (done ∙ c.point_count-count.ensures.count) (c.loop-i.invariant.reached tells)
 
 pub returns-clause-by_additions : goal.returns-clause-by_additions

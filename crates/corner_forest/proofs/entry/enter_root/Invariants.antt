@@ -19,7 +19,7 @@ invariant-loop-i g l =
       went : WentOn pages (pages.allotted l.stage + 1) l.fn.stage l.stage;
       enters : IsTrue (pages.tells l.fn.stage) → (points : List Point) → index.stands before dims l.fn.root points → AreNewPoints l.fn.params e l.fn.place points
           → TreeEnters index dims before (pages.map l.stage) l.fn.root l.root (points_from l.fn.params e l.fn.place (l.count - l.i) l.i) points;
-      reached : IsTrue (pages.tells l.fn.stage) → AdditionsMayLeave index dims l.i before l.fn.root (pages.map l.stage) l.root;
+      reached : IsTrue (pages.tells l.fn.stage) → AdditionsMayLeave index l.fn.params e l.fn.place l.i before l.fn.root (pages.map l.stage) l.root;
       rules : IsTrue (tree_fits l.fn.root) → IsTrue (tree_fits l.root);
       growth : IsTrue (pages.tells l.fn.stage) → (points : List Point) → index.stands before dims l.fn.root points → AreNewPoints l.fn.params e l.fn.place points
           → index.balanced before dims l.fn.root → WentOn pages (l.i * added_pages dims (length points + l.count)) l.fn.stage l.stage;
