@@ -49,6 +49,15 @@ row_refusal params past batch (row.Add o) =
 row_refusal params past batch (row.Withdraw id) = withdrawal_refusal past batch id
 row_refusal params past batch (row.Move o) = option_or (withdrawal_refusal past batch o.id) (mass_refusal params (past ++ batch) o)
 
+-- the numbers of the reasons
+abbrev pub reason_number : Reason → ℕ
+reason_number Used = 1
+reason_number Unknown = 2
+reason_number Fresh = 3
+reason_number Gone = 4
+reason_number Mass = 5
+reason_number Events = 6
+
 -- a refusal at this place
 abbrev pub refused_at : ℕ → Reason → Refusal
 refused_at place reason = record { place = place; reason = reason }

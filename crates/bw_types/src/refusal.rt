@@ -1,3 +1,7 @@
+//! Why a batch is refused, and where.
+ghost use Rattle.std.specs.Prelude.{◌≡◌};
+ghost use Rattle.bw_types.specs.Refusals.{reason_number};
+
 /// Why a batch is refused.
 #[derive(Clone, Copy, PartialEq, Eq, Debug)]
 pub enum Reason {
@@ -13,6 +17,15 @@ pub enum Reason {
     Mass = 5,
     /// The batch would pass the limit on events.
     Events = 6,
+}
+
+impl Reason {
+    /// The number of the reason, from 1 to 6.
+    pub fn number(self) -> u8
+        ensures { result ≡ reason_number self }
+    {
+        self as u8
+    }
 }
 
 /// The first refusal of a batch: the place of its row, counted from 1, or 0 where the whole batch is

@@ -1,7 +1,6 @@
 //! The laws and the worked examples, called.
 
 use crate::depths::{depths_are_worked, depths_grow, digits_are_counted};
-use crate::keys_are_ordered;
 use crate::residue_laws::{
     residues_add_up, residues_are_below, residues_are_signed, residues_follow,
 };
@@ -11,6 +10,7 @@ use crate::worked::{
     masses_of_boxes, past_versions_stay, sessions_collide, signed_coordinates, touching_boxes_meet,
     what_fits, within_one_batch,
 };
+use crate::{Reason, keys_are_ordered};
 use std::test::Fail;
 
 #[test]
@@ -43,5 +43,21 @@ fn worked_examples_do_nothing(_: HostRuntime) -> Result<(), Fail> {
     lives_are_numbered();
     lawful_histories_are();
     what_fits();
+    Ok(())
+}
+
+#[test]
+fn reasons_have_numbers(rt: HostRuntime) -> Result<(), Fail> {
+    let reasons = [
+        Reason::Used,
+        Reason::Unknown,
+        Reason::Fresh,
+        Reason::Gone,
+        Reason::Mass,
+        Reason::Events,
+    ];
+    for (i, reason) in reasons.iter().enumerate() {
+        assert_eq!(rt; usize::from(reason.number()), i + 1);
+    }
     Ok(())
 }

@@ -1,5 +1,9 @@
 //! The stage, and which of its calls fails.
-ghost use Rattle.std.specs.Prelude.{◌≡◌, ◌+◌, ◌↔◌, IsTrue};
+ghost use Rattle.std.specs.Prelude.{◌≡◌, ◌≢◌, ◌+◌, ◌-◌, ◌≤◌, ◌<◌, ◌↔◌, ◌∷◌, [], ℕ, Some, None, Err, IsTrue, IsSome, IfOk, OnOk, OnErr, slice_index};
+ghost use Rattle.page_ports.specs.Calls.{Changes, OnlyReads};
+ghost use Rattle.page_ports.specs.Chain.{TakesFirst};
+ghost use Rattle.page_ports.specs.Pages.{put_page, remove_page, blank_bytes};
+ghost use Rattle.failing_stage.specs.Failing.{Counts, Fails};
 
 use counts::raised;
 use page_ports::{Page, PageFault, Pages, Stage, StageFault};
@@ -33,7 +37,8 @@ impl<S: Stage + Drop> FailingStage<S> {
 
 // Whether this call is the one that fails; it counts the call.
 fn fails(calls_left: &mut u64) -> bool
-    ensures { IsTrue result ↔ (calls_left.old ≡ 0) }
+    ensures last { IsTrue result ↔ (calls_left.old ≡ 0) }
+    ensures counts { calls_left.old ≢ 0 → calls_left.new ≡ calls_left.old - 1 }
 {
     if *calls_left == 0 {
         *calls_left = u64::MAX;
@@ -64,7 +69,14 @@ impl<S: Stage + Drop> Pages for FailingStage<S> {
 
     ghost base = { λ f. S.base f.stage };
 
-    fn get(&mut self, page: u64, buf: &mut Page) -> Result<(), PageFault> {
+    fn get(&mut self, page: u64, buf: &mut Page) -> Result<(), PageFault>
+        ensures fails { self.old.calls_left ≡ 0 → (result ≡ Err PageFault.Disk) × Fails self.old self.new }
+        ensures counts { self.old.calls_left ≢ 0 → Counts self.old self.new }
+        ensures bytes { OnOk result (IsTrue (S.tells self.old.stage) → S.map self.old.stage page ≡ Some buf.new) }
+        ensures damaged { (p : ℕ) → result ≡ Err (PageFault.Damaged p)
+            → (p ≡ page) × (IsTrue (S.tells self.old.stage) → S.map self.old.stage page ≡ None) }
+        ensures reads { OnlyReads ⟦<FailingStage<S> as Pages>⟧ 1 self.old self.new result }
+    {
         if fails(&mut self.calls_left) {
             self.faults = raised(self.faults);
             return Err(PageFault::Disk);
@@ -82,14 +94,41 @@ impl<S: Stage + Drop> Stage for FailingStage<S> {
 
     ghost limit_fits = { λ f. S.limit_fits f.stage };
 
-    fn allot(&mut self) -> Result<u64, StageFault> {
+    fn allot(&mut self) -> Result<u64, StageFault>
+        ensures fails { self.old.calls_left ≡ 0 → (result ≡ Err StageFault.NoMemory) × (self.new.stage ≡ self.old.stage) }
+        ensures counts { self.old.calls_left ≢ 0 → Counts self.old self.new }
+        ensures ok { IfOk result (λ page. (3 ≤ page) × (page < S.allotted self.new.stage)
+            × (IsTrue (S.tells self.old.stage)
+            → (S.map self.old.stage page ≡ None) × (S.map self.new.stage ≡ put_page (S.map self.old.stage) page blank_bytes))) }
+        ensures chain { IfOk result (λ page. IsTrue (S.tells self.old.stage) → S.free_in_order self.old.stage
+            → TakesFirst (S.chain self.old.stage) page (S.chain self.new.stage) (S.allotted self.old.stage) (S.allotted self.new.stage)) }
+        ensures err { OnErr result (IsTrue (S.tells self.old.stage) → S.map self.new.stage ≡ S.map self.old.stage) }
+        ensures damaged { (p : ℕ) → result ≡ Err (StageFault.Damaged p)
+            → IsTrue (S.tells self.old.stage) → ¬ S.free_in_order self.old.stage }
+        ensures page_limit { (n : ℕ) → result ≡ Err (StageFault.PageLimit n)
+            → IsTrue (S.tells self.old.stage) → S.chain self.old.stage ≡ [] }
+        ensures chain_err { OnErr result (IsTrue (S.tells self.old.stage) → S.chain self.new.stage ≡ S.chain self.old.stage) }
+        ensures allotted_err { OnErr result (S.allotted self.new.stage ≡ S.allotted self.old.stage) }
+        ensures changes { Changes ⟦<FailingStage<S> as Pages>⟧ 1 self.old self.new result }
+    {
         if fails(&mut self.calls_left) {
             return Err(StageFault::NoMemory);
         }
         self.stage.allot()
     }
 
-    fn put(&mut self, page: u64, buf: &Page) -> Result<(), StageFault> {
+    fn put(&mut self, page: u64, buf: &Page) -> Result<(), StageFault>
+        requires in_map { IsTrue (S.tells self.old.stage) → IsSome (S.map self.old.stage page) }
+        requires kind { slice_index buf.now 0 ≢ 9 }
+        ensures fails { self.old.calls_left ≡ 0 → (result ≡ Err StageFault.Disk) × Fails self.old self.new }
+        ensures counts { self.old.calls_left ≢ 0 → Counts self.old self.new }
+        ensures ok { OnOk result (IsTrue (S.tells self.old.stage) → S.map self.new.stage ≡ put_page (S.map self.old.stage) page buf.now) }
+        ensures err { OnErr result (IsTrue (S.tells self.old.stage) → S.map self.new.stage ≡ S.map self.old.stage) }
+        ensures damaged { (p : ℕ) → result ≡ Err (StageFault.Damaged p)
+            → (p ≡ page) × (IsTrue (S.tells self.old.stage) → S.map self.old.stage page ≡ None) }
+        ensures chain { IsTrue (S.tells self.old.stage) → S.chain self.new.stage ≡ S.chain self.old.stage }
+        ensures changes { Changes ⟦<FailingStage<S> as Pages>⟧ 0 self.old self.new result }
+    {
         if fails(&mut self.calls_left) {
             self.faults = raised(self.faults);
             return Err(StageFault::Disk);
@@ -97,7 +136,19 @@ impl<S: Stage + Drop> Stage for FailingStage<S> {
         self.stage.put(page, buf)
     }
 
-    fn free(&mut self, page: u64) -> Result<(), StageFault> {
+    fn free(&mut self, page: u64) -> Result<(), StageFault>
+        requires in_map { IsTrue (S.tells self.old.stage) → IsSome (S.map self.old.stage page) }
+        ensures fails { self.old.calls_left ≡ 0 → (result ≡ Err StageFault.Disk) × Fails self.old self.new }
+        ensures counts { self.old.calls_left ≢ 0 → Counts self.old self.new }
+        ensures ok { OnOk result (IsTrue (S.tells self.old.stage) → S.map self.new.stage ≡ remove_page (S.map self.old.stage) page) }
+        ensures err { OnErr result (IsTrue (S.tells self.old.stage) → S.map self.new.stage ≡ S.map self.old.stage) }
+        ensures damaged { (p : ℕ) → result ≡ Err (StageFault.Damaged p)
+            → (p ≡ page) × (IsTrue (S.tells self.old.stage) → S.map self.old.stage page ≡ None) }
+        ensures chain { OnOk result (IsTrue (S.tells self.old.stage) → S.free_in_order self.old.stage
+            → S.chain self.new.stage ≡ page ∷ S.chain self.old.stage) }
+        ensures chain_err { OnErr result (IsTrue (S.tells self.old.stage) → S.chain self.new.stage ≡ S.chain self.old.stage) }
+        ensures changes { Changes ⟦<FailingStage<S> as Pages>⟧ 0 self.old self.new result }
+    {
         if fails(&mut self.calls_left) {
             self.faults = raised(self.faults);
             return Err(StageFault::Disk);

@@ -1,5 +1,6 @@
 //! A stage in memory.
-ghost use Rattle.std.specs.Prelude.{◌≡◌, ◌+◌, ◌-◌, ◌≤◌, ◌<◌, ◌⊎◌, ◌++◌, ◌∷◌, [], true, length, reverse, IsTrue, IfOk, OnOk, OnErr, IsSome, None, Err, slice_set, option_copied, refl};
+ghost use Rattle.std.specs.Prelude.{◌≡◌, ◌+◌, ◌-◌, ◌≤◌, ◌<◌, ◌⊎◌, ◌++◌, ◌∷◌, [], true, length, reverse, IsTrue, IfOk, OnOk, OnErr, IsSome, Some, None, Err, slice_set, option_copied, refl};
+ghost use Rattle.counts.specs.Count.{raised as one_more};
 ghost use Rattle.page_ports.specs.Kept.{freed_bytes, kept_of, map_of};
 ghost use Rattle.page_ports.specs.Pages.{blank_bytes, put_page, remove_page};
 ghost use Rattle.page_ports.specs.Spare.{are_spare};
@@ -112,6 +113,8 @@ fn free_page() -> Page
 }
 
 impl Pages for MemStage {
+    ghost use Rattle.page_ports.specs.MemStage.{get_count, page_map};
+
     ghost tells = { λ _. true };
 
     ghost map = { λ stage. map_of (kept_of stage.pages.items) };
@@ -133,7 +136,16 @@ impl Pages for MemStage {
 
     ghost base = { λ _. tt };
 
-    fn get(&mut self, page: u64, buf: &mut Page) -> Result<(), PageFault> {
+    fn get(&mut self, page: u64, buf: &mut Page) -> Result<(), PageFault>
+        ensures bytes { OnOk result (page_map self.old page ≡ Some buf.new) }
+        ensures damaged { OnErr result ((result ≡ Err (PageFault.Damaged page)) × (page_map self.old page ≡ None)) }
+        // Each get counts, also one that is refused.
+        ensures gets { get_count self.new ≡ one_more (get_count self.old) }
+        ensures never_falls { get_count self.old ≤ get_count self.new }
+        ensures pages { self.new.pages ≡ self.old.pages }
+        ensures freed { self.new.freed ≡ self.old.freed }
+        ensures limit { self.new.limit ≡ self.old.limit }
+    {
         self.gets = raised(self.gets);
         match page_in(&self.pages, page) {
             Some(kept) => {

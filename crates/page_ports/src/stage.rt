@@ -3,7 +3,6 @@ ghost use Rattle.std.specs.Prelude.{◌≡◌, ◌≢◌, ◌+◌, ◌≤◌, �
 ghost use Rattle.page_ports.specs.Calls.{Changes};
 ghost use Rattle.page_ports.specs.Chain.{TakesFirst};
 ghost use Rattle.page_ports.specs.Pages.{put_page, remove_page, blank_bytes};
-ghost use Rattle.page_ports.specs.declared.page.TheConstants.{FREE_PAGE};
 
 use crate::{Page, Pages, StageFault};
 
@@ -37,7 +36,7 @@ pub trait Stage: Pages {
     /// `Damaged` carries this page, and comes only where it is not in the map. `PageLimit` never comes.
     fn put(&mut self, page: u64, buf: &Page) -> Result<(), StageFault>
         requires in_map { IsTrue (Self.tells self.old) → IsSome (Self.map self.old page) }
-        requires kind { slice_index buf.now 0 ≢ FREE_PAGE }
+        requires kind { slice_index buf.now 0 ≢ 9 }
         ensures ok { OnOk result (IsTrue (Self.tells self.old) → Self.map self.new ≡ put_page (Self.map self.old) page buf.now) }
         ensures err { OnErr result (IsTrue (Self.tells self.old) → Self.map self.new ≡ Self.map self.old) }
         ensures damaged { (p : ℕ) → result ≡ Err (StageFault.Damaged p)
