@@ -1,5 +1,5 @@
 -- What a space and a stage show.
-use Rattle.std.specs.Prelude.{ℕ, List, Result, Ok, Err}
+use Rattle.std.specs.Prelude.{ℕ, List, length, Result, Ok, Err}
 use Rattle.bw_types.specs.declared.params.Params.{Params}
 use Rattle.page_ports.specs.Pages.{PageMap}
 use Rattle.page_disk.specs.declared.disk.Disk.{Ghosts}
@@ -66,6 +66,10 @@ module _ {D : Type 0} {g : Ghosts D} where
   -- its images, which a commit writes
   abbrev pub staged_images : Staged D g → ImageList
   staged_images staged = image_list staged.images
+
+  -- how many images it has
+  abbrev pub image_count : Staged D g → ℕ
+  image_count staged = length (staged_images staged)
 
   -- the bytes at each page: the image where there is one, and else as the disk has it
   abbrev pub staged_bytes : Staged D g → PageBytes

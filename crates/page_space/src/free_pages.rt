@@ -3,7 +3,7 @@ ghost use Rattle.std.specs.Prelude.{◌≡◌, ◌≢◌, ◌⊎◌, ◌+◌, �
 ghost use Rattle.page_ports.specs.Calls.{Changes, OnlyReads};
 ghost use Rattle.page_ports.specs.Chain.{TakesFirst};
 ghost use Rattle.page_ports.specs.Pages.{put_page, remove_page, blank_bytes};
-ghost use Rattle.page_layout.specs.FreePage.{IsTyped, next_fits};
+ghost use Rattle.page_layout.specs.FreePage.{IsTyped, free_page_page, next_fits};
 ghost use Rattle.page_layout.specs.declared.free_page.FreePage.{FreePage};
 ghost use Rattle.page_ports.specs.declared.page.TheConstants.{FREE_PAGE};
 ghost use Rattle.page_space.specs.Bytes.{bytes_with};
@@ -25,7 +25,7 @@ struct Choice {
 }
 
 impl<D: Disk> Staged<D> {
-    ghost use Rattle.page_space.specs.Shown.{base_of, disk_under, staged_meta, staged_bytes, staged_chain, staged_map, IsStagedInOrder};
+    ghost use Rattle.page_space.specs.Shown.{base_of, disk_under, staged_meta, staged_bytes, staged_chain, staged_map, image_count, IsStagedInOrder};
 
     // The page that a free page names as the next. Damaged comes where this is none.
     fn next_free(&mut self, page: u64) -> Result<u64, PageFault>
@@ -62,6 +62,8 @@ impl<D: Disk> Staged<D> {
             → IfOk result (λ next. (next.page ≡ (staged_meta self.old).free) × (next.allotted ≡ (staged_meta self.old).allotted)) }
         ensures chain_end { (staged_meta self.old).free ≡ 0
             → IfOk result (λ next. (next.page ≡ (staged_meta self.old).allotted) × (next.allotted ≡ (staged_meta self.old).allotted + 1) × (next.free ≡ 0)) }
+        ensures leads { (staged_meta self.old).free ≢ 0 → IfOk result (λ next. IsTrue (D.tells (disk_under self.old))
+            → LeadsOn (staged_bytes self.old) (staged_meta self.old).allotted next.page (record { next = next.free })) }
         ensures takes { IfOk result (λ next. IsTrue (D.tells (disk_under self.old)) → IsStagedInOrder self.old
             → TakesFirst (staged_chain self.old) next.page (chain_from (bytes_with (staged_bytes self.old) next.page blank_bytes) next.allotted next.free)
             (staged_meta self.old).allotted next.allotted) }
@@ -116,6 +118,11 @@ impl<D: Disk> Staged<D> {
             → IfOk result (λ page. (page ≡ (staged_meta self.old).free) × ((staged_meta self.new).allotted ≡ (staged_meta self.old).allotted)) }
         ensures no_first { (staged_meta self.old).free ≡ 0
             → IfOk result (λ page. (page ≡ (staged_meta self.old).allotted) × ((staged_meta self.new).allotted ≡ (staged_meta self.old).allotted + 1)) }
+        // The first free page is then the one that it names.
+        ensures leads { (staged_meta self.old).free ≢ 0 → IfOk result (λ page. IsTrue (D.tells (disk_under self.old))
+            → LeadsOn (staged_bytes self.old) (staged_meta self.old).allotted page (record { next = (staged_meta self.new).free })) }
+        ensures none_left { (staged_meta self.old).free ≡ 0 → OnOk result ((staged_meta self.new).free ≡ 0) }
+        ensures bytes { IfOk result (λ page. staged_bytes self.new ≡ bytes_with (staged_bytes self.old) page blank_bytes) }
         ensures err { OnErr result (staged_meta self.new ≡ staged_meta self.old) }
         ensures err_bytes { OnErr result (staged_bytes self.new ≡ staged_bytes self.old) }
         ensures page_limit { (n : ℕ) → result ≡ Err (StageFault.PageLimit n) → (staged_meta self.old).free ≡ 0 }
@@ -125,6 +132,7 @@ impl<D: Disk> Staged<D> {
             × (IsTrue (D.tells (disk_under self.old)) → ¬ IsStagedInOrder self.old) }
         ensures damaged_first { (p : ℕ) → result ≡ Err (StageFault.Damaged p) → IsTrue (D.tells (disk_under self.old)) → (free : FreePage)
             → LeadsOn (staged_bytes self.old) (staged_meta self.old).allotted (staged_meta self.old).free free → ⊥ }
+        ensures images { image_count self.new ≤ image_count self.old + 1 }
         ensures changes { Changes ⟦<Staged<D> as Pages>⟧ 1 self.old self.new result }
     {
         let next = self.next_page()?;
@@ -154,10 +162,14 @@ impl<D: Disk> Staged<D> {
         ensures chain { OnOk result (IsTrue (D.tells (disk_under self.old)) → IsStagedInOrder self.old
             → staged_chain self.new ≡ page ∷ staged_chain self.old) }
         ensures first { OnOk result ((staged_meta self.new).free ≡ page) }
+        // So it is where the chain is not in order, too: the page names what was the first free page.
+        ensures bytes { OnOk result (staged_bytes self.new
+            ≡ bytes_with (staged_bytes self.old) page (free_page_page (record { next = (staged_meta self.old).free }))) }
         ensures err { OnErr result (staged_meta self.new ≡ staged_meta self.old) }
         ensures err_bytes { OnErr result (staged_bytes self.new ≡ staged_bytes self.old) }
         ensures refusals { OnErr result ((result ≡ Err StageFault.NoMemory) ⊎ (result ≡ Err (StageFault.Damaged page))) }
         ensures damaged { result ≡ Err (StageFault.Damaged page) → IsTrue (D.tells (disk_under self.old)) → staged_map self.old page ≡ None }
+        ensures images { image_count self.new ≤ image_count self.old + 1 }
         ensures disk { disk_under self.new ≡ disk_under self.old }
         ensures changes { Changes ⟦<Staged<D> as Pages>⟧ 0 self.old self.new result }
     {
@@ -185,6 +197,7 @@ impl<D: Disk> Staged<D> {
         ensures damaged { result ≡ Err (StageFault.Damaged page) → IsTrue (D.tells (disk_under self.old)) → staged_map self.old page ≡ None }
         ensures meta { staged_meta self.new ≡ staged_meta self.old }
         ensures chain { IsTrue (D.tells (disk_under self.old)) → staged_chain self.new ≡ staged_chain self.old }
+        ensures images { image_count self.new ≤ image_count self.old + 1 }
         ensures disk { disk_under self.new ≡ disk_under self.old }
         ensures changes { Changes ⟦<Staged<D> as Pages>⟧ 0 self.old self.new result }
     {

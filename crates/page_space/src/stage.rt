@@ -1,5 +1,6 @@
 //! A stage on a space as a stage of pages.
 ghost use Rattle.std.specs.Prelude.{◌≡◌, ◌≢◌, ◌⊎◌, ◌+◌, ◌≤◌, ◌<◌, ℕ, List, Some, None, Ok, Err, IsTrue, IsSome, OnOk, OnErr, IfOk};
+ghost use Rattle.page_ports.specs.Calls.{OnlyReads};
 ghost use Rattle.page_ports.specs.Pages.{put_page, remove_page, blank_bytes};
 ghost use Rattle.page_space.specs.Begun.{Begun};
 
@@ -8,6 +9,7 @@ use page_disk::Disk;
 use page_ports::{Page, PageFault, Pages, Stage, StageFault};
 
 impl<D: Disk> Pages for Staged<D> {
+    ghost use Rattle.page_space.specs.Calls.{KeepsChanges};
     ghost use Rattle.page_space.specs.Shown.{base_of, disk_under, staged_map, staged_chain, IsStagedInOrder};
 
     ghost tells = { λ staged. D.tells (disk_under staged) };
@@ -30,7 +32,14 @@ impl<D: Disk> Pages for Staged<D> {
 
     ghost base = { λ staged. base_of staged };
 
-    fn get(&mut self, page: u64, buf: &mut Page) -> Result<(), PageFault> {
+    fn get(&mut self, page: u64, buf: &mut Page) -> Result<(), PageFault>
+        ensures bytes { OnOk result (IsTrue (D.tells (disk_under self.old)) → staged_map self.old page ≡ Some buf.new) }
+        ensures damaged { (p : ℕ) → result ≡ Err (PageFault.Damaged p)
+            → (p ≡ page) × (IsTrue (D.tells (disk_under self.old)) → staged_map self.old page ≡ None) }
+        ensures reads { OnlyReads ⟦<Staged<D> as Pages>⟧ 1 self.old self.new result }
+        // No image is made.
+        ensures keeps { KeepsChanges self.old self.new }
+    {
         self.get_page(page, buf)
     }
 }

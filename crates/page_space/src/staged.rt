@@ -32,7 +32,7 @@ pub struct Staged<D: Disk> {
 }
 
 impl<D: Disk> Space<D> {
-    ghost use Rattle.page_space.specs.Shown.{disk_of, meta_of, begun_of, map_of, chain_of, IsInOrder, base_of, disk_under, staged_meta, staged_map, staged_chain, IsStagedInOrder};
+    ghost use Rattle.page_space.specs.Shown.{disk_of, meta_of, begun_of, map_of, chain_of, IsInOrder, base_of, disk_under, staged_meta, staged_map, staged_chain, image_count, IsStagedInOrder};
 
     /// Begins a stage on the space, which as yet changes nothing.
     pub fn begin(self) -> Staged<D>
@@ -42,6 +42,7 @@ impl<D: Disk> Space<D> {
         ensures map { staged_map result ≡ map_of self }
         ensures chain { staged_chain result ≡ chain_of self }
         ensures in_order { IsInOrder self → IsStagedInOrder result }
+        ensures images { image_count result ≡ 0 }
         ensures roots { AreRoots (base_of result).params (base_of result).meta }
     {
         Staged {
@@ -54,7 +55,7 @@ impl<D: Disk> Space<D> {
 
 impl<D: Disk> Staged<D> {
     ghost use Rattle.page_space.specs.Calls.{KeepsChanges};
-    ghost use Rattle.page_space.specs.Shown.{disk_of, begun_of, base_of, disk_under, staged_meta, staged_bytes, staged_map, staged_chain, IsStagedInOrder, IsMetaSet};
+    ghost use Rattle.page_space.specs.Shown.{disk_of, begun_of, base_of, disk_under, staged_meta, staged_bytes, staged_map, staged_chain, image_count, IsStagedInOrder, IsMetaSet};
 
     /// Reads a page, in use or not: its image where there is one, and else as the disk has it.
     pub(crate) fn read(&mut self, page: u64, buf: &mut Page) -> Result<(), PageFault>
@@ -101,6 +102,7 @@ impl<D: Disk> Staged<D> {
         ensures err { OnErr result (image_map self.new.images ≡ image_map self.old.images) }
         ensures stays { OnErr result (WentOn ⟦<Staged<D> as Pages>⟧ 0 self.old self.new) }
         ensures bytes { OnOk result (staged_bytes self.new ≡ bytes_with (staged_bytes self.old) page image.now) }
+        ensures images { image_count self.new ≤ image_count self.old + 1 }
         ensures space { self.new.space ≡ self.old.space }
         ensures meta { staged_meta self.new ≡ staged_meta self.old }
     {
@@ -119,6 +121,7 @@ impl<D: Disk> Staged<D> {
         ensures map { staged_map self.new ≡ staged_map self.old }
         ensures chain { staged_chain self.new ≡ staged_chain self.old }
         ensures in_order { IsStagedInOrder self.old → IsStagedInOrder self.new }
+        ensures images { image_count self.new ≤ image_count self.old + 1 }
         ensures base { base_of self.new ≡ base_of self.old }
         ensures disk { disk_under self.new ≡ disk_under self.old }
     {

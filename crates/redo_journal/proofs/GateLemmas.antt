@@ -1,5 +1,5 @@
 -- A gate that was written.
-use Rattle.redo_journal.proofs.Common.{◌≡◌, ℕ, ◌≤◌, Bool, true, false, List, ◌∙◌, ap, refl, length, arith, slice_index, ◌==◌, Pages, Journal, PageList, Image, area_of, with_area, written_at, is_open, IsCreated, HasIdleJournal, IsShut, IsWritten}
+use Rattle.redo_journal.proofs.Common.{◌≡◌, ℕ, ◌≤◌, Bool, true, false, List, ◌∙◌, ap, refl, length, arith, slice_index, ◌==◌, Pages, Journal, PageList, Image, page_at, area_of, with_area, written_at, is_open, IsCreated, HasIdleJournal, IsShut, IsWritten}
 use Rattle.page_ports.specs.Pages.{blank_bytes}
 use Rattle.redo_journal.specs.Gates.{gate_bytes}
 use Rattle.redo_journal.proofs.PlacingLemmas.{written-at, length-written, written-other}
@@ -15,6 +15,11 @@ written_gate pages b = (
   omega (arith, length-written pages 0 (gate_bytes b) (omega arith)),
   ap (λ bytes. slice_index bytes 0 == 1) (written-at pages 0 (gate_bytes b) (omega arith)) ∙ says b,
 )
+
+-- the gate that was written, once it was synced, to its last byte
+pub gate_is : (pages : PageList) {between after : PageList} {bytes : List ℕ} (opens : Bool) → bytes ≡ gate_bytes opens
+    → between ≡ written_at pages 0 bytes → after ≡ between → page_at after 0 ≡ gate_bytes opens
+gate_is pages opens gate wrote same = rw (same, wrote, gate) (written-at pages 0 (gate_bytes opens) (omega arith))
 
 -- the image after a gate's write and a sync
 pub idle_after : (before : Image) {between after : Image} {bytes : List ℕ} → bytes ≡ gate_bytes false

@@ -1,6 +1,8 @@
 -- The images in their boxes, as a map, and as the list of its entries.
-use Rattle.redo_journal.proofs.Common.{◌≡◌, ℕ, ◌-◌, ◌<◌, ◌≤◌, subst, inr, ◌⊎◌, [], ◌∷◌, List, length, arith, IsSome, AllByRecursion, IsStrictlySortedBy, nat_cmp, Less, common_steps, sorted_head, sorted_tail, PageMap, Images, image_map, image_list, PageList, ImageList, homes_of, map_of, Ascend, AreInReach, ArePlaced, ap, refl, true, None, Box, IsTrue, nat_lt, list_all, and_parts, unboxed, in_box, ascends}
+use Rattle.redo_journal.proofs.Common.{◌≡◌, ℕ, ◌-◌, ◌<◌, ◌≤◌, subst, inr, ◌⊎◌, [], ◌∷◌, List, length, arith, IsSome, AllByRecursion, IsStrictlySortedBy, nat_cmp, Less, common_steps, sorted_head, sorted_tail, PageMap, Images, image_map, image_list, PageList, ImageList, homes_of, map_of, Ascend, AreInReach, ArePlaced, ap, refl, ◌+◌, true, None, Box, IsTrue, nat_lt, list_all, All, and_parts, unboxed, in_box, ascends}
 use Rattle.redo_journal.proofs.PlacingLemmas.{none_below, among_first, among_rest}
+use Rattle.std.proofs.lemmas.Bool.{ltb-true}
+use Rattle.std.proofs.lemmas.List.Elements.{All-nil, All-cons}
 use Rattle.std.specs.Map.{lookup, keys_of}
 use Rattle.std.specs.BTreeMap.{is_at}
 use Rattle.std.specs.declared.alloc.Global.{Global}
@@ -36,9 +38,24 @@ pub once_in_boxes : {images rest : BoxList} {image : ℕ × Box (List ℕ) Globa
     → IsTrue (ascends (homes_of (unboxed images))) → map_of (unboxed rest) image.0 ≡ None
 once_in_boxes {rest = rest} {image = image} is ascend = none_of_above image.0 (unboxed rest) (and_parts _ _ (rw is at ascend)).0
 
+-- What ascends is above the first of it.
+above_all : (home : ℕ) (homes : List ℕ) → list_all (λ next. nat_lt home next) homes ≡ true → All (λ next. home < next) homes
+above_all home [] above = All-nil (λ next. home < next)
+above_all home (next ∷ homes) above =
+    let parts = and_parts (nat_lt home next) (list_all (λ x. nat_lt home x) homes) above in
+    All-cons (λ x. home < x) next homes (ltb-true home next parts.0) (above_all home homes parts.1)
+
+pub above_in_boxes : {images rest : BoxList} {image : ℕ × Box (List ℕ) Global} → images ≡ image ∷ rest
+    → IsTrue (ascends (homes_of (unboxed images))) → All (λ home. image.0 < home) (homes_of (unboxed rest))
+above_in_boxes {rest = rest} {image = image} is ascend = above_all image.0 (homes_of (unboxed rest)) (and_parts _ _ (rw is at ascend)).0
+
 pub length-unboxed : (images : BoxList) → length (unboxed images) ≡ length images
 length-unboxed [] = refl
 length-unboxed (image ∷ images) = omega (arith, length-unboxed images)
+
+-- There is at most one image more where there is at most one box more.
+pub one_more : (old new : BoxList) → length new ≤ length old + 1 → length (unboxed new) ≤ length (unboxed old) + 1
+one_more old new more = omega (arith, length-unboxed old, length-unboxed new)
 
 pub image_map-is : (images : Images) → image_map images ≡ map_of (image_list images)
 image_map-is images = λ i page. map_in_boxes images.pages.entries page i

@@ -2,10 +2,10 @@
 ghost use Rattle.std.specs.Prelude.{◌≡◌, ◌⊎◌, ◌≤◌, ◌+◌, ◌-◌, ◌<◌, ◌^◌, ℕ, false, IsTrue, IsSome, OnOk, length, max, take, drop};
 ghost use Rattle.page_layout.specs.Head.{IsTyped};
 ghost use Rattle.page_disk.specs.Calls.{Writes, any_error};
-ghost use Rattle.page_disk.specs.Image.{Image, PageList};
+ghost use Rattle.page_disk.specs.Image.{Image, PageList, page_at};
 ghost use Rattle.page_disk.specs.Since.{LeavesNow, LeavesOnly};
 ghost use Rattle.redo_journal.specs.Committing.{BeforeOrAfter, HasGate, IsArmed, IsHeld};
-ghost use Rattle.redo_journal.specs.Gates.{gate_of};
+ghost use Rattle.redo_journal.specs.Gates.{gate_bytes, gate_of};
 ghost use Rattle.redo_journal.specs.declared.gate.Gate.TheVariants.{Idle};
 ghost use Rattle.redo_journal.specs.Images.{coming, image_list, image_map};
 ghost use Rattle.redo_journal.specs.Lengths.{journal_length};
@@ -170,6 +170,7 @@ fn bring_home<D: Disk>(disk: &mut D, images: &Images) -> Result<(), Failed>
     ensures placed { OnOk result (IsTrue (D.tells disk.old)
         → ArePlaced (map_of (image_list images.now)) (D.image disk.old).pages (D.image disk.new).pages) }
     ensures idle { OnOk result (IsTrue (D.tells disk.old) → gate_of (D.image disk.new) ≡ Idle) }
+    ensures gate { OnOk result (IsTrue (D.tells disk.old) → page_at (D.image disk.new).journal 0 ≡ gate_bytes false) }
     ensures body { OnOk result (IsTrue (D.tells disk.old) → SameBody (D.image disk.old).journal (D.image disk.new).journal) }
     ensures settled { OnOk result (LeavesNow (D.moments disk.new) (D.image disk.new)) }
     ensures any_moment { (after : PageList) → ArePlaced (map_of (image_list images.now)) (D.image disk.old).pages after
@@ -195,6 +196,8 @@ pub fn commit<D: Disk>(disk: &mut D, images: &Images) -> Result<(), Failed>
     ensures placed { OnOk result (IsTrue (D.tells disk.old)
         → ArePlaced (image_map images.now) (D.image disk.old).pages (D.image disk.new).pages) }
     ensures idle { OnOk result (IsTrue (D.tells disk.old) → gate_of (D.image disk.new) ≡ Idle) }
+    // The gate is closed, to its last byte.
+    ensures gate { OnOk result (IsTrue (D.tells disk.old) → page_at (D.image disk.new).journal 0 ≡ gate_bytes false) }
     // The journal grows no longer than its images need.
     ensures journal { OnOk result (IsTrue (D.tells disk.old) → length (D.image disk.new).journal
         ≡ max (length (D.image disk.old).journal) (journal_length (length (image_list images.now)))) }

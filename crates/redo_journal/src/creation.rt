@@ -3,7 +3,7 @@ ghost use Rattle.std.specs.Prelude.{◌≡◌, ◌⊎◌, ◌≤◌, ℕ, List, 
 ghost use Rattle.page_disk.specs.Calls.{Writes, any_error};
 ghost use Rattle.page_disk.specs.Image.{page_at};
 ghost use Rattle.page_disk.specs.Since.{LeavesNow, LeavesOnly};
-ghost use Rattle.redo_journal.specs.Gates.{IsCreated, is_empty, is_open};
+ghost use Rattle.redo_journal.specs.Gates.{IsCreated, gate_bytes, is_empty, is_open};
 ghost use Rattle.redo_journal.specs.Phases.{HasIdleJournal, IsEmptyOrCreated, IsShut, IsWritten, SettledAt};
 
 use crate::gate::gate_page;
@@ -15,6 +15,7 @@ fn close_journal<D: Disk>(disk: &mut D) -> Result<(), Failed>
     requires empty { IsTrue (D.tells disk.old) → is_empty (D.image disk.old) ≡ true }
     requires settled { SettledAt (D.moments disk.old) (D.image disk.old) }
     ensures idle { OnOk result (IsTrue (D.tells disk.old) → HasIdleJournal (D.image disk.new)) }
+    ensures gate { OnOk result (IsTrue (D.tells disk.old) → page_at (D.image disk.new).journal 0 ≡ gate_bytes false) }
     ensures length { OnOk result (IsTrue (D.tells disk.old) → length (D.image disk.new).journal ≡ max 1 (length (D.image disk.old).journal)) }
     ensures pages { OnOk result (IsTrue (D.tells disk.old) → (D.image disk.new).pages ≡ (D.image disk.old).pages) }
     ensures settled { OnOk result (SettledAt (D.moments disk.new) (D.image disk.new)) }
@@ -65,6 +66,7 @@ fn prepare<D: Disk>(disk: &mut D, superblock: &Page, meta: &Page) -> Result<(), 
     requires blank { IsTrue (D.tells disk.old) → is_empty (D.image disk.old) ≡ true }
     ensures written { OnOk result (IsTrue (D.tells disk.old) → IsWritten superblock.now meta.now (D.image disk.new)) }
     ensures idle { OnOk result (IsTrue (D.tells disk.old) → HasIdleJournal (D.image disk.new)) }
+    ensures gate { OnOk result (IsTrue (D.tells disk.old) → page_at (D.image disk.new).journal 0 ≡ gate_bytes false) }
     ensures lengths { OnOk result (IsTrue (D.tells disk.old) → (length (D.image disk.new).pages ≡ max 3 (length (D.image disk.old).pages))
         × (length (D.image disk.new).journal ≡ max 1 (length (D.image disk.old).journal))) }
     ensures settled { OnOk result (SettledAt (D.moments disk.new) (D.image disk.new)) }
@@ -85,6 +87,7 @@ fn open_creation<D: Disk>(disk: &mut D) -> Result<(), Failed>
     requires settled { SettledAt (D.moments disk.old) (D.image disk.old) }
     ensures created { OnOk result (IsTrue (D.tells disk.old) → (superblock : List ℕ) → (meta : List ℕ)
         → IsWritten superblock meta (D.image disk.old) → IsCreated superblock meta (D.image disk.new)) }
+    ensures gate { OnOk result (IsTrue (D.tells disk.old) → page_at (D.image disk.new).pages 0 ≡ gate_bytes true) }
     ensures length { OnOk result (IsTrue (D.tells disk.old) → length (D.image disk.new).pages ≡ length (D.image disk.old).pages) }
     ensures journal { OnOk result (IsTrue (D.tells disk.old) → (D.image disk.new).journal ≡ (D.image disk.old).journal) }
     ensures settled { OnOk result (LeavesNow (D.moments disk.new) (D.image disk.new)) }
@@ -104,6 +107,9 @@ pub fn create<D: Disk>(disk: &mut D, superblock: &Page, meta: &Page) -> Result<(
     requires blank { IsTrue (D.tells disk.old) → is_empty (D.image disk.old) ≡ true }
     requires settled { LeavesNow (D.moments disk.old) (D.image disk.old) }
     ensures created { OnOk result (IsTrue (D.tells disk.old) → IsCreated superblock.now meta.now (D.image disk.new)) }
+    // The gates are these bytes to the last.
+    ensures gate { OnOk result (IsTrue (D.tells disk.old) → page_at (D.image disk.new).pages 0 ≡ gate_bytes true) }
+    ensures journal_gate { OnOk result (IsTrue (D.tells disk.old) → page_at (D.image disk.new).journal 0 ≡ gate_bytes false) }
     // Neither area grows further than the new pages need.
     ensures lengths { OnOk result (IsTrue (D.tells disk.old) → (length (D.image disk.new).pages ≡ max 3 (length (D.image disk.old).pages))
         × (length (D.image disk.new).journal ≡ max 1 (length (D.image disk.old).journal))) }

@@ -1,5 +1,5 @@
 //! Images of pages that are to be written.
-ghost use Rattle.std.specs.Prelude.{◌≡◌, ◌^◌, ◌<◌, OnOk, OnErr, length, option_copied};
+ghost use Rattle.std.specs.Prelude.{◌≡◌, ◌+◌, ◌^◌, ◌<◌, ◌≤◌, [], OnOk, OnErr, length, option_copied};
 ghost use Rattle.page_ports.specs.Pages.{PageMap, empty_map, put_page};
 ghost use Rattle.redo_journal.specs.Placing.{map_of};
 
@@ -24,7 +24,8 @@ impl Images {
 
     /// No images.
     pub fn new(alloc: Global) -> Images
-        ensures { image_map result ≡ empty_map }
+        ensures map { image_map result ≡ empty_map }
+        ensures none { image_list result ≡ [] }
     {
         Images {
             alloc,
@@ -33,9 +34,11 @@ impl Images {
     }
 
     /// Puts an image in the place of the one before. Where there is no memory all is as before.
+    #[tactic(auto, using(crate::proofs::ImageLemmas::one_more))]
     pub fn put(&mut self, page: u64, buf: &Page) -> Result<(), NoMemory>
         ensures ok { OnOk result (image_map self.new ≡ put_page (image_map self.old) page buf.now) }
         ensures err { OnErr result (image_map self.new ≡ image_map self.old) }
+        ensures count { length (image_list self.new) ≤ length (image_list self.old) + 1 }
     {
         if let Some(kept) = self.pages.get_mut(&page) {
             **kept = *buf;

@@ -1,5 +1,6 @@
 //! Images one after another.
-ghost use Rattle.std.specs.Prelude.{◌≡◌, ◌∷◌, ◌+◌, [], None, IfSome, IsTrue, length};
+ghost use Rattle.std.specs.Prelude.{◌≡◌, ◌<◌, ◌∷◌, ◌+◌, [], None, IfSome, IsTrue, length};
+ghost use Rattle.std.specs.List.{All};
 ghost use Rattle.redo_journal.specs.Boxed.{ascends, unboxed};
 ghost use Rattle.redo_journal.specs.Placing.{homes_of, map_of};
 
@@ -20,6 +21,8 @@ impl<'a> InOrder<'a> {
     pub fn next(&mut self) -> Option<(u64, &'a Page)>
         ensures some { IfSome result (λ found. coming self.old ≡ (found.0, found.1.now) ∷ coming self.new) }
         ensures none { result ≡ None → coming self.old ≡ [] }
+        // The pages that are still to come are above it.
+        ensures ascends { IfSome result (λ found. All (λ home. found.0 < home) (homes_of (coming self.new))) }
         // No page comes twice.
         ensures once { IfSome result (λ found. map_of (coming self.new) found.0 ≡ None) }
     {

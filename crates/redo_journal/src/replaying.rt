@@ -1,14 +1,14 @@
 //! A replay: the images of an open journal are written home.
-ghost use Rattle.std.specs.Prelude.{◌≡◌, ◌≤◌, ◌+◌, ◌-◌, ◌*◌, ◌<◌, ◌^◌, ◌↔◌, ℕ, min, true, IsTrue, IsSome, IfOk, OnOk, length};
+ghost use Rattle.std.specs.Prelude.{◌≡◌, ◌≤◌, ◌+◌, ◌-◌, ◌*◌, ◌<◌, ◌^◌, ◌↔◌, ℕ, min, true, false, IsTrue, IsSome, IfOk, OnOk, length};
 ghost use Rattle.std.specs.List.{All};
 ghost use Rattle.page_layout.specs.declared.journal_head.JournalHead.{JournalHead};
 ghost use Rattle.redo_journal.specs.declared.replaying.JournalFault.TheVariants.{Disk};
 ghost use Rattle.page_ports.specs.Pages.{PageMap};
 ghost use Rattle.page_disk.specs.Calls.{OnlyReads, Writes, WritesAsTold};
-ghost use Rattle.page_disk.specs.Image.{Image, PageList};
+ghost use Rattle.page_disk.specs.Image.{Image, PageList, page_at};
 ghost use Rattle.page_disk.specs.Since.{LeavesNow, LeavesOnly};
 ghost use Rattle.redo_journal.specs.Committing.{HasGate};
-ghost use Rattle.redo_journal.specs.Gates.{gate_of};
+ghost use Rattle.redo_journal.specs.Gates.{gate_bytes, gate_of};
 ghost use Rattle.redo_journal.specs.declared.gate.Gate.TheVariants.{Armed, Idle};
 ghost use Rattle.redo_journal.specs.Pending.{AtNewest, HomesPend, IsInPlacing, SameBody};
 ghost use Rattle.redo_journal.specs.Placing.{AreInReach, ArePlaced, AreWritable, ImageList, map_of, with_images};
@@ -240,6 +240,7 @@ fn bring_back<D: Disk>(disk: &mut D, len: u64, end: u64) -> Result<(), JournalFa
     requires settled { LeavesNow (D.moments disk.old) (D.image disk.old) }
     ensures placed { OnOk result (IsTrue (D.tells disk.old) → (all : ImageList) → HoldsImages (D.image disk.old) all
         → ArePlaced (map_of all) (D.image disk.old).pages (D.image disk.new).pages × (gate_of (D.image disk.new) ≡ Idle)) }
+    ensures gate { OnOk result (IsTrue (D.tells disk.old) → page_at (D.image disk.new).journal 0 ≡ gate_bytes false) }
     ensures body { OnOk result (IsTrue (D.tells disk.old) → SameBody (D.image disk.old).journal (D.image disk.new).journal) }
     ensures settled { OnOk result (LeavesNow (D.moments disk.new) (D.image disk.new)) }
     ensures any_moment { (pages : PageList) → SettlesTo (D.image disk.old) pages
@@ -262,6 +263,8 @@ pub fn replay<D: Disk>(disk: &mut D) -> Result<u64, JournalFault>
     requires armed { IsTrue (D.tells disk.old) → gate_of (D.image disk.old) ≡ Armed }
     requires settled { LeavesNow (D.moments disk.old) (D.image disk.old) }
     ensures ok { IfOk result (λ count. IsTrue (D.tells disk.old) → IsReplayed (D.image disk.old) count (D.image disk.new)) }
+    // The gate is closed, to its last byte.
+    ensures gate { OnOk result (IsTrue (D.tells disk.old) → page_at (D.image disk.new).journal 0 ≡ gate_bytes false) }
     ensures settled { OnOk result (LeavesNow (D.moments disk.new) (D.image disk.new)) }
     // The page is the first that breaks the rules, and nothing was written.
     ensures damaged { OnDamaged result (λ page. IsTrue (D.tells disk.old) → BreaksRulesAt (D.image disk.old) page) }

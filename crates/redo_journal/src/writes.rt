@@ -3,9 +3,9 @@ ghost use Rattle.std.specs.Prelude.{◌≡◌, ◌≤◌, ◌+◌, Bool, IsTrue,
 ghost use Rattle.page_ports.specs.Pages.{PageMap};
 ghost use Rattle.page_disk.specs.declared.disk.Area.TheVariants.{Pages, Journal};
 ghost use Rattle.page_disk.specs.Calls.{Writes, any_error};
-ghost use Rattle.page_disk.specs.Image.{Image, with_area, written_at};
+ghost use Rattle.page_disk.specs.Image.{Image, page_at, with_area, written_at};
 ghost use Rattle.page_disk.specs.Since.{LeavesNow, LeavesOnly};
-ghost use Rattle.redo_journal.specs.Gates.{is_open};
+ghost use Rattle.redo_journal.specs.Gates.{gate_bytes, is_open};
 ghost use Rattle.redo_journal.specs.Pending.{AtNewest, BodyPends, DiffersInGate, HomesPend, IsInPlacing, KeepsGate};
 
 use crate::gate::gate_page;
@@ -17,6 +17,7 @@ pub(crate) fn write_gate<D: Disk>(disk: &mut D, opens: bool) -> Result<(), Faile
     requires has_gate { IsTrue (D.tells disk.old) → 1 ≤ length (D.image disk.old).journal }
     requires settled { LeavesNow (D.moments disk.old) (D.image disk.old) }
     ensures gate { OnOk result (IsTrue (D.tells disk.old) → is_open (D.image disk.new).journal ≡ opens) }
+    ensures bytes { OnOk result (IsTrue (D.tells disk.old) → page_at (D.image disk.new).journal 0 ≡ gate_bytes opens) }
     ensures only { OnOk result (IsTrue (D.tells disk.old) → DiffersInGate (D.image disk.old) (D.image disk.new)) }
     ensures settled { OnOk result (LeavesNow (D.moments disk.new) (D.image disk.new)) }
     ensures any_moment { LeavesOnly (DiffersInGate (D.image disk.old)) (D.moments disk.old) (D.moments disk.new) }

@@ -34,3 +34,6 @@ returns-clause-body g c =
     on_ok_weaker c.write_gate.result (λ only h.
     subst (λ j. SameBody j (g.D.Disk.image c.write_gate.new.disk).journal) (c.in_ok-write_homes.ensures.journal h)
     (only (c.write_homes.ensures.writes.tells ∙ h)).body) c.write_gate.ensures.only
+
+pub returns-clause-gate : goal.returns-clause-gate
+returns-clause-gate g c = on_ok_weaker c.write_gate.result (λ bytes h. bytes (c.write_homes.ensures.writes.tells ∙ h)) c.write_gate.ensures.bytes

@@ -37,3 +37,6 @@ returns-clause-placeable g c = λ h. images_placed c.args.images.now (g.D.Disk.i
 pub returns-clause-journal : goal.returns-clause-journal
 returns-clause-journal g c =
     on_ok_weaker c.bring_home.result (λ body h. (body (c.arm.ensures.writes.tells ∙ h)).len ∙ c.in_ok-arm.ensures.length h) c.bring_home.ensures.body
+
+pub returns-clause-gate : goal.returns-clause-gate
+returns-clause-gate g c = on_ok_weaker c.bring_home.result (λ gate h. gate (c.arm.ensures.writes.tells ∙ h)) c.bring_home.ensures.gate

@@ -1,6 +1,6 @@
-use Rattle.redo_journal.proofs.Common.{ap, length, arith, Image}
+use Rattle.redo_journal.proofs.Common.{ap, false, length, arith, Image}
 use Rattle.redo_journal.proofs.PlacingLemmas.{length-written}
-use Rattle.redo_journal.proofs.GateLemmas.{idle_after}
+use Rattle.redo_journal.proofs.GateLemmas.{gate_is, idle_after}
 use Rattle.redo_journal.proofs.creation.close_journal.Goals as goal
 
 pub returns-clause-idle : goal.returns-clause-idle
@@ -14,3 +14,7 @@ returns-clause-length g c = λ told.
       ap (λ (x : Image). length x.journal) (c.in_ok-write.ensures.ok told),
       length-written (g.D.Disk.image c.args.disk.now).journal 0 c.gate_page.result (omega arith),
     )
+
+pub returns-clause-gate : goal.returns-clause-gate
+returns-clause-gate g c = λ told. gate_is (g.D.Disk.image c.args.disk.now).journal false c.gate_page.ensures
+    (ap (λ (x : Image). x.journal) (c.in_ok-write.ensures.ok told)) (ap (λ (x : Image). x.journal) c.sync.ensures.image)

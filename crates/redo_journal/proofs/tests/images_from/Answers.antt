@@ -12,7 +12,7 @@ row_more : (map : PageMap) (from end : ℕ) (bytes : List ℕ) → from ≤ end 
 row_more map from end bytes le row = λ page. grind (arith, common_steps, row page)
 
 pub loop-page-init : goal.loop-page-init
-loop-page-init c = subst (λ (m : PageMap). HasRow m c.args.from c.args.from) (sym c.new-images.ensures) (no_row c.args.from)
+loop-page-init c = subst (λ (m : PageMap). HasRow m c.args.from c.args.from) (sym c.new-images.ensures.map) (no_row c.args.from)
 
 pub loop-page-preserved : goal.loop-page-preserved
 loop-page-preserved c =

@@ -1,5 +1,6 @@
 use Rattle.redo_journal.proofs.Common.{sym, subst, ap, ◌∙◌, inr, IsTrue, on_ok_weaker, Image, LeavesOnly-then, is_open, DiffersInGate}
 use Rattle.redo_journal.proofs.CallLemmas.{on_either}
+use Rattle.redo_journal.proofs.GateLemmas.{gate_is}
 use Rattle.redo_journal.proofs.RestLemmas.{either_first, one_sync, settled_by, left_at_gate, gate_written}
 use Rattle.redo_journal.proofs.writes.write_gate.Goals as goal
 
@@ -22,6 +23,11 @@ pub returns-clause-gate : goal.returns-clause-gate
 returns-clause-gate g c =
     on_ok_weaker c.sync.result (λ landed told. ap (λ (x : Image). is_open x.journal) c.sync.ensures.image
     ∙ (gate_written _ _ (c.requires.has_gate told) c.gate_page.ensures (c.in_ok-write.ensures.ok told)).1) c.sync.ensures.ok
+
+pub returns-clause-bytes : goal.returns-clause-bytes
+returns-clause-bytes g c =
+    on_ok_weaker c.sync.result (λ landed told. gate_is (g.D.Disk.image c.args.disk.now).journal c.args.opens c.gate_page.ensures
+    (ap (λ (x : Image). x.journal) (c.in_ok-write.ensures.ok told)) (ap (λ (x : Image). x.journal) c.sync.ensures.image)) c.sync.ensures.ok
 
 pub returns-clause-only : goal.returns-clause-only
 returns-clause-only g c =

@@ -28,15 +28,23 @@ invariant_of-self-2-clause-within g c =
     put_within c.put.result _ _ _ _ c.put.ensures.ok c.put.ensures.err c.in_ok-next.next.allotted (omega (arith, next.ends.0)) next.ends.1
     (λ p some. let within = c.next_page.new.self.within p some in (within.0, omega (arith, within.1, next.grows.0)))
 
+wrote : (g : _) (c : goal.After-self-4-1 g) → placed_at (image_map c.put.new.self) (g.D.Disk.image c.next_page.new.self.space.disk).pages
+    ≡ bytes_with (staged_bytes c.args.self.now) c.in_ok-next.next.page blank_bytes
+wrote g c =
+    let placed = on_ok c.put.result _ (cc) c.put.ensures.ok in
+    let bytes : placed_at (image_map c.put.new.self) (g.D.Disk.image c.next_page.new.self.space.disk).pages
+    ≡ bytes_with (staged_bytes c.next_page.new.self) c.in_ok-next.next.page c.blank_page.result = rw placed (placed_with _ _ _ _) in
+    cc (bytes, c.next_page.ensures.keeps.bytes)
+
+pub returns-clause-bytes : goal.returns-clause-bytes
+returns-clause-bytes g c = wrote g c
+
 put : (g : _) (c : goal.After-self-4-1 g) → IsTrue (g.D.Disk.tells c.args.self.now.space.disk)
     → BlankPut (staged_bytes c.args.self.now) (placed_at (image_map c.put.new.self) (g.D.Disk.image c.next_page.new.self.space.disk).pages)
     c.in_ok-next.next.page c.args.self.now.meta.allotted c.in_ok-next.next.allotted c.in_ok-next.next.free (staged_chain c.args.self.now) (IsStagedInOrder c.args.self.now)
 put g c told =
     let next = c.in_ok-next.ensures in
-    let wrote = on_ok c.put.result _ (cc) c.put.ensures.ok in
-    let bytes : placed_at (image_map c.put.new.self) (g.D.Disk.image c.next_page.new.self.space.disk).pages
-    ≡ bytes_with (staged_bytes c.next_page.new.self) c.in_ok-next.next.page c.blank_page.result = rw wrote (placed_with _ _ _ _) in
-    blank_put _ _ _ _ _ _ _ _ (cc (bytes, c.next_page.ensures.keeps.bytes)) next.grows.0 next.only next.ends.0 next.ends.1 (next.takes told) (next.order told)
+    blank_put _ _ _ _ _ _ _ _ (wrote g c) next.grows.0 next.only next.ends.0 next.ends.1 (next.takes told) (next.order told)
 
 pub returns-clause-ok : goal.returns-clause-ok
 returns-clause-ok g c = λ told. (c.in_ok-next.ensures.unused told, (put g c told).0)
