@@ -66,7 +66,12 @@ fn first_of(pages: &[u64], count: usize) -> &[u64] {
 // Makes a space over files, and measures commits and gets of its pages; none where a call fails.
 fn measure_files(rt: &HostRuntime, pages: &mut Vec<u64>) -> Result<Option<()>> {
     let alloc = rt.alloc();
-    let disk = FileDisk::named(rt.clone()?, "bench_space.pages", "bench_space.journal");
+    let disk = FileDisk::named(
+        alloc,
+        rt.clone()?,
+        "bench_space.pages",
+        "bench_space.journal",
+    );
     let Some(space) = make(alloc, disk) else {
         return Ok(None);
     };

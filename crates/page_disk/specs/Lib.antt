@@ -10,5 +10,6 @@ pub mod Image
 pub mod MemDisk
 pub mod Moment
 pub mod PlainDisk
+pub mod Run
 pub mod Since
 pub mod SinceLaws

@@ -11,19 +11,24 @@
 mod area_file;
 mod disk;
 mod entry;
+mod failure;
 mod file_disk;
 mod file_pages;
+#[cfg(test)]
+mod file_tests;
 mod half;
 mod laws;
 mod mem_disk;
 mod pending;
 mod plain_disk;
 mod plan;
+mod run;
 #[cfg(test)]
 mod tests;
 mod torn;
 
 pub use disk::{Area, Disk, Failed};
+pub use failure::{Failure, FileCall};
 pub use file_disk::FileDisk;
 pub use laws::crash_laws;
 pub use mem_disk::MemDisk;

@@ -1,5 +1,5 @@
 //! A disk in memory that tells its image and its counts, and keeps no record.
-ghost use Rattle.std.specs.Prelude.{◌≡◌, ◌≤◌, ◌+◌, ◌-◌, ◌^◌, ◌==◌, [], length, min, true, false, Ok, IfOk, OnOk, OnErr, is_err};
+ghost use Rattle.std.specs.Prelude.{◌≡◌, ◌<◌, ◌≤◌, ◌+◌, ◌-◌, ◌^◌, ◌==◌, [], length, min, true, false, Ok, IfOk, IsOk, OnOk, OnErr, is_err};
 ghost use Rattle.counts.specs.Count.{CountsFault, Rose};
 ghost use Rattle.page_disk.specs.Disk.{IsRead};
 ghost use Rattle.page_disk.specs.Image.{Image, area_of, with_area, written_at};
@@ -18,10 +18,13 @@ pub struct PlainDisk {
     faults: u64,
 }
 
-fn write_page(pages: &mut Vec<Page>, page: u64, buf: &Page) -> Result<(), Failed>
+/// Writes a page over one that is there, or behind the last. The latter alone may find no memory, and
+/// then the pages are as before.
+pub(crate) fn write_page(pages: &mut Vec<Page>, page: u64, buf: &Page) -> Result<(), Failed>
     requires { page ≤ length pages.old.items }
     ensures ok { OnOk result (pages.new.items ≡ written_at pages.old.items page buf.now) }
     ensures err { OnErr result (pages.new.items ≡ pages.old.items) }
+    ensures there { page < length pages.old.items → IsOk result }
 {
     let place = page as usize;
     if place == pages.len() {
@@ -126,9 +129,11 @@ impl Disk for PlainDisk {
         }
     }
 
-    // A write that fails, for want of memory alone, leaves the pages as before.
+    // A write that fails, for want of memory alone, leaves the pages as before. A page that is there is
+    // written over without memory, so that never fails.
     fn write(&mut self, area: Area, page: u64, buf: &Page) -> Result<(), Failed>
         requires { page ≤ length (area_of area (image_of self.old)) }
+        ensures there { page < length (area_of area (image_of self.old)) → IsOk result }
         ensures ok { OnOk result (image_of self.new
             ≡ with_area area (written_at (area_of area (image_of self.old)) page buf.now) (image_of self.old)) }
         ensures err { OnErr result (image_of self.new ≡ image_of self.old) }

@@ -159,14 +159,14 @@ fn add_part(rt: &HostRuntime) -> Result<usize, Fail> {
 fn files_keep_pages(rt: HostRuntime) -> Result<(), Fail> {
     let _ = fs::remove_file(&rt, PAGES);
     let _ = fs::remove_file(&rt, JOURNAL);
-    let mut disk = FileDisk::named(rt.clone()?, PAGES, JOURNAL);
+    let mut disk = FileDisk::named(rt.alloc(), rt.clone()?, PAGES, JOURNAL);
     fill_up(&mut disk)?;
     assert_eq!(rt; disk.write(Area::Pages, 3, &full(9)), Err(Failed));
     drop(disk);
     assert_eq!(rt; add_part(&rt)?, 2 * 4096);
 
     // The part doesn't count as a page, and makes way for the next one.
-    let mut disk = FileDisk::named(rt.clone()?, PAGES, JOURNAL);
+    let mut disk = FileDisk::named(rt.alloc(), rt.clone()?, PAGES, JOURNAL);
     assert_eq!(rt; shown(&mut disk), Ok(FILLED_UP));
     assert_eq!(rt; append(&mut disk, Area::Pages, 6), Ok(2));
     assert_eq!(rt; byte_of(&mut disk, Area::Pages, 2), Ok(Some(6)));
@@ -184,7 +184,7 @@ const PLACED_JOURNAL: &str = "page_disk_places.journal";
 fn files_are_read_and_written_at_any_place(rt: HostRuntime) -> Result<(), Fail> {
     let _ = fs::remove_file(&rt, PLACED_PAGES);
     let _ = fs::remove_file(&rt, PLACED_JOURNAL);
-    let mut disk = FileDisk::named(rt.clone()?, PLACED_PAGES, PLACED_JOURNAL);
+    let mut disk = FileDisk::named(rt.alloc(), rt.clone()?, PLACED_PAGES, PLACED_JOURNAL);
     fill_up(&mut disk)?;
     for (page, byte) in [(1, 2), (0, 4)] {
         assert_eq!(rt; byte_of(&mut disk, Area::Pages, page), Ok(Some(byte)));
@@ -197,7 +197,7 @@ fn files_are_read_and_written_at_any_place(rt: HostRuntime) -> Result<(), Fail> 
     }
     disk.sync()?;
     drop(disk);
-    let mut disk = FileDisk::named(rt.clone()?, PLACED_PAGES, PLACED_JOURNAL);
+    let mut disk = FileDisk::named(rt.alloc(), rt.clone()?, PLACED_PAGES, PLACED_JOURNAL);
     assert_eq!(rt;
         shown(&mut disk),
         Ok(((3, 1), [Some(6), Some(2), Some(5)], Some(3)))
