@@ -6,7 +6,8 @@ use Rattle.bw_types.specs.Depths.{AddingGrows, added_pages}
 use Rattle.bw_types.specs.declared.params.Params.{Params}
 use Rattle.poly_moments.specs.Planes.{plane_count}
 use Rattle.corner_forest.specs.Entries.{corner_count, point_count}
-use Rattle.corner_forest.specs.Enters.{entry_growth, root_growth, sum_below}
+use Rattle.dom_index.specs.Growth.{sum_below}
+use Rattle.corner_forest.specs.Enters.{entry_growth, root_growth}
 use Rattle.change_laws.specs.Growth.{most_growth}
 
 -- sums of which each part has a bound

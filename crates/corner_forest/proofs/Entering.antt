@@ -1,5 +1,5 @@
--- An entry made in one tree after another.
-use Rattle.std.proofs.Common.{◌≡◌, ℕ, suc, ◌+◌, ◌*◌, ◌^◌, ◌<◌, ◌≤◌, Bool, if◌then◌else◌, inl, inr, List, [], ◌∷◌, ◌++◌, length, sym, ap, ◌∙◌, subst, arith}
+-- A batch entered in one tree after another.
+use Rattle.std.proofs.Common.{◌≡◌, ℕ, suc, ◌+◌, ◌<◌, ◌≤◌, Bool, if◌then◌else◌, inl, inr, List, [], ◌∷◌, ◌++◌, length, sym, ap, ◌∙◌, subst, arith}
 use Rattle.std.specs.List.{All}
 use Rattle.std.proofs.lemmas.Bool.{cases_lt, lt-ltb, le-ltb}
 use Rattle.std.proofs.lemmas.List.Elements.{All-cons, All-nil, All-head, All-tail}
@@ -12,25 +12,27 @@ use Rattle.page_ports.specs.FrameLaws.{Replaces-then, Replaces-same}
 use Rattle.page_layout.specs.Footprint.{NamesNoneTwice}
 use Rattle.poly_moments.specs.PlaneSums.{Entered, EnteredFits}
 use Rattle.dom_index.specs.declared.index.DomIndex.{Ghosts}
-use Rattle.corner_forest.specs.Entries.{corner_count, entry_points, root_count, root_points}
-use Rattle.corner_forest.specs.Enters.{ForestEnters, IsEntering, TreeEnters, points_reached}
+use Rattle.dom_index.specs.Adding.{TreeTakes}
+use Rattle.corner_forest.specs.Entries.{AreNextEntries, batch_points, root_count, root_points, with_entries}
+use Rattle.corner_forest.specs.Enters.{ForestEnters, IsEntering, points_reached}
 use Rattle.corner_forest.specs.Stands.{AreBalanced, ForestStands, HasSmallWeight, forest_pages}
 use Rattle.corner_forest.specs.Trees.{EachStands}
 use Rattle.corner_forest.proofs.Changing.{change_at, each_same}
+use Rattle.corner_forest.proofs.Turns.{all_with, batch_entered, few_with}
 
 -- what was reached before
-reached_before : (params : Params) (es : List Entered) (e : Entered) (k j : ℕ) → j < k → points_reached params es e k j ≡ root_points params (e ∷ es) j
-reached_before params es e k j lt = ap (λ (t : Bool). if t then root_points params (e ∷ es) j else root_points params es j) (lt-ltb j k lt)
+reached_before : (params : Params) (es batch : List Entered) (k j : ℕ) → j < k → points_reached params es batch k j ≡ root_points params (with_entries batch es) j
+reached_before params es batch k j lt = ap (λ (t : Bool). if t then root_points params (with_entries batch es) j else root_points params es j) (lt-ltb j k lt)
 
-not_reached : (params : Params) (es : List Entered) (e : Entered) (k j : ℕ) → k ≤ j → points_reached params es e k j ≡ root_points params es j
-not_reached params es e k j le = ap (λ (t : Bool). if t then root_points params (e ∷ es) j else root_points params es j) (le-ltb j k le)
+not_reached : (params : Params) (es batch : List Entered) (k j : ℕ) → k ≤ j → points_reached params es batch k j ≡ root_points params es j
+not_reached params es batch k j le = ap (λ (t : Bool). if t then root_points params (with_entries batch es) j else root_points params es j) (le-ltb j k le)
 
-reached_same : (params : Params) (es : List Entered) (e : Entered) (k j : ℕ) → (j ≡ k → ⊥) → points_reached params es e (k + 1) j ≡ points_reached params es e k j
-reached_same params es e k j ne = elim (cases_lt j k) [
-  | inl lt ↦ reached_before params es e (k + 1) j (omega (arith, lt)) ∙ sym (reached_before params es e k j lt)
+reached_same : (params : Params) (es batch : List Entered) (k j : ℕ) → (j ≡ k → ⊥) → points_reached params es batch (k + 1) j ≡ points_reached params es batch k j
+reached_same params es batch k j ne = elim (cases_lt j k) [
+  | inl lt ↦ reached_before params es batch (k + 1) j (omega (arith, lt)) ∙ sym (reached_before params es batch k j lt)
   | inr ge ↦
       let above : k + 1 ≤ j = elim (cases_lt k j) [ inl more ↦ omega (arith, more) | inr less ↦ absurd (ne (omega (arith, ge, less))) ] in
-      not_reached params es e (k + 1) j above ∙ sym (not_reached params es e k j ge)
+      not_reached params es batch (k + 1) j above ∙ sym (not_reached params es batch k j ge)
 ]
 
 pub tree_at : (S : Tree → List Point → Type 0) (P : ℕ → List Point) (from : ℕ) (done : List Tree) (t : Tree) (rest : List Tree) → EachStands S P from (done ++ t ∷ rest) → S t (P (from + length done))
@@ -57,63 +59,64 @@ module _ {X : Type 0} (g : Ghosts X)
     → AgreeOn (g.footprint pages dims tree) pages others → g.balanced pages dims tree → g.balanced others dims tree)
     (in_map : (pages : PageMap) (dims : ℕ) (tree : Tree) (points : List Point) → g.stands pages dims tree points → AreInMap pages (g.footprint pages dims tree))
     (single : (pages : PageMap) (dims : ℕ) (tree : Tree) (points : List Point) → g.stands pages dims tree points → NamesNoneTwice (g.footprint pages dims tree)) where
-  pub begins : (params : Params) (m : PageMap) (old : List Tree) (es : List Entered) (e : Entered) → ForestStands g m params old es → NamesNoneTwice (forest_pages g m params old)
-      → IsEntering g params m m old old es e 0
-  begins params m old es e s once = record {
-    stands = each_same (λ t ps. g.stands m params.dims t ps × (AreBalanced g m params old → g.balanced m params.dims t)) (root_points params es) (points_reached params es e 0) 0 old
-        (λ j low high. not_reached params es e 0 j low)
+  pub begins : (params : Params) (m : PageMap) (old : List Tree) (es batch : List Entered) → ForestStands g m params old es → NamesNoneTwice (forest_pages g m params old)
+      → IsEntering g params m m old old es batch 0
+  begins params m old es batch s once = record {
+    stands = each_same (λ t ps. g.stands m params.dims t ps × (AreBalanced g m params old → g.balanced m params.dims t)) (root_points params es) (points_reached params es batch 0) 0 old
+        (λ j low high. not_reached params es batch 0 j low)
         (each_with (g.stands m params.dims) (AreBalanced g m params old) (g.balanced m params.dims) (root_points params es) 0 old (λ b. b) s.trees);
     once = once;
     change = Replaces-same (forest_pages g m params old) m;
   }
 
   -- the tree that comes next
-  pub next_tree : (params : Params) (m0 m : PageMap) (old done : List Tree) (t : Tree) (rest : List Tree) (es : List Entered) (e : Entered) (k : ℕ) → length done ≡ k
-      → IsEntering g params m0 m old (done ++ t ∷ rest) es e k → g.stands m params.dims t (root_points params es k) × (AreBalanced g m0 params old → g.balanced m params.dims t)
-  next_tree params m0 m old done t rest es e k is_k f =
+  pub next_tree : (params : Params) (m0 m : PageMap) (old done : List Tree) (t : Tree) (rest : List Tree) (es batch : List Entered) (k : ℕ) → length done ≡ k
+      → IsEntering g params m0 m old (done ++ t ∷ rest) es batch k → g.stands m params.dims t (root_points params es k) × (AreBalanced g m0 params old → g.balanced m params.dims t)
+  next_tree params m0 m old done t rest es batch k is_k f =
       let S : Tree → List Point → Type 0 = λ t ps. g.stands m params.dims t ps × (AreBalanced g m0 params old → g.balanced m params.dims t) in
-      let here = tree_at S (points_reached params es e k) 0 done t rest f.stands in
+      let here = tree_at S (points_reached params es batch k) 0 done t rest f.stands in
       let place : 0 + length done ≡ k = omega (arith, is_k) in
-      subst (λ (ps : List Point). S t ps) (ap (λ (j : ℕ). points_reached params es e k j) place ∙ not_reached params es e k k (omega arith)) here
+      subst (λ (ps : List Point). S t ps) (ap (λ (j : ℕ). points_reached params es batch k j) place ∙ not_reached params es batch k k (omega arith)) here
 
-  pub goes_on : (params : Params) (m0 m n : PageMap) (old done : List Tree) (t u : Tree) (rest : List Tree) (es : List Entered) (e : Entered) (k : ℕ) → length done ≡ k
-      → IsEntering g params m0 m old (done ++ t ∷ rest) es e k → TreeEnters g params.dims m n t u (entry_points params k e) (root_points params es k)
-      → IsEntering g params m0 n old (done ++ u ∷ rest) es e (k + 1)
-  goes_on params m0 m n old done t u rest es e k is_k f enters =
+  pub goes_on : (params : Params) (m0 m n : PageMap) (old done : List Tree) (t u : Tree) (rest : List Tree) (es batch : List Entered) (k : ℕ) → length done ≡ k
+      → IsEntering g params m0 m old (done ++ t ∷ rest) es batch k → TreeTakes g params.dims m n t u (batch_points params k batch) (root_points params es k)
+      → IsEntering g params m0 n old (done ++ u ∷ rest) es batch (k + 1)
+  goes_on params m0 m n old done t u rest es batch k is_k f enters =
       let B : Type 0 = AreBalanced g m0 params old in
       let S : PageMap → Tree → List Point → Type 0 = λ m t ps. g.stands m params.dims t ps × (B → g.balanced m params.dims t) in
       let place : 0 + length done ≡ k = omega (arith, is_k) in
-      let tree = next_tree params m0 m old done t rest es e k is_k f in
-      let here : S n u (root_points params (e ∷ es) k) = (enters.stands, λ b. enters.balanced (tree.1 b)) in
-      let there : S n u (points_reached params es e (k + 1) (0 + length done)) =
-      subst (λ (ps : List Point). S n u ps) (sym (ap (λ (j : ℕ). points_reached params es e (k + 1) j) place ∙ reached_before params es e (k + 1) k (omega arith))) here in
+      let tree = next_tree params m0 m old done t rest es batch k is_k f in
+      let stands = subst (λ (ps : List Point). g.stands n params.dims u ps) (batch_entered params k batch es) enters.stands in
+      let here : S n u (root_points params (with_entries batch es) k) = (stands, λ b. enters.balanced (tree.1 b)) in
+      let there : S n u (points_reached params es batch (k + 1) (0 + length done)) =
+      subst (λ (ps : List Point). S n u ps) (sym (ap (λ (j : ℕ). points_reached params es batch (k + 1) j) place ∙ reached_before params es batch (k + 1) k (omega arith))) here in
       let changed = change_at S (λ m t. g.footprint m params.dims t)
       (λ m n t ps s agree. let still = by_its_pages m n params.dims t ps s.0 agree in ((still.0, λ b. balance m n params.dims t ps s.0 agree (s.1 b)), still.1))
       (λ m t ps s. in_map m params.dims t ps s.0) (λ m t ps s. single m params.dims t ps s.0)
-      m n (points_reached params es e k) (points_reached params es e (k + 1)) 0 done t u rest f.stands f.once there enters.change
-      (λ j other. reached_same params es e k j (λ same. other (same ∙ sym place))) in
+      m n (points_reached params es batch k) (points_reached params es batch (k + 1)) 0 done t u rest f.stands f.once there enters.change
+      (λ j other. reached_same params es batch k j (λ same. other (same ∙ sym place))) in
       record {
         stands = changed.stands;
         once = changed.once;
         change = Replaces-then (forest_pages g m0 params old) (forest_pages g m params (done ++ t ∷ rest)) (forest_pages g n params (done ++ u ∷ rest)) m0 m n f.change changed.change;
       }
 
-  pub ends : (params : Params) (m0 m : PageMap) (old new : List Tree) (es : List Entered) (e : Entered) (k : ℕ) → length new ≡ k → k ≡ root_count params → ForestStands g m0 params old es → EnteredFits params e
-      → HasSmallWeight e → length es * corner_count params + corner_count params ≤ 2 ^ 31 → IsEntering g params m0 m old new es e k → ForestEnters g params m0 m old new es e
-  ends params m0 m old new es e k is_k is_count stood fits small few f =
+  pub ends : (params : Params) (m0 m : PageMap) (old new : List Tree) (es batch : List Entered) (k : ℕ) → length new ≡ k → k ≡ root_count params → ForestStands g m0 params old es → All (EnteredFits params) batch
+      → All HasSmallWeight batch → AreNextEntries params es batch → IsEntering g params m0 m old new es batch k → ForestEnters g params m0 m old new es batch
+  ends params m0 m old new es batch k is_k is_count stood fits small next f =
       let B : Type 0 = AreBalanced g m0 params old in
       let low : Tree → Type 0 = λ t. g.balanced m params.dims t in
       record {
         stands = record {
           count = is_k ∙ is_count;
-          fits = All-cons (EnteredFits params) e es fits stood.fits;
-          weights = All-cons HasSmallWeight e es small stood.weights;
-          few = omega (arith, few);
-          trees = each_same (g.stands m params.dims) (points_reached params es e k) (root_points params (e ∷ es)) 0 new
-              (λ j from to. sym (reached_before params es e k j (omega (arith, to, is_k))))
-              (each_without (g.stands m params.dims) B low (points_reached params es e k) 0 new f.stands);
+          fits = all_with (EnteredFits params) es batch stood.fits fits;
+          weights = all_with HasSmallWeight es batch stood.weights small;
+          few = few_with params es batch stood.few next;
+          trees = each_same (g.stands m params.dims) (points_reached params es batch k) (root_points params (with_entries batch es)) 0 new
+              (λ j from to. sym (reached_before params es batch k j (omega (arith, to, is_k))))
+              (each_without (g.stands m params.dims) B low (points_reached params es batch k) 0 new f.stands);
         };
         once = f.once;
         change = f.change;
-        balanced = λ b. each_low (g.stands m params.dims) B low (points_reached params es e k) 0 new f.stands b;
+        balanced = λ b. each_low (g.stands m params.dims) B low (points_reached params es batch k) 0 new f.stands b;
       }

@@ -1,8 +1,9 @@
-pub mod Adding
 pub mod Changing
 pub mod Entering
 pub mod Exits
 pub mod ForestLaws
+pub mod Gathering
+pub mod Growth
 pub mod KeyBounds
 pub mod Lists
 pub mod MetSums
@@ -12,3 +13,4 @@ pub mod PlaneTotals
 pub mod Stages
 pub mod Totals
 pub mod TreePoints
+pub mod Turns

@@ -1,17 +1,12 @@
 -- The trees done and those to come.
-use Rattle.std.proofs.Common.{◌≡◌, ℕ, zero, suc, ◌+◌, ◌-◌, ◌*◌, ◌<◌, ◌≤◌, inl, inr, List, [], ◌∷◌, ◌++◌, length, get_or, drop, refl, sym, ap, ◌∙◌, arith, append_assoc, drop-cons}
+use Rattle.std.proofs.Common.{◌≡◌, ℕ, zero, suc, ◌+◌, ◌-◌, ◌<◌, ◌≤◌, inl, inr, List, [], ◌∷◌, ◌++◌, length, get_or, drop, refl, sym, ap, ◌∙◌, arith, append_assoc, drop-cons}
 use Rattle.std.specs.List.{All}
 use Rattle.std.proofs.lemmas.Bool.{cases_lt}
 use Rattle.std.proofs.lemmas.List.{append-nil, drop_all}
 use Rattle.bw_types.specs.Empty.{empty_tree}
-use Rattle.bw_types.specs.Depths.{added_pages}
-use Rattle.bw_types.specs.declared.params.Params.{Params}
 use Rattle.bw_types.specs.declared.tree.Tree.{Tree}
-use Rattle.poly_moments.specs.PlaneSums.{Entered}
-use Rattle.corner_forest.specs.Enters.{first_page, root_growth, sum_below}
-use Rattle.corner_forest.specs.Entries.{point_count, root_points}
-use Rattle.corner_forest.proofs.Adding.{more_pages}
-use Rattle.corner_forest.proofs.Newness.{length_root}
+use Rattle.dom_index.specs.Growth.{sum_below}
+use Rattle.corner_forest.specs.Enters.{first_page}
 
 pub list_next : (items old : List Tree) (k : ℕ) (d : Tree) → k < length old → items ++ drop k old ≡ items ++ (get_or old k d ∷ drop (k + 1) old)
 list_next items old k d lt =
@@ -26,15 +21,6 @@ list_start items old e = ap (λ (l : List Tree). l ++ drop 0 old) (sym e)
 
 pub list_end : (items old : List Tree) (k : ℕ) → length old ≤ k → items ++ drop k old ≡ items
 list_end items old k le = ap (λ (l : List Tree). items ++ l) (drop_all k old le) ∙ append-nil items
-
--- the growth of one tree
-pub growth_here : (params : Params) (entries : List Entered) (root : ℕ)
-    → point_count params root * added_pages params.dims (length (root_points params entries root) + point_count params root) ≡ root_growth params (length entries) root
-growth_here params entries root =
-    let long = length_root params entries root in
-    let whole = more_pages (length entries) (point_count params root) in
-    let same : length (root_points params entries root) + point_count params root ≡ (length entries + 1) * point_count params root = omega (arith, long, whole) in
-    ap (λ (n : ℕ). point_count params root * added_pages params.dims n) same
 
 pub sum_next : (f : ℕ → ℕ) (k : ℕ) → sum_below (k + 1) f ≡ sum_below k f + f k
 sum_next f k = let more : k + 1 ≡ suc k = omega arith in ap (λ (n : ℕ). sum_below n f) more

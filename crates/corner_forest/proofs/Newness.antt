@@ -1,5 +1,5 @@
 -- The points of the next entry are new to each tree.
-use Rattle.std.proofs.Common.{◌≡◌, ℕ, zero, suc, ◌+◌, ◌-◌, ◌*◌, ◌^◌, ◌<◌, ◌≤◌, ◌==◌, Bool, true, false, not, nat_lt, if◌then◌else◌, IsTrue, inl, inr, List, [], ◌∷◌, length, get_or, slice_index, refl, sym, ap, ◌∙◌, arith, length-append}
+use Rattle.std.proofs.Common.{◌≡◌, ℕ, zero, suc, ◌+◌, ◌-◌, ◌*◌, ◌^◌, ◌<◌, ◌≤◌, ◌==◌, ◌++◌, map, Bool, true, false, not, nat_lt, if◌then◌else◌, IsTrue, inl, inr, List, [], ◌∷◌, length, get_or, slice_index, refl, sym, ap, ◌∙◌, arith, length-append}
 use Rattle.std.specs.List.{All, flat_map, range_with_len}
 use Rattle.std.proofs.Math.Nat.{mul-le-mul_right, mul-le-mul_left, pow-le-pow_right}
 use Rattle.std.proofs.lemmas.Bool.{cases_lt, lt-ltb, le-ltb, ne_eqb}
@@ -14,9 +14,18 @@ use Rattle.bw_types.specs.declared.point.Point.{Point}
 use Rattle.box_corners.specs.Corners.{corner_keys, object_end, of_first_dimensions}
 use Rattle.box_corners.specs.Entries.{corner_point}
 use Rattle.poly_moments.specs.PlaneSums.{Entered, EnteredFits, corner_number, plane_point}
-use Rattle.dom_index.specs.Points.{keys_differ}
-use Rattle.corner_forest.specs.Enters.{AreNewPoints, points_from}
+use Rattle.dom_index.specs.Points.{IsNewPoint, keys_differ}
 use Rattle.corner_forest.specs.Entries.{IsNextEntry, as_met, corner_count, entry_point, entry_points, point_count, root_points}
+
+-- so many of the entry's points in a tree, from that of this corner on
+abbrev pub points_from : Params → Entered → ℕ → ℕ → ℕ → List Point
+points_from params e root from n = map (entry_point params e root) (range_with_len from n)
+
+-- Each of the entry's points in the tree is new there, after those of the later corners.
+abbrev pub AreNewPoints : Params → Entered → ℕ → List Point → Type 0
+AreNewPoints params e root points =
+    (corner : ℕ) → corner < point_count params root
+    → IsNewPoint params.dims (points_from params e root (corner + 1) (point_count params root - 1 - corner) ++ points) (entry_point params e root corner)
 
 each_of : (n : ℕ) (p : ℕ → Bool) → ((i : ℕ) → i < n → p i ≡ true) → each_below n p ≡ true
 each_of zero p h = refl

@@ -3,7 +3,7 @@ use Rattle.std.proofs.Common.{◌≡◌, ℕ, ◌+◌, ◌≤◌, IsTrue, Result
 use Rattle.counts.specs.Count.{Rose}
 use Rattle.page_ports.specs.Calls.{Changes, WentOn}
 use Rattle.page_ports.specs.declared.page.StageFault.{StageFault}
-use Rattle.page_ports.specs.declared.page.StageFault.TheVariants.{Disk, PageLimit}
+use Rattle.page_ports.specs.declared.page.StageFault.TheVariants.{Disk, NoMemory, PageLimit}
 use Rattle.page_ports.specs.declared.pages.Pages.{Ghosts}
 use Rattle.corner_forest.proofs.Exits.{exit_error}
 
@@ -34,14 +34,6 @@ changes_then g a b c old mid new r f h le =
       page_limit = λ n e. let limit = h.page_limit n e in let third = limit.2 in (limit.0 ∙ f.limit, limit.1, omega (arith, x, le, third));
     }
 
--- however many these are
-pub changes_freely : {P T : Type 0} (g : Ghosts P) (a b : ℕ) (old mid new : P) (r : Result T StageFault) → WentOn g a old mid → Changes g b mid new r → Changes g (g.allotted new + 1) old new r
-changes_freely g a b old mid new r f h = record {
-  went_on = went_then g a b (g.allotted new + 1) old mid new f h.went_on (omega arith);
-  disk = λ e. rose_earlier (g.faults old) (g.faults mid) (g.faults new) f.faults (h.disk e);
-  page_limit = λ n e. let limit = h.page_limit n e in let second = limit.1 in (limit.0 ∙ f.limit, limit.1, omega (arith, second));
-}
-
 -- the refusal of the last call is the refusal of all
 pub refused : {P T U : Type 0} (g : Ghosts P) (most : ℕ) (old new : P) (q : Result U StageFault) (fault : StageFault)
     → ((y : StageFault) × (q ≡ Err y) × (y ≡ fault)) → Changes {T = T} g most old new (Err fault) → Changes g most old new q
@@ -56,4 +48,27 @@ changes_end g most old new value went = record {
   went_on = went;
   disk = λ e. cc;
   page_limit = λ n e. cc;
+}
+
+-- fewer are no more than many
+went_within : {P : Type 0} (g : Ghosts P) (a c : ℕ) (old now : P) → a ≤ c → WentOn g a old now → WentOn g c old now
+went_within g a c old now le w = record {
+  tells = w.tells;
+  base = w.base;
+  limit = w.limit;
+  free_in_order = w.free_in_order;
+  none_forgotten = w.none_forgotten;
+  allotted = w.allotted;
+  at_most = let m = w.at_most in omega (arith, m, le);
+  gets = w.gets;
+  faults = w.faults;
+}
+
+-- where memory is wanting, no more is given out
+pub no_memory : {P T U : Type 0} (g : Ghosts P) (a c : ℕ) (old now : P) (q : Result U StageFault) (fault : StageFault)
+    → ((y : StageFault) × (q ≡ Err y) × (y ≡ fault)) → ◌≡◌ {A = Result T StageFault} (Err fault) (Err NoMemory) → WentOn g a old now → a ≤ c → Changes g c old now q
+no_memory {P} {T} g a c old now q fault told memory went le = record {
+  went_on = went_within g a c old now le went;
+  disk = λ e. let same = exit_error q fault Disk told e in absurd cc;
+  page_limit = λ n e. let same = exit_error q fault (PageLimit n) told e in absurd cc;
 }

@@ -1,8 +1,8 @@
--- What is entered into a forest, and the points that an entry has in each of its trees.
+-- What is entered into a forest, and the points that entries have in each of its trees.
 --
 -- The trees stand in this order: for each subset of the dimensions one, of which sums and counts are both read, and one for
 -- each plane. Subsets and planes are told by their numbers.
-use Rattle.std.specs.Prelude.{ℕ, ◌+◌, ◌-◌, ◌*◌, ◌^◌, ◌<◌, ◌≤◌, Bool, nat_lt, if◌then◌else◌, List, length, map, ℤ, pos, ◌+ℤ◌, ◌*ℤ◌}
+use Rattle.std.specs.Prelude.{ℕ, zero, suc, ◌+◌, ◌-◌, ◌*◌, ◌^◌, ◌<◌, ◌≤◌, Bool, nat_lt, if◌then◌else◌, List, [], ◌∷◌, length, map, ℤ, pos, ◌+ℤ◌, ◌*ℤ◌}
 use Rattle.std.specs.List.{All, flat_map, range_with_len}
 use Rattle.bw_types.specs.Residues.{residue, opposite_residue}
 use Rattle.bw_types.specs.declared.params.Params.{Params}
@@ -53,9 +53,32 @@ entry_points params root e = map (entry_point params e root) (range_with_len 0 (
 abbrev pub root_points : Params → List Entered → ℕ → List Point
 root_points params entries root = flat_map (entry_points params root) entries
 
+-- the points of the entry's first corners in this tree, so many of them, that of the last corner first
+abbrev pub points_below : Params → Entered → ℕ → ℕ → List Point
+points_below params e root zero = []
+points_below params e root (suc n) = entry_point params e root n ∷ points_below params e root n
+
+-- the points that an entry adds to this tree, in the order in which they are added
+abbrev pub added_points : Params → ℕ → Entered → List Point
+added_points params root e = points_below params e root (point_count params root)
+
+-- those that a batch of entries adds to this tree, one entry after the other
+abbrev pub batch_points : Params → ℕ → List Entered → List Point
+batch_points params root batch = flat_map (added_points params root) batch
+
 -- The entry may follow the others: its event is after all of theirs, its version is no earlier, and with it no tree has
 -- more than 2^31 points.
 pub record IsNextEntry (params : Params) (entries : List Entered) (e : Entered) : Type 0 where
   pub after : All (λ f. f.event < e.event) entries
   pub last : All (λ f. f.version ≤ e.version) entries
   pub few : length entries * corner_count params + corner_count params ≤ 2 ^ 31
+
+-- Each entry of the batch may follow the others and those of the batch before it.
+abbrev pub AreNextEntries : Params → List Entered → List Entered → Type 0
+AreNextEntries params entries [] = Unit {0}
+AreNextEntries params entries (e ∷ batch) = IsNextEntry params entries e × AreNextEntries params (e ∷ entries) batch
+
+-- the entries once those of the batch are made: the last one comes first
+abbrev pub with_entries : List Entered → List Entered → List Entered
+with_entries [] entries = entries
+with_entries (e ∷ batch) entries = with_entries batch (e ∷ entries)

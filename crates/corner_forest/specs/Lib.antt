@@ -2,8 +2,9 @@ pub mod Entries
 pub mod Trees
 pub mod Stands
 pub mod Damage
-pub mod EntryDamage
+pub mod BatchDamage
 pub mod Corners
 pub mod Enters
+pub mod BatchPowers
 pub mod Laws
 pub mod Answers

@@ -7,6 +7,9 @@
 //! index, and their contracts speak of objects and queries alone.
 #![tactic(auto)]
 
+mod batch;
+#[cfg(test)]
+mod batch_tests;
 mod entry;
 mod forest;
 pub mod laws;
@@ -15,11 +18,11 @@ mod planes;
 mod points;
 #[cfg(test)]
 mod random_tests;
-mod stamp;
 #[cfg(test)]
 mod tests;
 
-pub use entry::enter;
+pub use batch::enter;
+pub use entry::Entry;
 pub use forest::Forest;
 pub use meet::{count, met, sum};
 pub use planes::integral;

@@ -5,11 +5,11 @@ ghost use Rattle.bw_types.specs.Keys.{point_key as key_of_point};
 ghost use Rattle.box_corners.specs.Corners.{corner_keys};
 ghost use Rattle.dom_index.specs.Points.{AreKeysBelow};
 ghost use Rattle.poly_moments.specs.Powers.{ArePowersOf};
-ghost use Rattle.corner_forest.specs.Enters.{entered};
+ghost use Rattle.corner_forest.specs.Enters.{entered_at};
 ghost use Rattle.corner_forest.specs.Entries.{corner_count as count_of_corners, entered_residue, entry_point as point_of_entry, root_count};
 
+use crate::entry::Entry;
 use crate::forest::corner_count;
-use crate::stamp::Stamp;
 use box_corners::object_corner;
 use bw_types::{Object, Params, Point, point_key, res_neg, res_of};
 use poly_moments::{BoxPowers, plane_weight_by};
@@ -18,43 +18,41 @@ use poly_moments::{BoxPowers, plane_weight_by};
 pub fn entry_point(
     params: &Params,
     powers: &BoxPowers,
-    object: &Object,
-    stamp: Stamp,
+    entry: &Entry,
+    version: u32,
     root: u8,
     corner: u8,
 ) -> Point
     requires in_range { IsInRange params.now }
-    requires powers { IsSome params.now.degree → ArePowersOf params.now object.now powers.now }
-    requires fits { IsTrue (object_fits params.now object.now) }
-    requires event { stamp.event < 2 ^ 28 }
+    requires powers { IsSome params.now.degree → ArePowersOf params.now entry.now.object powers.now }
+    requires fits { IsTrue (object_fits params.now entry.now.object) }
+    requires event { entry.now.event < 2 ^ 28 }
     requires root { root < root_count params.now }
     requires corner { corner < count_of_corners params.now }
-    ensures point { result ≡ point_of_entry params.now (entered object.now stamp) root corner }
+    ensures point { result ≡ point_of_entry params.now (entered_at version entry.now) root corner }
     ensures keys { AreKeysBelow params.now.dims result.keys }
+    ensures version { result.version ≡ version }
 {
+    let object = &entry.object;
     let corners = corner_count(params);
     if root < corners {
         let met = i128::from(object.weight) * 4294967296 + 1;
-        let weight = weighed(stamp, res_of(met));
-        return corner_point(params, object, stamp.event, stamp.version, root, weight);
+        let weight = weighed(entry.minus, res_of(met));
+        return corner_point(params, object, entry.event, version, root, weight);
     }
-    let number = stamp.event * u32::from(corners) + u32::from(corner);
+    let number = entry.event * u32::from(corners) + u32::from(corner);
     let weight = weighed(
-        stamp,
+        entry.minus,
         plane_weight_by(powers, object, params, corner, root - corners),
     );
-    corner_point(params, object, number, stamp.version, corner, weight)
+    corner_point(params, object, number, version, corner, weight)
 }
 
 // The residue, or its opposite where the entry takes its object out.
-fn weighed(stamp: Stamp, residue: u128) -> u128
-    ensures { result ≡ entered_residue stamp.minus residue }
+fn weighed(minus: bool, residue: u128) -> u128
+    ensures { result ≡ entered_residue minus residue }
 {
-    if stamp.minus {
-        res_neg(residue)
-    } else {
-        residue
-    }
+    if minus { res_neg(residue) } else { residue }
 }
 
 // The point with this number at the object's corner of the subset.

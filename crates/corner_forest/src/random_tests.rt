@@ -8,8 +8,8 @@ use std::test::Fail;
 
 // An object that counts in the versions from `added` to before `ended`.
 #[derive(Clone, Copy)]
-struct Life {
-    object: Object,
+pub struct Life {
+    pub object: Object,
     added: u32,
     ended: u32,
 }
@@ -22,7 +22,7 @@ fn draw(state: &mut u64, below: u32) -> u32 {
     upper % below.max(1)
 }
 
-fn drawn_box(state: &mut u64, dims: usize) -> ([u32; 3], [u32; 3]) {
+pub fn drawn_box(state: &mut u64, dims: usize) -> ([u32; 3], [u32; 3]) {
     let mut low = [0; 3];
     let mut high = [0; 3];
     for i in 0..3 {
@@ -45,7 +45,7 @@ fn far_ends(high: [u32; 3], dims: usize, is_far: bool) -> [u32; 3] {
     ends
 }
 
-fn drawn_life(state: &mut u64, params: &Params, version: u32) -> Life
+pub fn drawn_life(state: &mut u64, params: &Params, version: u32) -> Life
     requires { IsInRange params.now }
 {
     let (low, high) = drawn_box(state, usize::from(params.dims));

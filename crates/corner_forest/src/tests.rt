@@ -1,13 +1,15 @@
 //! Forests over lists of points, beside plain sums over the objects.
-ghost use Rattle.std.specs.Prelude.{◌≡◌, IsTrue, length};
+ghost use Rattle.std.specs.Prelude.{◌≡◌, ◌↔◌, IsTrue, length};
 ghost use Rattle.bw_types.specs.Fits.{IsInRange};
+ghost use Rattle.std.specs.List.{All};
+ghost use Rattle.corner_forest.specs.Enters.{CanEnter};
 ghost use Rattle.corner_forest.specs.Entries.{root_count as count_of_roots};
 
 use crate::forest::root_count;
-use crate::{Forest, count, enter, integral, sum};
+use crate::{Entry, Forest, count, enter, integral, sum};
 use bw_types::{Kind, Object, Params, Query, object_fits, query_fits};
 use dom_index::PointList;
-use page_ports::MemStage;
+use page_ports::{MemStage, Stage, StageFault};
 use std::alloc::Global;
 use std::test::Fail;
 
@@ -78,25 +80,59 @@ pub fn empty(alloc: Global, params: &Params) -> Entered
     }
 }
 
-pub fn put(entered: &mut Entered, object: &Object, minus: bool, version: u32) -> bool {
-    let event = entered.event;
-    if event >= 1000000 || version >= 1000000 {
+// Whether a forest for these params takes the entry.
+fn takes(entry: &Entry, params: &Params) -> bool
+    requires { IsInRange params.now }
+    ensures { IsTrue result ↔ CanEnter params.now entry.now }
+{
+    if entry.event >= 268435456 {
         return false;
     }
-    if !is_sound(&entered.forest) || !object_fits(object, &entered.forest.params) {
-        return false;
+    object_fits(&entry.object, params)
+}
+
+// Whether it takes each of them.
+fn can_enter(batch: &[Entry], params: &Params) -> bool
+    requires { IsInRange params.now }
+    ensures { IsTrue result → All (CanEnter params.now) batch.now }
+{
+    batch.iter().all(|entry| takes(entry, params))
+}
+
+// Enters the batch, or refuses it for a limit of no page where the forest doesn't take it.
+pub fn try_enter<S: Stage>(
+    alloc: Global,
+    stage: &mut S,
+    forest: &mut Forest,
+    batch: &[Entry],
+    version: u32,
+) -> Result<(), StageFault> {
+    if version >= 1000000 || !is_sound(forest) || !can_enter(batch, &forest.params) {
+        return Err(StageFault::PageLimit(0));
     }
-    entered.event = event + 1;
-    enter::<PointList, MemStage>(
+    enter::<PointList, S>(alloc, stage, forest, batch, version)
+}
+
+pub fn put_all(entered: &mut Entered, batch: &[Entry], version: u32) -> bool {
+    try_enter(
         entered.alloc,
         &mut entered.stage,
         &mut entered.forest,
-        object,
-        minus,
-        event,
+        batch,
         version,
     )
     .is_ok()
+}
+
+pub fn put(entered: &mut Entered, object: &Object, minus: bool, version: u32) -> bool {
+    let event = entered.event;
+    entered.event = event.saturating_add(1);
+    let entry = Entry {
+        object: *object,
+        minus,
+        event,
+    };
+    put_all(entered, &[entry], version)
 }
 
 pub fn ask(entered: &mut Entered, query: &Query, version: u32) -> Option<i128> {

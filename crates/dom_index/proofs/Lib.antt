@@ -1,8 +1,10 @@
+pub mod Additions
 pub mod Chains
 pub mod Exits
 pub mod Frames
 pub mod Growing
 pub mod FirstPages
 pub mod Outcomes
+pub mod Stages
 pub mod Standing
 pub mod Walking

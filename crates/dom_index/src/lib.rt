@@ -8,6 +8,7 @@
 //! `PointList` is the plain form: a chain of pages of points, each of which a sum looks at.
 #![tactic(auto)]
 
+mod adding;
 mod chain;
 mod index;
 mod point_list;
@@ -16,6 +17,7 @@ mod putting;
 #[cfg(test)]
 mod tests;
 
+pub use adding::add_all;
 pub use index::DomIndex;
 pub use point_list::PointList;
 pub use points::sum_on;
