@@ -1,22 +1,21 @@
--- Entries that wait: one more put last, and the first one made.
-use Rattle.std.proofs.Common.{◌≡◌, ℕ, zero, suc, ◌+◌, ◌*◌, ◌≤◌, List, [], ◌∷◌, ◌++◌, length, map, get_or, take, drop, refl, sym, ◌∙◌, ap, subst, arith, length-append, add-one, pos, false}
+-- Entries that wait: one more put last, and all of them made.
+use Rattle.std.proofs.Common.{◌≡◌, ℕ, zero, suc, ◌+◌, ◌*◌, ◌^◌, ◌<◌, ◌≤◌, List, [], ◌∷◌, ◌++◌, length, map, refl, sym, ◌∙◌, ap, subst, arith, length-append, append_assoc, IsPermutation}
 use Rattle.std.specs.List.{All}
+use Rattle.std.proofs.lemmas.List.{length-map}
 use Rattle.std.proofs.lemmas.List.Elements.{All-append}
-use Rattle.std.proofs.Math.Nat.{mul-le-mul_right}
-use Rattle.std.proofs.lemmas.List.{take_more, take-append-drop, drop_all}
-use Rattle.std.proofs.Math.Seq.{drop-cons}
-use Rattle.bw_types.specs.History.{History}
+use Rattle.std.proofs.lemmas.List.Sorted.{All-permutation, IsPermutation-cons, IsPermutation-middle, IsPermutation-refl, IsPermutation-trans, length_permutation}
 use Rattle.bw_types.specs.declared.params.Params.{Params}
+use Rattle.bw_types.specs.declared.tree.Tree.{Tree}
+use Rattle.page_ports.specs.Pages.{PageMap}
 use Rattle.poly_moments.specs.PlaneSums.{Entered}
-use Rattle.corner_forest.specs.Entries.{IsNextEntry}
-use Rattle.page_ports.specs.Calls.{WentOn}
-use Rattle.page_ports.specs.declared.pages.Pages.{Ghosts as PageGhosts}
 use Rattle.dom_index.specs.declared.index.DomIndex.{Ghosts}
-use Rattle.history_entries.specs.Entries.{history_entries}
-use Rattle.page_warehouse.specs.Entering.{PagesTell}
-use Rattle.page_warehouse.specs.Waiting.{CanWait, HasOneMore, LeadTo, LeadsThrough, entered_at}
-use Rattle.page_warehouse.specs.declared.roots.Roots.{Roots}
-use Rattle.page_warehouse.specs.declared.waiting.Waiting.{Waiting}
+use Rattle.corner_forest.specs.Enters.{batch_growth}
+use Rattle.corner_forest.specs.Entries.{AreNextEntries, IsNextEntry, corner_count, with_entries}
+use Rattle.corner_forest.specs.Laws.{EntryStandsAnywhere}
+use Rattle.corner_forest.specs.Stands.{ForestStands}
+use Rattle.corner_forest.specs.declared.entry.Entry.{Entry as Waiting}
+use Rattle.change_laws.specs.Growth.{GrowthIsBounded, most_growth}
+use Rattle.page_warehouse.specs.Waiting.{CanWait, HasOneMore, LeadTo, entered_at}
 
 more_length : (before after : List Entered) (e : Entered) → HasOneMore before after e → length after ≡ length before + 1
 more_length before after e more =
@@ -58,50 +57,67 @@ wait_more params version entries waiting with_one w last grown is lead next more
     subst (λ (l : List Entered). LeadTo params entries l grown) (sym (ap (map (entered_at version)) is ∙ map_more version waiting w))
     (lead_more params entries (map (entered_at version) waiting) last grown (entered_at version w) lead next more)
 
--- what stands at a place outside of the list of those that wait
-abbrev pub none_waiting : Waiting
-none_waiting = record { object = record { id = 0; low = []; high = []; weight = pos 0; coeffs = [] }; minus = false; event = 0 }
+-- where these lead on, each of them is the next one
+leads_on : (params : Params) (entries others batch last : List Entered) → IsPermutation entries others → LeadTo params entries batch last → AreNextEntries params others batch
+leads_on params entries others [] last same lead = tt
+leads_on params entries others (e ∷ batch) last same lead =
+    let next = lead.next in
+    let few = next.few in
+    let long = length_permutation entries others same in
+    let front : List Entered = lead.more.front in
+    let back : List Entered = lead.more.back in
+    let moved : IsPermutation (front ++ e ∷ back) (e ∷ others) =
+    IsPermutation-trans (front ++ e ∷ back) (e ∷ (front ++ back)) (e ∷ others) (IsPermutation-middle front e back)
+    (IsPermutation-cons e (front ++ back) others (subst (λ (l : List Entered). IsPermutation l others) lead.more.was same)) in (
+      record {
+        after = All-permutation (λ (f : Entered). f.event < e.event) entries others same next.after;
+        last = All-permutation (λ (f : Entered). f.version ≤ e.version) entries others same next.last;
+        few = subst (λ (n : ℕ). n * corner_count params + corner_count params ≤ 2 ^ 31) (sym long) few;
+      },
+      leads_on params lead.mid (e ∷ others) batch last (subst (λ (l : List Entered). IsPermutation l (e ∷ others)) (sym lead.more.is) moved) lead.rest,
+    )
 
--- there is room for the next one
-pub has_room : (params : Params) (entries waiting last : List Entered) (e : Entered) → LeadsThrough params entries e (λ mid. LeadTo params mid waiting last) → length entries + 1 ≤ length last
-has_room params entries waiting last e lead =
-    let more = more_length entries lead.mid e lead.more in
-    let rest = lead_length params lead.mid waiting last lead.rest in
-    omega (arith, more, rest)
+pub are_next : (params : Params) (entries batch last : List Entered) → LeadTo params entries batch last → AreNextEntries params entries batch
+are_next params entries batch last lead = leads_on params entries entries batch last (IsPermutation-refl entries) lead
 
--- the next one of those that wait
-pub first_waits : (params : Params) (version : ℕ) (entries : List Entered) (waiting : List Waiting) (i : ℕ) (d : Waiting) (last : List Entered) → i + 1 ≤ length waiting
-    → LeadTo params entries (map (entered_at version) (drop i waiting)) last
-    → LeadsThrough params entries (entered_at version (get_or waiting i d)) (λ mid. LeadTo params mid (map (entered_at version) (drop (i + 1) waiting)) last)
-first_waits params version entries waiting i d last within lead =
-    let at : drop i waiting ≡ get_or waiting i d ∷ drop (i + 1) waiting = drop-cons waiting i d (omega (arith, within)) ∙ rw (add-one i) refl in
-    subst (λ (l : List Waiting). LeadTo params entries (map (entered_at version) l) last) at lead
+with_all : (batch entries : List Entered) → with_entries batch entries ≡ with_entries batch [] ++ entries
+with_all [] entries = refl
+with_all (e ∷ batch) entries =
+    with_all batch (e ∷ entries) ∙ sym (append_assoc (with_entries batch []) (e ∷ []) entries) ∙ ap (λ (l : List Entered). l ++ entries) (sym (with_all batch (e ∷ [])))
 
--- one more is entered
-pub one_entered : (waiting : List Waiting) (i : ℕ) (d : Waiting) → i + 1 ≤ length waiting → length (take (i + 1) waiting) ≡ length (take i waiting) + 1
-one_entered waiting i d within = ap length (take_more waiting i d (omega (arith, within))) ∙ length-append (take i waiting) (get_or waiting i d ∷ [])
+-- Trees that stand for those that wait beside the others stand for all to which they lead, each at its place.
+pub all_placed : {X : Type 0} (g : Ghosts X) → EntryStandsAnywhere g → (pages : PageMap) (params : Params) (roots : List Tree) (entries batch last : List Entered) → LeadTo params entries batch last
+    → ForestStands g pages params roots (with_entries batch entries) → ForestStands g pages params roots last
+all_placed g anywhere pages params roots entries [] last lead stands = subst (λ (l : List Entered). ForestStands g pages params roots l) lead stands
+all_placed g anywhere pages params roots entries (e ∷ batch) last lead stands =
+    let made : List Entered = with_entries batch [] in
+    let front : List Entered = lead.more.front in
+    let back : List Entered = lead.more.back in
+    let S : List Entered → Type 0 = λ l. ForestStands g pages params roots l in
+    let here : S (made ++ e ∷ (front ++ back)) = subst S (with_all batch (e ∷ entries) ∙ ap (λ (l : List Entered). made ++ e ∷ l) lead.more.was) stands in
+    let first : S (e ∷ (made ++ (front ++ back))) = (anywhere pages params roots made (front ++ back) e).1 here in
+    let moved : S ((made ++ front) ++ e ∷ back) =
+    (anywhere pages params roots (made ++ front) back e).0 (subst (λ (l : List Entered). S (e ∷ l)) (sym (append_assoc made front back)) first) in
+    let placed : S (with_entries batch lead.mid) =
+    subst S (append_assoc made front (e ∷ back) ∙ ap (λ (l : List Entered). made ++ l) (sym lead.more.is) ∙ sym (with_all batch lead.mid)) moved in
+    all_placed g anywhere pages params roots lead.mid batch last lead.rest placed
 
-pub each_entered : (waiting : List Waiting) (i : ℕ) (d : Waiting) (each : ℕ) → i + 1 ≤ length waiting → length (take i waiting) * each + each ≤ length waiting * each
-each_entered waiting i d each within =
-    let one = one_entered waiting i d within in
-    let all = sym (length-append (take (i + 1) waiting) (drop (i + 1) waiting)) ∙ ap length (take-append-drop (i + 1) waiting) in
-    let fewer : (length (take i waiting) + 1) * each ≤ length waiting * each = mul-le-mul_right each (omega (arith, one, all)) in
-    let whole : (length (take i waiting) + 1) * each ≡ length (take i waiting) * each + each = grind arith in
-    omega (arith, fewer, whole)
+-- how many there are in the end
+pub all_led : (params : Params) (version : ℕ) (entries last : List Entered) (waiting : List Waiting) → LeadTo params entries (map (entered_at version) waiting) last
+    → length entries + length waiting ≡ length last
+all_led params version entries last waiting lead =
+    let all = lead_length params entries (map (entered_at version) waiting) last lead in
+    let long = length-map waiting (entered_at version) in
+    omega (arith, all, long)
 
--- The first i of them are entered, so much is given out for each, and the others wait.
-pub record EnteredSoFar {P X : Type 0} (s : PageGhosts P) (g : Ghosts X) (each : ℕ) (old now : P) (params : Params) (roots : Roots) (version : ℕ) (h : History) (i : ℕ) (waiting : List Waiting) : Type 0 where
-  pub went : WentOn s (length (take i waiting) * each) old now
-  pub entered : List Entered
-  pub tell : PagesTell g (s.map now) roots h entered
-  pub lead : LeadTo params entered (map (entered_at version) (drop i waiting)) (history_entries h)
-
--- where none waits any more the trees stand for the history's entries
-pub all_entered : (params : Params) (version : ℕ) (entries : List Entered) (waiting : List Waiting) (i : ℕ) (last : List Entered) → length waiting ≤ i
-    → LeadTo params entries (map (entered_at version) (drop i waiting)) last → entries ≡ last
-all_entered params version entries waiting i last past lead =
-    let none : drop i waiting ≡ [] = drop_all i waiting past in
-    subst (λ (l : List Waiting). LeadTo params entries (map (entered_at version) l) last) none lead
+-- what each of them takes at most, and all together
+pub batch_bounded : GrowthIsBounded → (params : Params) (entries n most : ℕ) → entries + n ≤ most → batch_growth params entries n ≤ n * most_growth params most
+batch_bounded bounded params entries zero most le = omega arith
+batch_bounded bounded params entries (suc n) most le =
+    let before = batch_bounded bounded params entries n most (omega (arith, le)) in
+    let here = bounded params (entries + n) most (omega (arith, le)) in
+    let whole : suc n * most_growth params most ≡ n * most_growth params most + most_growth params most = omega arith in
+    omega (arith, before, here, whole)
 
 one_can : (params : Params) (w : Waiting) → CanWait params w → All (CanWait params) (w ∷ [])
 one_can params w can zero d within = can

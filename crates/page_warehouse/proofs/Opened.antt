@@ -1,5 +1,5 @@
 -- A space that is opened, and the history that its disk holds.
-use Rattle.std.proofs.Common.{◌≡◌, ◌⊎◌, ◌<◌, ◌≤◌, true, false, List, inl, inr, refl, sym, ◌∙◌, ap, subst, arith}
+use Rattle.std.proofs.Common.{◌≡◌, ℕ, ◌⊎◌, ◌<◌, ◌≤◌, true, false, List, inl, inr, refl, sym, ◌∙◌, ap, subst, arith}
 use Rattle.bw_types.specs.History.{History, last_version}
 use Rattle.bw_types.specs.declared.params.Params.{Params}
 use Rattle.page_disk.specs.Image.{Image, PageList}
@@ -37,6 +37,14 @@ unordered x params meta map ordered h = record {
     in_order = λ no. absurd no;
   };
 }
+
+-- a page that an opening of the space may call damaged
+pub damaged_space : (dims : ℕ) (x : Image) (told : Type 0) (fault : OpenFault) → AtDamaged fault (λ page. told → StandsDamagedAt x page) → AtDamaged fault (λ page. told → IsDamagedToOpen dims x page)
+damaged_space dims x told Disk at = tt
+damaged_space dims x told NoMemory at = tt
+damaged_space dims x told Empty at = tt
+damaged_space dims x told (BadJournal page) at = tt
+damaged_space dims x told (Damaged page) at = λ is_told. inl (at is_told)
 
 module _ {X : Type 0} (g : Ghosts X) where
   -- whatever a crash leaves stands for the same pages, and so holds the same history

@@ -16,13 +16,14 @@ use Rattle.object_table.specs.declared.form.Form.TheVariants.{ByLives}
 use Rattle.poly_moments.specs.PlaneSums.{Entered}
 use Rattle.dom_index.specs.declared.index.DomIndex.{Ghosts}
 use Rattle.corner_forest.specs.Enters.{ForestEnters, MayEnter}
-use Rattle.corner_forest.specs.Entries.{IsNextEntry}
+use Rattle.corner_forest.specs.Entries.{AreNextEntries}
 use Rattle.corner_forest.specs.Laws.{EntryStandsAnywhere, ForestPagesAreThere, ForestStandsByItsPages}
 use Rattle.corner_forest.specs.declared.forest.Forest.{Forest}
 use Rattle.corner_forest.specs.Stands.{AreBalanced, ForestStands, forest_pages}
 use Rattle.page_warehouse.specs.Entering.{PagesTell}
-use Rattle.page_warehouse.specs.Waiting.{HasOneMore}
+use Rattle.page_warehouse.specs.Waiting.{LeadTo}
 use Rattle.page_warehouse.specs.declared.roots.Roots.{Roots}
+use Rattle.page_warehouse.proofs.Leads.{all_placed}
 
 module _ {X : Type 0} (g : Ghosts X) where
   -- the laws of the parts
@@ -106,25 +107,23 @@ module _ {X : Type 0} (g : Ghosts X) where
       }
 
   -- The trees may enter what comes next.
-  pub may_enter : PageLaws → (pages : PageMap) (roots : Roots) (h : History) (entries : List Entered) (e : Entered)
-      → PagesTell g pages roots h entries → IsNextEntry roots.forest.params entries e
-      → MayEnter g pages roots.forest.params roots.forest.roots.items entries e
-  may_enter laws pages roots h entries e tell next =
+  pub may_enter : PageLaws → (pages : PageMap) (roots : Roots) (h : History) (entries batch : List Entered)
+      → PagesTell g pages roots h entries → AreNextEntries roots.forest.params entries batch
+      → MayEnter g pages roots.forest.params roots.forest.roots.items entries batch
+  may_enter laws pages roots h entries batch tell next =
       let trees = forest_pages g pages roots.forest.params roots.forest.roots.items in
       let split = (laws.parts (table_pages ByLives pages roots.table) trees).0 tell.apart in
       record { stands = tell.forest; once = split.1; next = next }
 
-  -- The trees have the entry too, at its place, and the table is as before.
-  pub entered_then : PageLaws → (before after : PageMap) (old new : Roots) (h : History) (es fs : List Entered) (e : Entered) → new.table ≡ old.table → new.forest.params ≡ old.forest.params
-      → PagesTell g before old h es → HasOneMore es fs e → ForestEnters g old.forest.params before after old.forest.roots.items new.forest.roots.items es e → PagesTell g after new h fs
-  entered_then laws before after old new h es fs e table same tell more enters =
+  -- The trees have the entries too, each at its place, and the table is as before.
+  pub entered_then : PageLaws → (before after : PageMap) (old new : Roots) (h : History) (es batch fs : List Entered) → new.table ≡ old.table → new.forest.params ≡ old.forest.params
+      → PagesTell g before old h es → LeadTo old.forest.params es batch fs
+      → ForestEnters g old.forest.params before after old.forest.roots.items new.forest.roots.items es batch → PagesTell g after new h fs
+  entered_then laws before after old new h es batch fs table same tell lead enters =
       let trees : List ℕ = forest_pages g before old.forest.params old.forest.roots.items in
       let split = (laws.parts (table_pages ByLives before old.table) trees).0 tell.apart in
       let both = table_stays laws before after old.table tell.kept trees (forest_pages g after old.forest.params new.forest.roots.items) tell.stands (laws.both (table_pages ByLives before old.table) trees split.2) enters.change enters.once in
-      let front : ForestStands g after old.forest.params new.forest.roots.items (e ∷ (more.front ++ more.back)) =
-      subst (λ (l : List Entered). ForestStands g after old.forest.params new.forest.roots.items (e ∷ l)) more.was enters.stands in
-      let placed : ForestStands g after old.forest.params new.forest.roots.items fs =
-      subst (λ (l : List Entered). ForestStands g after old.forest.params new.forest.roots.items l) (sym more.is) ((laws.anywhere after old.forest.params new.forest.roots.items more.front more.back e).0 front) in
+      let placed = all_placed g laws.anywhere after old.forest.params new.forest.roots.items es batch fs lead enters.stands in
       let at : old.table ≡ new.table = sym table in
       tells after new old.forest.params h fs same tell.kept (subst (λ (t : Tree). TableStands ByLives after t tell.kept) at both.0) tell.all placed (enters.balanced tell.balanced)
       (subst (λ (t : Tree). NamesNoneTwice (table_pages ByLives after t ++ forest_pages g after old.forest.params new.forest.roots.items)) at both.1)

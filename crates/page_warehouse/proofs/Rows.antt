@@ -17,7 +17,7 @@ use Rattle.dom_index.specs.declared.index.DomIndex.{Ghosts}
 use Rattle.change_laws.specs.Begun.{with_changes}
 use Rattle.page_warehouse.specs.Entering.{PagesWait}
 use Rattle.page_warehouse.specs.declared.roots.Roots.{Roots}
-use Rattle.page_warehouse.specs.declared.waiting.Waiting.{Waiting}
+use Rattle.corner_forest.specs.declared.entry.Entry.{Entry as Waiting}
 
 -- With these changes in the table so much is given out for each, and the trees wait.
 pub record ToldSoFar {P X : Type 0} (s : PageGhosts P) (g : Ghosts X) (old now : P) (roots : Roots) (version : ℕ) (h : History) (done : List Change) (waiting : List Waiting) : Type 0 where

@@ -13,7 +13,7 @@ use Rattle.dom_index.specs.declared.index.DomIndex.{Ghosts}
 use Rattle.change_laws.specs.Begun.{next_event, with_changes}
 use Rattle.page_warehouse.specs.Entering.{KeepsOn, PagesWait}
 use Rattle.page_warehouse.specs.declared.roots.Roots.{Roots}
-use Rattle.page_warehouse.specs.declared.waiting.Waiting.{Waiting}
+use Rattle.corner_forest.specs.declared.entry.Entry.{Entry as Waiting}
 use Rattle.page_warehouse.proofs.Exits.{exit_error}
 use Rattle.page_warehouse.proofs.Stages.{changes_then, refused}
 

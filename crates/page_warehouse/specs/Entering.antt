@@ -22,7 +22,7 @@ use Rattle.corner_forest.specs.Stands.{AreBalanced, ForestStands, forest_pages}
 use Rattle.history_entries.specs.Entries.{history_entries}
 use Rattle.page_warehouse.specs.Waiting.{LeadTo, entered_at}
 use Rattle.page_warehouse.specs.declared.roots.Roots.{Roots}
-use Rattle.page_warehouse.specs.declared.waiting.Waiting.{Waiting}
+use Rattle.corner_forest.specs.declared.entry.Entry.{Entry as Waiting}
 
 module _ {X : Type 0} (g : Ghosts X) where
   -- In these pages the table keeps exactly the lives of the history, by lives, and the trees stand for the entries, each as low as

@@ -1,5 +1,5 @@
 -- What a warehouse shows.
-use Rattle.std.specs.Prelude.{Bool, true, false, IsTrue}
+use Rattle.std.specs.Prelude.{ℕ, Bool, true, false, IsTrue}
 use Rattle.bw_types.specs.History.{History}
 use Rattle.bw_types.specs.declared.params.Params.{Params}
 use Rattle.page_disk.specs.declared.disk.Disk.{Ghosts}
@@ -7,7 +7,8 @@ use Rattle.page_layout.specs.declared.meta.Meta.{Meta}
 use Rattle.page_space.specs.Shown.{disk_of, meta_of, params_of}
 use Rattle.page_space.specs.declared.space.Space.{Space}
 use Rattle.dom_index.specs.declared.index.DomIndex.{Ghosts as IndexGhosts}
-use Rattle.page_warehouse.specs.Holds.{Holds, HoldsTrees}
+use Rattle.page_warehouse.specs.Holds.{Holds, HoldsTrees, IsByLives}
+use Rattle.page_warehouse.specs.Needs.{charge_of}
 use Rattle.page_warehouse.specs.declared.state.Warehouse.{Warehouse}
 
 module _ {D X : Type 0} {g : Ghosts D} {i : IndexGhosts X} where
@@ -32,3 +33,12 @@ module _ {D X : Type 0} (g : Ghosts D) (i : IndexGhosts X) where
   abbrev pub HoldsHistory : Bool → D → Params → History → Type 0
   HoldsHistory true d params h = IsTrue (g.tells d) × Holds i (g.image d) params h
   HoldsHistory false d params h = IsTrue (g.tells d) × HoldsTrees i (g.image d) params h
+
+module _ {D : Type 0} (g : Ghosts D) where
+  -- The disk, where it tells its image, has a table by lives.
+  abbrev pub HasNewForm : D → Type 0
+  HasNewForm d = IsTrue (g.tells d) → IsByLives (g.image d)
+
+  -- the pages that count against the limit on the disk
+  abbrev pub disk_charge : D → ℕ
+  disk_charge d = charge_of (g.image d)

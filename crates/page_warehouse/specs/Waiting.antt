@@ -5,7 +5,7 @@ use Rattle.bw_types.specs.declared.params.Params.{Params}
 use Rattle.poly_moments.specs.PlaneSums.{Entered}
 use Rattle.corner_forest.specs.Enters.{entry_of}
 use Rattle.corner_forest.specs.Entries.{IsNextEntry}
-use Rattle.page_warehouse.specs.declared.waiting.Waiting.{Waiting}
+use Rattle.corner_forest.specs.declared.entry.Entry.{Entry as Waiting}
 
 -- the entry that waits, at the version of its batch
 abbrev pub entered_at : ℕ → Waiting → Entered

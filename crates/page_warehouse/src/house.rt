@@ -14,12 +14,11 @@ impl<D: Disk + Drop, X: DomIndex + Drop> House for Warehouse<D, X> {
 
     ghost use Rattle.page_disk.specs.Image.{Image as DiskImage};
     ghost use Rattle.page_disk.specs.Moment.{Moment, MayBeLeftNow, MayBeLeftSince, clock_of};
-    ghost use Rattle.std.specs.Prelude.{IsTrue, List, length};
-    ghost use Rattle.bw_types.specs.History.{changes};
+    ghost use Rattle.std.specs.Prelude.{List};
     ghost use Rattle.page_warehouse.specs.Costs.{query_cost};
-    ghost use Rattle.page_warehouse.specs.Holds.{Holds, IsByLives};
-    ghost use Rattle.page_warehouse.specs.Needs.{LacksPages, RisesWithin, batch_need, charge_of};
-    ghost use Rattle.page_warehouse.specs.Shown.{HoldsHistory, disk_in, params_in};
+    ghost use Rattle.page_warehouse.specs.Holds.{Holds};
+    ghost use Rattle.page_warehouse.specs.Needs.{LacksPages, RisesWithin, batch_need};
+    ghost use Rattle.page_warehouse.specs.Shown.{HasNewForm, HoldsHistory, disk_charge, disk_in, params_in};
 
     ghost Image = { DiskImage };
 
@@ -49,9 +48,9 @@ impl<D: Disk + Drop, X: DomIndex + Drop> House for Warehouse<D, X> {
 
     ghost lacks_pages = { λ disk params h rows. LacksPages (D.image disk) params h rows };
 
-    ghost is_current = { λ disk. IsTrue (D.tells disk) → IsByLives (D.image disk) };
+    ghost is_current = { λ disk. HasNewForm D.Disk disk };
 
-    ghost charge = { λ disk. charge_of (D.image disk) };
+    ghost charge = { λ disk. disk_charge D.Disk disk };
 
     ghost need = { batch_need };
 

@@ -1,20 +1,17 @@
 //! The opening of a warehouse.
-ghost use Rattle.std.specs.Prelude.{◌≡◌, ◌≢◌, ◌⊎◌, ◌+◌, ◌≤◌, true, false, length, IsTrue, IfOk, IfErr};
+ghost use Rattle.std.specs.Prelude.{◌≡◌, ◌+◌, ◌≤◌, true, false, length, IsTrue, IfOk, IfErr};
 ghost use Rattle.bw_types.specs.History.{History};
 ghost use Rattle.bw_types.specs.declared.params.Params.{Params};
 ghost use Rattle.page_disk.specs.Calls.{WritesAsTold};
-ghost use Rattle.page_disk.specs.Since.{LeavesNow, LeavesOnly};
-ghost use Rattle.redo_journal.specs.Gates.{is_empty};
+ghost use Rattle.page_disk.specs.Image.{PageList};
+ghost use Rattle.page_disk.specs.Since.{LeavesOnly};
 ghost use Rattle.redo_journal.specs.Settled.{SettlesTo};
-ghost use Rattle.page_space.specs.Faults.{AtBadJournal, AtDamaged, AtEmpty, is_disk};
-ghost use Rattle.page_space.specs.Opening.{StandsAlike};
-ghost use Rattle.page_space.specs.Settling.{HasNoReplay, IsBadAt, replay_reads};
-ghost use Rattle.page_warehouse.specs.Opened.{GoTogether, IsDamagedToOpen, opened_disk};
+ghost use Rattle.page_space.specs.Faults.{is_disk};
+ghost use Rattle.page_space.specs.Settling.{HasNoReplay, replay_reads};
+ghost use Rattle.page_warehouse.specs.Opened.{GoTogether, IsOpenedFrom, IsRefusedFor, IsUntouched, opened_disk};
 ghost use Rattle.corner_forest.specs.Entries.{root_count};
-ghost use Rattle.page_warehouse.specs.Holds.{Holds, HoldsTrees};
-ghost use Rattle.page_warehouse.specs.Shown.{disk_in, meta_in, params_in};
-ghost use Rattle.page_space.specs.Space.{HoldsSpace};
-ghost use Rattle.page_ports.specs.Pages.{PageMap};
+ghost use Rattle.page_warehouse.specs.Holds.{Holds};
+ghost use Rattle.page_warehouse.specs.Shown.{disk_in};
 
 use crate::Warehouse;
 use arrayvec::ArrayVec;
@@ -66,34 +63,15 @@ impl<D: Disk, X: DomIndex> Warehouse<D, X> {
     /// is refused only where the device fails or there is no memory. A crash at any moment leaves a disk that
     /// holds the same history. Four reads at most, and as many more for a replay as twice the journal has pages.
     pub fn open_on(alloc: Global, disk: D) -> Result<Warehouse<D, X>, OpenRefused<D>>
-        ensures whole { IfOk result (λ w. IsTrue (D.tells disk) → (pages : PageMap) × HoldsSpace (D.image disk) (params_in w) (meta_in w) pages ⊥) }
-        // The disk stands for the pages that it stood for, and its image is the space that is kept here.
-        ensures settles { IfOk result (λ w. IsTrue (D.tells disk) → SettlesTo (D.image disk) (D.image (disk_in w)).pages) }
-        ensures here { IfOk result (λ w. IsTrue (D.tells disk) → (pages : PageMap) × HoldsSpace (D.image (disk_in w)) (params_in w) (meta_in w) pages ⊥) }
-        ensures numbers { IfOk result (λ w. ((params_in w).dims ≤ X.DIMS) × GoTogether (params_in w) (meta_in w)) }
-        ensures holds { (params : Params) (h : History) → IsTrue (D.tells disk) → Holds X.DomIndex (D.image disk) params h
-            → IfOk result (λ w. (params_in w ≡ params) × Holds X.DomIndex (D.image (disk_in w)) params h) }
-        ensures holds_trees { (params : Params) (h : History) → IsTrue (D.tells disk) → HoldsTrees X.DomIndex (D.image disk) params h
-            → IfOk result (λ w. (params_in w ≡ params) × HoldsTrees X.DomIndex (D.image (disk_in w)) params h) }
-        ensures settled { IfOk result (λ w. LeavesNow (D.moments (disk_in w)) (D.image (disk_in w))) }
+        ensures opened { IfOk result (λ w. IsOpenedFrom D.Disk X.DomIndex disk w) }
+        ensures refused { IfErr result (λ refused. IsRefusedFor D.Disk X.DomIndex disk refused.fault refused.disk) }
         ensures any_moment { IsTrue (D.tells disk) → (params : Params) (h : History) → Holds X.DomIndex (D.image disk) params h
             → LeavesOnly (λ x. Holds X.DomIndex x params h) (D.moments disk) (D.moments (opened_disk disk_in result)) }
-        // A refusal leaves the history that the disk holds, unless the device failed.
-        ensures kept { IfErr result (λ refused. refused.fault ≢ OpenFault.Disk → IsTrue (D.tells disk) → (params : Params) (h : History)
-            → Holds X.DomIndex (D.image disk) params h → Holds X.DomIndex (D.image refused.disk) params h) }
-        // Where nothing is replayed, the disk is as it was; and a refusal leaves it standing for the same pages.
-        ensures untouched { IsTrue (D.tells disk) → HasNoReplay (D.image disk) → D.image (opened_disk disk_in result) ≡ D.image disk }
-        ensures untouched_moments { IsTrue (D.tells disk) → HasNoReplay (D.image disk)
-            → LeavesOnly (λ x. x ≡ D.image disk) (D.moments disk) (D.moments (opened_disk disk_in result)) }
-        ensures stands { IfErr result (λ refused. refused.fault ≢ OpenFault.Disk
-            → IsTrue (D.tells disk) → StandsAlike (D.image disk) (D.image refused.disk)) }
-        ensures refused_settled { IfErr result (λ refused. refused.fault ≢ OpenFault.Disk
-            → IsTrue (D.tells disk) → LeavesNow (D.moments refused.disk) (D.image refused.disk)) }
-        ensures sound { IfErr result (λ refused. IsTrue (D.tells disk) → (params : Params) (h : History)
-            → HoldsTrees X.DomIndex (D.image disk) params h → (refused.fault ≡ OpenFault.Disk) ⊎ (refused.fault ≡ OpenFault.NoMemory)) }
-        ensures empty { IfErr result (λ refused. AtEmpty refused.fault (IsTrue (D.tells disk) → is_empty (D.image disk) ≡ true)) }
-        ensures bad_journal { IfErr result (λ refused. AtBadJournal refused.fault (λ page. IsTrue (D.tells disk) → IsBadAt (D.image disk) page)) }
-        ensures damaged { IfErr result (λ refused. AtDamaged refused.fault (λ page. IsTrue (D.tells disk) → IsDamagedToOpen X.DIMS (D.image disk) page)) }
+        // Whatever the disk held, it stands for the same pages at each moment.
+        ensures stands_on { IsTrue (D.tells disk) → (pages : PageList) → SettlesTo (D.image disk) pages
+            → LeavesOnly (λ x. SettlesTo x pages) (D.moments disk) (D.moments (opened_disk disk_in result)) }
+        // Where nothing is replayed, the disk is as it was.
+        ensures untouched { IsTrue (D.tells disk) → HasNoReplay (D.image disk) → IsUntouched D.Disk disk (opened_disk disk_in result) }
         ensures writes { WritesAsTold D.Disk (λ refused. is_disk refused.fault) (4 + replay_reads (D.image disk)) disk (opened_disk disk_in result) result }
     {
         // A disk stands for one list of pages, and one space.

@@ -6,6 +6,7 @@ ghost use Rattle.bw_types.specs.History.{History};
 ghost use Rattle.counts.specs.Count.{Rose};
 ghost use Rattle.page_ports.specs.Calls.{OnlyReads};
 ghost use Rattle.warehouse.specs.Committed.{Answers};
+ghost use Rattle.warehouse.specs.Left.{IsAsBefore};
 ghost use Rattle.page_warehouse.specs.Costs.{query_cost};
 ghost use Rattle.page_warehouse.specs.Holds.{HoldsTrees};
 
@@ -21,7 +22,7 @@ use page_space::{Space, holds_one};
 use warehouse::QueryFault;
 
 impl<D: Disk, X: DomIndex> Warehouse<D, X> {
-    ghost use Rattle.page_warehouse.specs.Shown.{HoldsHistory, disk_in, meta_in, params_in, space_in};
+    ghost use Rattle.page_warehouse.specs.Shown.{HasNewForm, HoldsHistory, disk_charge, disk_in, meta_in, params_in, space_in};
 
     // What the trees answer, at whatever version.
     fn total(&mut self, query: &Query, version: u32) -> Result<i128, PageFault>
@@ -61,14 +62,10 @@ impl<D: Disk, X: DomIndex> Warehouse<D, X> {
         requires { IsTrue (query_fits (params_in self.old) query.now) }
         ensures answers { (whole : Bool) (h : History) → HoldsHistory D.Disk X.DomIndex whole (disk_in self.old) (params_in self.old) h
             → Answers (params_in self.old) h version query.now result }
-        ensures stands { (whole : Bool) (h : History) → HoldsHistory D.Disk X.DomIndex whole (disk_in self.old) (params_in self.old) h
-            → HoldsHistory D.Disk X.DomIndex whole (disk_in self.new) (params_in self.old) h }
-        ensures moments { D.moments (disk_in self.new) ≡ D.moments (disk_in self.old) }
-        ensures image { D.image (disk_in self.new) ≡ D.image (disk_in self.old) }
+        ensures kept { IsAsBefore params_in disk_in (HoldsHistory D.Disk X.DomIndex) (HasNewForm D.Disk) D.image D.moments (disk_charge D.Disk) self.old self.new }
         ensures tells { D.tells (disk_in self.new) ≡ D.tells (disk_in self.old) }
         ensures above { (meta_in self.old).version < version → (result ≡ Err (QueryFault.NoVersion (meta_in self.old).version)) × (self.new ≡ self.old) }
         ensures within { (last : ℕ) → version ≤ (meta_in self.old).version → result ≢ Err (QueryFault.NoVersion last) }
-        ensures params { params_in self.new ≡ params_in self.old }
         ensures meta { meta_in self.new ≡ meta_in self.old }
         ensures disk { result ≡ Err QueryFault.Disk → Rose (D.faults (disk_in self.old)) (D.faults (disk_in self.new)) }
         ensures faults { D.faults (disk_in self.old) ≤ D.faults (disk_in self.new) }

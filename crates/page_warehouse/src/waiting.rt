@@ -1,16 +1,9 @@
 //! Entries that wait for the trees while a batch is entered in the table.
 ghost use Rattle.std.specs.Prelude.{◌≡◌, [], ◌∷◌, ◌++◌, Err, OnErr, OnOk};
 
-use bw_types::Object;
+// What waits is what the trees are to enter: an object, put in or taken out, by the change of this event number.
+pub(crate) use corner_forest::Entry as Waiting;
 use page_ports::StageFault;
-
-/// What the trees are to enter: an object, put in or taken out, by the change of this event number.
-#[derive(Clone, Copy)]
-pub(crate) struct Waiting {
-    pub(crate) object: Object,
-    pub(crate) minus: bool,
-    pub(crate) event: u32,
-}
 
 /// Puts an entry last.
 pub(crate) fn wait(waiting: &mut Vec<Waiting>, next: Waiting) -> Result<(), StageFault>

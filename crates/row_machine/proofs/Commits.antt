@@ -19,7 +19,7 @@ pub commit_is_whole : (whole : Bool) (session : ℕ) → MayTake whole (Some (Co
 commit_is_whole true session may = refl
 commit_is_whole false session may = absurd may
 
-module _ {H D : Type 0} (g : Ghosts H D) (n session : ℕ) (before after : List ℕ) (stopped : Option Line) (old new : Desk H D g) (gathered same_gathered gathered' : List ℕ)
+module _ {H D : Type 0} (g : Ghosts H D) (n session : ℕ) (before after : List ℕ) (stopped : Option Line) (old new : Desk H D g) (gathered same_gathered gathered' : List ℕ) (is_urgent : Bool)
     (same : new ≡ old) (unsaid : same_gathered ≡ gathered) (left : LeavesLine old.params before after stopped session) where
   spells_commit : input new.params left.line ≡ Some (Commit session)
   spells_commit = subst (λ (d : Desk H D g). input d.params left.line ≡ Some (Commit session)) (sym same) left.spells
@@ -33,20 +33,20 @@ module _ {H D : Type 0} (g : Ghosts H D) (n session : ℕ) (before after : List 
 
   pub commit_line : (next : Desk H D g)
       → ((number : ℕ) (line : List ℕ) (whole : Bool) (h : History) → input new.params line ≡ Some (Commit session) → IsTrue whole → g.stands whole (g.device new.house) new.params h
-      → ServesText g whole new.params h (step new.params number (state_at g h new) line) (rows_committed (state_at g h new) (input new.params line)) (MayTake false (input new.params line)) (line_cost g.cost new.params h line) (g.device new.house) same_gathered gathered' (Ok next))
+      → ServesText g whole new.params h (step new.params number (state_at g h new) line) (rows_committed (state_at g h new) (input new.params line)) (MayTake false (input new.params line)) (line_cost g.cost new.params h line) (g.device new.house) same_gathered gathered' is_urgent (Ok next))
       → (whole : Bool) (h : History) → MayServe whole old.params (lines before) → g.stands whole (g.device old.house) old.params h
-      → ServesLine g whole old.params n before after stopped h old next gathered gathered'
+      → ServesLine g whole old.params n before after stopped h old next gathered gathered' is_urgent
   commit_line next serves whole h may stands = record {
     line = left.line;
     takes = left.takes;
-    serves = subst (λ (text : List ℕ). Serves g whole old.params h (step old.params n (state_at g h old) left.line) (rows_committed (state_at g h old) (input old.params left.line)) (MayTake false (input old.params left.line)) (line_cost g.cost old.params h left.line) (g.device old.house) next text gathered') unsaid
-        (subst (λ (d : Desk H D g). Serves g whole d.params h (step d.params n (state_at g h d) left.line) (rows_committed (state_at g h d) (input d.params left.line)) (MayTake false (input d.params left.line)) (line_cost g.cost d.params h left.line) (g.device d.house) next same_gathered gathered') same
+    serves = subst (λ (text : List ℕ). Serves g whole old.params h (step old.params n (state_at g h old) left.line) (rows_committed (state_at g h old) (input old.params left.line)) (MayTake false (input old.params left.line)) (line_cost g.cost old.params h left.line) (g.device old.house) next text gathered' is_urgent) unsaid
+        (subst (λ (d : Desk H D g). Serves g whole d.params h (step d.params n (state_at g h d) left.line) (rows_committed (state_at g h d) (input d.params left.line)) (MayTake false (input d.params left.line)) (line_cost g.cost d.params h left.line) (g.device d.house) next same_gathered gathered' is_urgent) same
         (serves n left.line whole h spells_commit (is_whole whole may) (stands_new whole h stands)));
   }
 
   pub commit_breaks : (ran : Ran D) → MayGoOn stopped
       → ((number : ℕ) (line : List ℕ) (whole : Bool) (h : History) → input new.params line ≡ Some (Commit session) → IsTrue whole → g.stands whole (g.device new.house) new.params h
-      → ServesText g whole new.params h (step new.params number (state_at g h new) line) (rows_committed (state_at g h new) (input new.params line)) (MayTake false (input new.params line)) (line_cost g.cost new.params h line) (g.device new.house) same_gathered gathered' (Err ran))
+      → ServesText g whole new.params h (step new.params number (state_at g h new) line) (rows_committed (state_at g h new) (input new.params line)) (MayTake false (input new.params line)) (line_cost g.cost new.params h line) (g.device new.house) same_gathered gathered' is_urgent (Err ran))
       → (whole : Bool) (h : History) → MayServe whole old.params (lines before) → g.stands whole (g.device old.house) old.params h
       → BreaksOff g whole old.params n before after stopped h old ran
   commit_breaks ran going serves whole h may stands = record {

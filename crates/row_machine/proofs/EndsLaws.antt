@@ -13,12 +13,12 @@ use Rattle.row_machine.specs.declared.desk.Desk.{Desk}
 use Rattle.row_machine.specs.declared.ending.Ran.{Ran}
 use Rattle.row_machine.specs.declared.ending.Ending.{Ending}
 use Rattle.row_machine.specs.declared.ending.Ending.TheVariants.{Fine, DiskFault, Damaged, PageLimit}
-use Rattle.row_machine.specs.Housed.{GoesOnFrom, IsHouseEnding, IsVersion, MayTake, rows_committed, SettledBetween, OnlyBetween, version_need}
+use Rattle.row_machine.specs.Housed.{GoesOnFrom, IsHouseEnding, IsVersion, KeepsDevice, MayTake, rows_committed, SettledBetween, OnlyBetween, version_need}
 use Rattle.row_machine.specs.Runs.{WritesPart}
-use Rattle.row_machine.specs.Serving.{state_at, Breaks, BreaksOff, Ends, IsBetweenLines, IsFlushed, IsInputEnding, MayServe, NextIsVersion, TakesLines, TakesWhole, line_cost, line_need, lines_cost, next_rows}
+use Rattle.row_machine.specs.Serving.{state_at, Breaks, BreaksOff, Ends, IsBetweenLines, IsFlushed, IsInputEnding, MayServe, NextIsVersion, PutsAllButOne, TakesLines, TakesWhole, line_cost, line_need, lines_cost, next_rows}
 use Rattle.csv_rows.specs.declared.reply.Reply.{Reply}
 use Rattle.csv_rows.specs.declared.reply.Reply.TheVariants.{Version, Refused, Dropped, Answer, Bad, Full, NoVersion}
-use Rattle.row_machine.proofs.Housing.{goes_on_same, step_goes_on, only_twice, settled_between}
+use Rattle.row_machine.proofs.Housing.{goes_on_same, keeps_twice, step_goes_on, only_twice, settled_between}
 use Rattle.row_machine.proofs.Lined.{first_may}
 use Rattle.row_machine.proofs.Replies.{sums_more}
 use Rattle.row_machine.proofs.Served.{LineLaws, after_line, lines_split, takes_given, takes_one_more}
@@ -55,8 +55,9 @@ module _ {H D : Type 0} (g : Ghosts H D) (laws : LineLaws) (whole tells tells' s
   pub ends_between : (reached : Reached g whole tells params h first now n input come stopped before virtual)
       → ran.device ≡ g.device now.house → (ran.ending ≡ Fine → come ≡ []) → (IsHouseEnding ran.ending → ⊥) → (IsTrue still → (passed : List ℕ) × (come ≡ passed ++ left))
       → Written tells tells' still ran.ending params (state_at g h first) input left (lines reached.served.given) before written'
+      → (IsTrue tells → IsTrue tells' → PutsAllButOne params (state_at g h first) (lines reached.served.given) [] before written')
       → Ends g whole tells tells' still params (state_at g h first) input left (g.device first.house) ran before written'
-  ends_between r disk fine outside passes written =
+  ends_between r disk fine outside passes written put =
       let begin = state_at g h first in
       let given = lines r.served.given in
       let all : given ≡ given ++ [] = sym (append-nil given) in
@@ -74,6 +75,7 @@ module _ {H D : Type 0} (g : Ghosts H D) (laws : LineLaws) (whole tells tells' s
         read = λ told. let p = passes told in
             subst (λ (ls : List (List ℕ)). TakesLines input left ls) all (takes_given laws tells params begin r.state n input come left stopped before virtual r.served p.0 p.1);
         wrote = written.wrote;
+        put = put;
         flushed = written.flushed;
         sure = r.state.history;
         which = inl (ap (λ (s : State). s.history) r.served.state);
@@ -82,6 +84,7 @@ module _ {H D : Type 0} (g : Ghosts H D) (laws : LineLaws) (whole tells tells' s
         page_limit = λ allotted e. absurd (outside (subst (λ (s : Ending). IsHouseEnding s) (sym e) tt));
         reads = λ reading. subst (λ (d : D). g.reads d ≤ g.reads (g.device first.house) + lines_cost g.cost params 1 begin (given ++ [])) (sym disk)
             (subst (λ (ls : List (List ℕ)). g.reads (g.device now.house) ≤ g.reads (g.device first.house) + lines_cost g.cost params 1 begin ls) all (r.reads reading));
+        quiet = λ reading. subst (λ (d : D). KeepsDevice g (g.device first.house) d) (sym disk) (r.quiet reading);
         any_moment = λ e. subst (λ (k : History). OnlyBetween g params h k (g.device first.house) ran.device) same
             (subst (λ (d : D). OnlyBetween g params h r.state.history (g.device first.house) d) (sym disk) (r.any_moment e));
         settled = λ e s. subst (λ (k : History). SettledBetween g params r.state.history k ran.device) same
@@ -90,14 +93,15 @@ module _ {H D : Type 0} (g : Ghosts H D) (laws : LineLaws) (whole tells tells' s
 
   -- the run ends in a line, or in the output after it
   pub ends_within : (ended : Ran D) (after_it : List ℕ) (stopped' : Option Line) → (reached : Reached g whole tells params h first now n input come stopped before virtual)
-      → BreaksOff g whole params n come after_it stopped' reached.state.history now ended
+      → (breaks : BreaksOff g whole params n come after_it stopped' reached.state.history now ended)
       → (stopped' ≡ Some End → after_it ≡ []) → (IsTrue still → (passed : List ℕ) × (after_it ≡ passed ++ left))
       → ran.device ≡ ended.device → (ended.ending ≡ DiskFault → ran.ending ≡ DiskFault)
       → (IsBetweenLines ran.ending → ⊥)
       → ((page : ℕ) → ran.ending ≡ Damaged page → ended.ending ≡ Damaged page) → ((allotted : ℕ) → ran.ending ≡ PageLimit allotted → ended.ending ≡ PageLimit allotted)
       → Written tells tells' still ran.ending params (state_at g h first) input left (lines reached.served.given) before written'
+      → (IsTrue tells → IsTrue tells' → PutsAllButOne params (state_at g h first) (lines reached.served.given) (breaks.line ∷ []) before written')
       → Ends g whole tells tells' still params (state_at g h first) input left (g.device first.house) ran before written'
-  ends_within ended after_it stopped' r b nothing passes disk fault outside damaged limit written =
+  ends_within ended after_it stopped' r b nothing passes disk fault outside damaged limit written put =
       let begin = state_at g h first in
       let given = lines r.served.given in
       let line = b.line in
@@ -111,10 +115,12 @@ module _ {H D : Type 0} (g : Ghosts H D) (laws : LineLaws) (whole tells tells' s
       let goes : GoesOnFrom r.state.history (step params n r.state line).state.history = step_goes_on params n r.state line in
       let rows : rows_committed r.state (input_of params line) ≡ next_rows params (state_after params 1 begin given) (line ∷ []) =
       ap (λ (s : State). rows_committed s (input_of params line)) r.served.state in
+      let reads_line : MayServe false params (lines input) → MayTake false (input_of params line) =
+      λ reading. first_may false params (lines come) line (lines after_it) coming
+      (coming_may laws false tells params begin r.state n input come stopped before virtual r.served reading) in
       let reads : MayServe false params (lines input) → g.reads ran.device ≤ g.reads (g.device now.house) + line_cost g.cost params r.state.history line =
       λ reading. subst (λ (d : D). g.reads d ≤ g.reads (g.device now.house) + line_cost g.cost params r.state.history line) (sym disk)
-      (breaks.reads (first_may false params (lines come) line (lines after_it) coming
-      (coming_may laws false tells params begin r.state n input come stopped before virtual r.served reading))) in
+      (breaks.reads (reads_line reading)) in
       record {
         served = given;
         begun = line ∷ [];
@@ -127,6 +133,7 @@ module _ {H D : Type 0} (g : Ghosts H D) (laws : LineLaws) (whole tells tells' s
         read = λ told. let p = passes told in
             takes_one_more laws tells params begin r.state n input come after_it left stopped stopped' before virtual line r.served b.takes nothing p.0 p.1;
         wrote = written.wrote;
+        put = put;
         flushed = written.flushed;
         sure = breaks.sure;
         which = elim breaks.which [ inl e ↦ inl (e ∙ state) | inr e ↦ inr (e ∙ after) ];
@@ -148,6 +155,8 @@ module _ {H D : Type 0} (g : Ghosts H D) (laws : LineLaws) (whole tells tells' s
                   omega (arith, most, up_to),
             );
         reads = λ reading. sums_more (λ k t l. line_cost g.cost params t.history l) params begin r.state n given line _ _ _ r.served.number r.served.state (r.reads reading) (reads reading);
+        quiet = λ reading. keeps_twice g _ _ _ (r.quiet reading)
+            (subst (λ (d : D). KeepsDevice g (g.device now.house) d) (sym disk) (breaks.quiet (reads_line reading)));
         any_moment = λ e. subst (λ (k : History). OnlyBetween g params h k (g.device first.house) ran.device) after
             (subst (λ (d : D). OnlyBetween g params h (step params n r.state line).state.history (g.device first.house) d) (sym disk)
             (only_twice g params _ _ _ _ _ _ r.goes goes (r.any_moment e) (breaks.any_moment e)));

@@ -1,6 +1,7 @@
 -- The invariant of the loop over lines.
-use Rattle.std.proofs.Common.{◌≡◌, ℕ, ◌+◌, ◌≤◌, Bool, IsTrue, List, [], ◌++◌, length, ◌⊎◌, inl, inr, Option, None, Some, Ok, true, sym, ◌∙◌, ap, refl, arith, subst}
+use Rattle.std.proofs.Common.{◌≡◌, ℕ, ◌+◌, ◌≤◌, Bool, false, IsTrue, List, [], ◌++◌, length, ◌⊎◌, inl, inr, Option, None, Some, Ok, true, sym, ◌∙◌, ap, refl, arith, subst}
 use Rattle.std.proofs.lemmas.List.{append-nil}
+use Rattle.std.specs.Prelude.{⊤}
 use Rattle.bw_types.specs.declared.params.Params.{Params}
 use Rattle.bw_types.specs.History.{History}
 use Rattle.bw_types.specs.Fits.{IsInRange}
@@ -20,6 +21,7 @@ use Rattle.line_reader.specs.Lines.{lines, PassesNoLineFeed}
 use Rattle.csv_rows.specs.Machine.{replies}
 use Rattle.row_machine.proofs.Lined.{not_both}
 use Rattle.row_machine.proofs.Parts.{more_twice, nothing_more, part_of_all}
+use Rattle.row_machine.proofs.Putting.{Puts, puts_between, puts_due, puts_line, puts_nothing, puts_within}
 use Rattle.row_machine.proofs.Served.{LineLaws, served_whole}
 use Rattle.row_machine.proofs.Reached.{Reached, coming_may, reached_nothing, reached_line}
 use Rattle.row_machine.proofs.EndsLaws.{Written, ends_between, ends_within}
@@ -39,9 +41,9 @@ pub record Calm (old new : Port) : Type 0 where
 pub calm_twice : (a b c : Port) → Calm a b → Calm b c → Calm a c
 calm_twice a b c f g = record { faults = g.faults ∙ f.faults; tells = λ t. g.tells (f.tells t) }
 
--- Between two lines: source and sink at entry and now, the replies that are gathered, the machine at entry and now, the reader
--- and the next line's number.
-pub record Going {H D : Type 0} (g : Ghosts H D) (first now : Desk H D g) (source source' sink sink' : Port) (gathered : List ℕ) (reader : ReaderState) (number : ℕ) : Type 0 where
+-- Between two lines: source and sink at entry and now, the replies that are gathered, what tells that no version waits among them,
+-- the machine at entry and now, the reader and the next line's number.
+pub record Going {H D : Type 0} (g : Ghosts H D) (first now : Desk H D g) (source source' sink sink' : Port) (gathered : List ℕ) (calm : Type 0) (reader : ReaderState) (number : ℕ) : Type 0 where
   pub params : now.params ≡ first.params
   pub range : IsInRange first.params
   pub limit : reader.limit ≡ INPUT_LIMIT
@@ -56,7 +58,8 @@ pub record Going {H D : Type 0} (g : Ghosts H D) (first now : Desk H D g) (sourc
   pub counts : IsTrue source.tells → reader.taken + length source'.bytes ≡ length source.bytes
   pub lasts : (h : History) → g.stands true (g.device first.house) first.params h → LastsSoFar g first.params h (g.device first.house) (g.device now.house)
   pub reached : IsTrue source.tells → (whole : Bool) (h : History) → MayServe whole first.params (lines source.bytes) → g.stands whole (g.device first.house) first.params h
-      → Reached g whole sink.tells first.params h first now number source.bytes (to_come reader source'.bytes) reader.stopped sink.bytes (sink'.bytes ++ gathered)
+      → (reached : Reached g whole sink.tells first.params h first now number source.bytes (to_come reader source'.bytes) reader.stopped sink.bytes (sink'.bytes ++ gathered))
+      × Puts calm sink.tells first.params (state_at g h first) (lines reached.served.given) sink.bytes sink'.bytes
 
 -- a reader that may go on has not stopped, or has stopped at the end
 pub going_or_ended : (stopped : Option Line) → MayGoOn stopped → (stopped ≡ None) ⊎ (stopped ≡ Some End)
@@ -100,11 +103,12 @@ seen_after source source' source'' reader reader' may calm seen now stays = elim
 ]
 
 -- what was gathered is put, or stays gathered
-pub going_put : {H D : Type 0} (g : Ghosts H D) (first now : Desk H D g) (source source' sink sink' sink'' : Port) (gathered gathered' : List ℕ) (reader : ReaderState) (number : ℕ)
-    → Going g first now source source' sink sink' gathered reader number
+pub going_put : {H D : Type 0} (g : Ghosts H D) (first now : Desk H D g) (source source' sink sink' sink'' : Port) (gathered gathered' : List ℕ) (calm : Type 0) (reader : ReaderState) (number : ℕ)
+    → Going g first now source source' sink sink' gathered calm reader number
+    → ((sink''.bytes ≡ sink'.bytes) × calm) ⊎ (IsTrue sink'.tells → sink''.bytes ≡ sink'.bytes ++ gathered)
     → Calm sink' sink'' → (IsTrue sink'.tells → WritesMore sink'.bytes sink''.bytes) → (IsTrue sink'.tells → sink''.bytes ++ gathered' ≡ sink'.bytes ++ gathered)
-    → Going g first now source source' sink sink'' gathered' reader number
-going_put g first now source source' sink sink' sink'' gathered gathered' reader number o calm more same = record {
+    → Going g first now source source' sink sink'' gathered' ⊤ reader number
+going_put g first now source source' sink sink' sink'' gathered gathered' calm reader number o due still more same = record {
   params = o.params;
   range = o.range;
   limit = o.limit;
@@ -113,39 +117,50 @@ going_put g first now source source' sink sink' sink'' gathered gathered' reader
   may_go_on = o.may_go_on;
   seen_end = o.seen_end;
   source_calm = o.source_calm;
-  sink_calm = calm_twice sink sink' sink'' o.sink_calm calm;
+  sink_calm = calm_twice sink sink' sink'' o.sink_calm still;
   more = λ told. more_twice sink.bytes sink'.bytes sink''.bytes (o.more told) (more (o.sink_calm.tells told));
   faults = o.faults;
   counts = o.counts;
   lasts = o.lasts;
-  reached = λ told whole h may stands. virtual_same (o.reached told whole h may stands);
+  reached = λ told whole h may stands.
+      let held = o.reached told whole h may stands in
+      let r = held.0 in (
+        record {
+          state = r.state;
+          at = r.at;
+          served = record {
+            given = r.served.given;
+            cut = r.served.cut;
+            ends = r.served.ends;
+            nothing = r.served.nothing;
+            number = r.served.number;
+            state = r.served.state;
+            wrote = λ told. same (o.sink_calm.tells told) ∙ r.served.wrote told;
+          };
+          goes = r.goes;
+          reads = r.reads;
+          quiet = r.quiet;
+          charge = r.charge;
+          any_moment = r.any_moment;
+          settled = r.settled;
+        },
+        puts_due calm sink.tells first.params (state_at g h first) (lines r.served.given) sink.bytes sink'.bytes sink''.bytes held.1
+            (elim due [
+              | inl kept ↦ inl kept
+              | inr all ↦ inr (λ wrote. all (o.sink_calm.tells wrote) ∙ r.served.wrote wrote)
+            ]),
+      );
 }
-  where
-    virtual_same : {whole : Bool} {h : History}
-        → Reached g whole sink.tells first.params h first now number source.bytes (to_come reader source'.bytes) reader.stopped sink.bytes (sink'.bytes ++ gathered)
-        → Reached g whole sink.tells first.params h first now number source.bytes (to_come reader source'.bytes) reader.stopped sink.bytes (sink''.bytes ++ gathered')
-    virtual_same r = record {
-      state = r.state;
-      at = r.at;
-      served = record {
-        given = r.served.given;
-        cut = r.served.cut;
-        ends = r.served.ends;
-        nothing = r.served.nothing;
-        number = r.served.number;
-        state = r.served.state;
-        wrote = λ told. same (o.sink_calm.tells told) ∙ r.served.wrote told;
-      };
-      goes = r.goes;
-      reads = r.reads;
-      charge = r.charge;
-      any_moment = r.any_moment;
-      settled = r.settled;
-    }
+
+-- what the outbox says of the replies that are due: nothing was put, or all was
+pub put_so : {K P Q : Type 0} (written : K → List ℕ) (old new : K) (gathered : List ℕ) (calm told : Type 0)
+    → ((new ≡ old) × P × calm) ⊎ (Q × (told → written new ≡ written old ++ gathered))
+    → ((written new ≡ written old) × calm) ⊎ (told → written new ≡ written old ++ gathered)
+put_so written old new gathered calm told due = elim due [ inl kept ↦ inl (ap written kept.0, kept.2) | inr all ↦ inr all.1 ]
 
 -- one line more
-pub going_on : {H D : Type 0} (g : Ghosts H D) (laws : LineLaws) (first now now' : Desk H D g) (source source' source'' sink sink' : Port) (gathered gathered' : List ℕ) (reader reader' : ReaderState) (number : ℕ)
-    → Going g first now source source' sink sink' gathered reader number
+pub going_on : {H D : Type 0} (g : Ghosts H D) (laws : LineLaws) (first now now' : Desk H D g) (source source' source'' sink sink' : Port) (gathered gathered' : List ℕ) (is_urgent : Bool) (reader reader' : ReaderState) (number : ℕ)
+    → Going g first now source source' sink sink' gathered ⊤ reader number
     → now'.params ≡ now.params → reader'.limit ≡ reader.limit → GoesOn reader reader' → Calm source' source''
     → g.faults (g.device now.house) ≤ g.faults (g.device now'.house)
     → (reader.stopped ≡ None → SeenEnd reader' source'.tells source''.bytes)
@@ -153,9 +168,9 @@ pub going_on : {H D : Type 0} (g : Ghosts H D) (laws : LineLaws) (first now now'
     → (IsTrue source'.tells → IsTrue source''.tells → reader'.taken + length source''.bytes ≡ reader.taken + length source'.bytes)
     → ((h : History) → g.stands true (g.device now.house) now.params h → LastsBeyond g now.params h (g.device now.house) (Ok now'))
     → (IsTrue source'.tells → (whole : Bool) (h : History) → MayServe whole now.params (lines (to_come reader source'.bytes)) → g.stands whole (g.device now.house) now.params h
-    → ServesLine g whole now.params number (to_come reader source'.bytes) (to_come reader' source''.bytes) reader'.stopped h now now' gathered gathered')
-    → Going g first now' source source'' sink sink' gathered' reader' (number + 1)
-going_on g laws first now now' source source' source'' sink sink' gathered gathered' reader reader' number o params limit goes calm faults seen stays counts lasts serves = record {
+    → ServesLine g whole now.params number (to_come reader source'.bytes) (to_come reader' source''.bytes) reader'.stopped h now now' gathered gathered' is_urgent)
+    → Going g first now' source source'' sink sink' gathered' (is_urgent ≡ false) reader' (number + 1)
+going_on g laws first now now' source source' source'' sink sink' gathered gathered' is_urgent reader reader' number o params limit goes calm faults seen stays counts lasts serves = record {
   params = params ∙ o.params;
   range = o.range;
   limit = limit ∙ o.limit;
@@ -174,22 +189,27 @@ going_on g laws first now now' source source' source'' sink sink' gathered gathe
       (subst (λ (p : Params). LastsSoFar g p so_far.sure (g.device now.house) (g.device now'.house)) o.params
       (lasts so_far.sure (subst (λ (p : Params). g.stands true (g.device now.house) p so_far.sure) (sym o.params) so_far.stands)));
   reached = λ told whole h may stands.
-      let r = o.reached told whole h may stands in
+      let held = o.reached told whole h may stands in
+      let r = held.0 in
       let may' : MayServe whole first.params (lines (to_come reader source'.bytes)) =
       coming_may laws whole sink.tells first.params (state_at g h first) r.state number source.bytes (to_come reader source'.bytes) reader.stopped sink.bytes (sink'.bytes ++ gathered) r.served may in
-      reached_line g laws whole sink.tells first.params h first now now' number source.bytes (to_come reader source'.bytes) (to_come reader' source''.bytes) reader.stopped reader'.stopped sink.bytes sink'.bytes gathered gathered'
+      let next = reached_line g laws whole sink.tells first.params h first now now' number source.bytes (to_come reader source'.bytes) (to_come reader' source''.bytes) reader.stopped reader'.stopped sink.bytes sink'.bytes gathered gathered' is_urgent
       r (nothing_to_come reader' source''.bytes)
-      (subst (λ (p : Params). ServesLine g whole p number (to_come reader source'.bytes) (to_come reader' source''.bytes) reader'.stopped r.state.history now now' gathered gathered') o.params
+      (subst (λ (p : Params). ServesLine g whole p number (to_come reader source'.bytes) (to_come reader' source''.bytes) reader'.stopped r.state.history now now' gathered gathered' is_urgent) o.params
       (serves (o.source_calm.tells told) whole r.state.history
       (subst (λ (p : Params). MayServe whole p (lines (to_come reader source'.bytes))) (sym o.params) may')
-      (subst (λ (p : Params). g.stands whole (g.device now.house) p r.state.history) (sym o.params) r.at.stands)));
+      (subst (λ (p : Params). g.stands whole (g.device now.house) p r.state.history) (sym o.params) r.at.stands))) in (
+        next.0,
+        puts_line sink.tells is_urgent first.params (state_at g h first) r.state number (lines r.served.given) (lines next.0.served.given) next.1 sink.bytes sink'.bytes
+            held.1 r.served.number r.served.state next.2 next.3,
+      );
 }
 
 -- before the first line
-pub going_first : {H D : Type 0} (g : Ghosts H D) (first : Desk H D g) (source sink : Port) (gathered : List ℕ) (reader : ReaderState) → IsInRange first.params
+pub going_first : {H D : Type 0} (g : Ghosts H D) (first : Desk H D g) (source sink : Port) (gathered : List ℕ) (calm : Type 0) (reader : ReaderState) → IsInRange first.params
     → reader ≡ record { text = []; pending = []; taken = 0; limit = INPUT_LIMIT; stopped = None } → gathered ≡ []
-    → Going g first first source source sink sink gathered reader 1
-going_first g first source sink gathered reader range e none = subst (λ (r : ReaderState). Going g first first source source sink sink gathered r 1) (sym e) (record {
+    → Going g first first source source sink sink gathered calm reader 1
+going_first g first source sink gathered calm reader range e none = subst (λ (r : ReaderState). Going g first first source source sink sink gathered calm r 1) (sym e) (record {
   params = refl;
   range = range;
   limit = refl;
@@ -203,9 +223,10 @@ going_first g first source sink gathered reader range e none = subst (λ (r : Re
   faults = omega arith;
   counts = λ told. omega arith;
   lasts = λ h stands. lasts_at_first g first.params h (g.device first.house) stands;
-  reached = λ told whole h may stands. subst (λ (b : List ℕ). Reached g whole sink.tells first.params h first first 1 source.bytes source.bytes None sink.bytes b)
+  reached = λ told whole h may stands. subst (λ (b : List ℕ). (reached : Reached g whole sink.tells first.params h first first 1 source.bytes source.bytes None sink.bytes b)
+      × Puts calm sink.tells first.params (state_at g h first) (lines reached.served.given) sink.bytes sink.bytes)
       (sym (append-nil sink.bytes) ∙ ap (λ (t : List ℕ). sink.bytes ++ t) (sym none))
-      (reached_nothing g whole sink.tells first.params h first source.bytes sink.bytes stands);
+      (reached_nothing g whole sink.tells first.params h first source.bytes sink.bytes stands, puts_nothing calm sink.tells first.params (state_at g h first) sink.bytes);
 })
 
 -- What was written when the run ends, of the replies that were written before and those that were gathered.
@@ -223,18 +244,20 @@ written_so g whole params h first now n input come left stopped sink sink' gathe
 }
 
 -- the sink fails, between two lines
-pub going_stops : {H D : Type 0} (g : Ghosts H D) (laws : LineLaws) (first now : Desk H D g) (source source' sink sink' : Port) (gathered : List ℕ) (reader : ReaderState) (number : ℕ) (tells' : Bool) (written' : List ℕ) (ran : Ran D)
-    → Going g first now source source' sink sink' gathered reader number
+pub going_stops : {H D : Type 0} (g : Ghosts H D) (laws : LineLaws) (first now : Desk H D g) (source source' sink sink' : Port) (gathered : List ℕ) (calm : Type 0) (reader : ReaderState) (number : ℕ) (tells' : Bool) (written' : List ℕ) (ran : Ran D)
+    → Going g first now source source' sink sink' gathered calm reader number
     → ran.ending ≡ WriteFault → ran.device ≡ g.device now.house → (IsTrue sink'.tells → IsTrue tells' → WritesPart sink'.bytes written' gathered)
     → IsTrue source.tells → (whole : Bool) (h : History) → MayServe whole first.params (lines source.bytes) → g.stands whole (g.device first.house) first.params h
     → Ends g whole sink.tells tells' source'.tells first.params (state_at g h first) source.bytes source'.bytes (g.device first.house) ran sink.bytes written'
-going_stops g laws first now source source' sink sink' gathered reader number tells' written' ran o why device part told whole h may stands =
-    let r = o.reached told whole h may stands in
+going_stops g laws first now source source' sink sink' gathered calm reader number tells' written' ran o why device part told whole h may stands =
+    let held = o.reached told whole h may stands in
+    let r = held.0 in
     ends_between g laws whole sink.tells tells' source'.tells first.params h first now number source.bytes (to_come reader source'.bytes) source'.bytes reader.stopped sink.bytes (sink'.bytes ++ gathered) written' ran r
     device (λ f. absurd (let no : WriteFault ≡ Fine = sym why ∙ f in cc)) (λ w. subst (λ (s : Ending). IsHouseEnding s) why w)
     (λ still. come_passes reader source'.bytes o.may_go_on (λ e. (o.seen_end e).1 told))
     (written_so g whole first.params h first now number source.bytes (to_come reader source'.bytes) source'.bytes reader.stopped sink sink' gathered tells' source'.tells written' ran.ending r o.sink_calm.tells o.more
     (λ i. absurd (subst (λ (s : Ending). IsInputEnding s) why i)) part (λ f. absurd (subst (λ (s : Ending). IsFlushed s) why f)))
+    (λ tells still. puts_between calm sink.tells first.params (state_at g h first) (lines r.served.given) sink.bytes sink'.bytes written' gathered held.1 tells (part (o.sink_calm.tells tells) still))
 
 -- what closing a run does to its ending
 pub record Closes {D : Type 0} (ended ran : Ran D) : Type 0 where
@@ -277,7 +300,7 @@ disk_stays ended ran c e = elim c.ending [ inl same ↦ same ∙ e | inr wrote �
 
 -- the run ends between two lines or in one, and the replies that are gathered are put
 pub going_ends : {H D : Type 0} (g : Ghosts H D) (laws : LineLaws) (first now : Desk H D g) (source source' source'' sink sink' : Port) (gathered : List ℕ) (reader reader' : ReaderState) (number : ℕ) (tells' : Bool) (written' : List ℕ) (ended ran : Ran D)
-    → Going g first now source source' sink sink' gathered reader number
+    → Going g first now source source' sink sink' gathered ⊤ reader number
     → Closes ended ran
     → (IsBetweenLines ended.ending ⊎ IsHouseEnding ended.ending)
     → (IsBetweenLines ended.ending → ended.device ≡ g.device now.house)
@@ -293,7 +316,8 @@ pub going_ends : {H D : Type 0} (g : Ghosts H D) (laws : LineLaws) (first now : 
     → IsTrue source.tells → (whole : Bool) (h : History) → MayServe whole first.params (lines source.bytes) → g.stands whole (g.device first.house) first.params h
     → Ends g whole sink.tells tells' source''.tells first.params (state_at g h first) source.bytes source''.bytes (g.device first.house) ran sink.bytes written'
 going_ends g laws first now source source' source'' sink sink' gathered reader reader' number tells' written' ended ran o closes why between fine input breaks seen stays at_end part flushed told whole h may stands =
-    let r = o.reached told whole h may stands in
+    let held = o.reached told whole h may stands in
+    let r = held.0 in
     let told' = o.source_calm.tells told in
     let seen' : SeenEnd reader' source.tells source''.bytes = seen_after source source' source'' reader reader' o.may_go_on o.source_calm o.seen_end seen stays in
     let written = written_so g whole first.params h first now number source.bytes (to_come reader source'.bytes) source''.bytes reader.stopped sink sink' gathered tells' source''.tells written' ran.ending r o.sink_calm.tells o.more
@@ -308,6 +332,7 @@ going_ends g laws first now source source' source'' sink sink' gathered reader r
           (λ still. passes_between ended.ending (to_come reader source'.bytes) source''.bytes b
           (λ e. let none : source''.bytes ≡ [] = (seen' (at_end e)).1 told in fine e told' ∙ sym none)
           (λ i. (input i told' still).1)) written
+          (λ tells still. puts_between ⊤ sink.tells first.params (state_at g h first) (lines r.served.given) sink.bytes sink'.bytes written' gathered held.1 tells (part (o.sink_calm.tells tells) still))
       | inr w ↦ let broke : BreaksOff g whole first.params number (to_come reader source'.bytes) (to_come reader' source''.bytes) reader'.stopped r.state.history now ended =
           subst (λ (p : Params). BreaksOff g whole p number (to_come reader source'.bytes) (to_come reader' source''.bytes) reader'.stopped r.state.history now ended) o.params
           (breaks w told' whole r.state.history
@@ -319,25 +344,27 @@ going_ends g laws first now source source' source'' sink sink' gathered reader r
           closes.device (λ e. disk_stays ended ran closes e)
           (λ b. between_both ended ran closes w b)
           (λ page e. closes_same ended ran closes (Damaged page) (λ f. cc) e) (λ allotted e. closes_same ended ran closes (PageLimit allotted) (λ f. cc) e) written
+          (λ tells still. puts_within sink.tells first.params (state_at g h first) r.state number (lines r.served.given) broke.line sink.bytes sink'.bytes written' gathered held.1 r.served.number r.served.state tells
+          (part (o.sink_calm.tells tells) still))
     ]
 
 -- the sink fails between two lines, over whatever source
-pub going_stops_lasting : {H D : Type 0} (g : Ghosts H D) (first now : Desk H D g) (source source' sink sink' : Port) (gathered : List ℕ) (reader : ReaderState) (number : ℕ) (ran : Ran D)
-    → Going g first now source source' sink sink' gathered reader number
+pub going_stops_lasting : {H D : Type 0} (g : Ghosts H D) (first now : Desk H D g) (source source' sink sink' : Port) (gathered : List ℕ) (calm : Type 0) (reader : ReaderState) (number : ℕ) (ran : Ran D)
+    → Going g first now source source' sink sink' gathered calm reader number
     → ran.ending ≡ WriteFault → ran.device ≡ g.device now.house
     → (h : History) → g.stands true (g.device first.house) first.params h → Lasts g first.params h (g.device first.house) ran
-going_stops_lasting g first now source source' sink sink' gathered reader number ran o why device h stands =
+going_stops_lasting g first now source source' sink sink' gathered calm reader number ran o why device h stands =
     lasts_between g first.params h _ _ ran (o.lasts h stands) device (λ w. subst (λ (s : Ending). IsHouseEnding s) why w)
 
 -- the run ends between two lines or in one, over whatever source
-pub going_ends_lasting : {H D : Type 0} (g : Ghosts H D) (first now : Desk H D g) (source source' sink sink' : Port) (gathered : List ℕ) (reader : ReaderState) (number : ℕ) (ended ran : Ran D)
-    → Going g first now source source' sink sink' gathered reader number
+pub going_ends_lasting : {H D : Type 0} (g : Ghosts H D) (first now : Desk H D g) (source source' sink sink' : Port) (gathered : List ℕ) (calm : Type 0) (reader : ReaderState) (number : ℕ) (ended ran : Ran D)
+    → Going g first now source source' sink sink' gathered calm reader number
     → Closes ended ran
     → (IsBetweenLines ended.ending ⊎ IsHouseEnding ended.ending)
     → (IsBetweenLines ended.ending → ended.device ≡ g.device now.house)
     → ((h : History) → g.stands true (g.device now.house) now.params h → IsHouseEnding ended.ending → Lasts g now.params h (g.device now.house) ended)
     → (h : History) → g.stands true (g.device first.house) first.params h → Lasts g first.params h (g.device first.house) ran
-going_ends_lasting g first now source source' sink sink' gathered reader number ended ran o closes why between lasts h stands =
+going_ends_lasting g first now source source' sink sink' gathered calm reader number ended ran o closes why between lasts h stands =
     let so_far = o.lasts h stands in
     elim why [
       | inl b ↦ lasts_between g first.params h _ _ ran so_far (closes.device ∙ between b) (λ w. not_both ended.ending (house_both ended ran closes w) b)

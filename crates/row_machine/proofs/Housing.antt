@@ -17,7 +17,7 @@ use Rattle.warehouse.specs.Crashes.{OnlyLeaves}
 use Rattle.warehouse.specs.declared.house.House.{Ghosts}
 use Rattle.row_machine.specs.declared.desk.Taken.{Taken}
 use Rattle.row_machine.specs.declared.ending.Ran.{Ran}
-use Rattle.row_machine.specs.Housed.{GoesOnFrom, KeepsBetween, Settled, SettledAfter, SettledBetween, OnlyBetween, Leaves, device_left}
+use Rattle.row_machine.specs.Housed.{GoesOnFrom, KeepsBetween, KeepsDevice, Settled, SettledAfter, SettledBetween, OnlyBetween, Leaves, device_left}
 
 pub goes_on_same : (h : History) → GoesOnFrom h h
 goes_on_same h = record { later = []; goes_on = sym (append-nil h) }
@@ -76,6 +76,12 @@ module _ {H D : Type 0} (g : Ghosts H D) where
 
   pub settled_same : (params : Params) (h : History) (old new : D) → g.moments new ≡ g.moments old → Settled g params h old → Settled g params h new
   settled_same params h old new e settled = λ x left. settled x (subst (λ (m : g.Moments). g.now m x) e left)
+
+  pub keeps_device : (d : D) → KeepsDevice g d d
+  keeps_device d = (refl, refl)
+
+  pub keeps_twice : (a b c : D) → KeepsDevice g a b → KeepsDevice g b c → KeepsDevice g a c
+  keeps_twice a b c f s = (s.0 ∙ f.0, s.1 ∙ f.1)
 
   pub only_same : (params : Params) (first second : History) (old new : D) → g.moments new ≡ g.moments old → OnlyBetween g params first second old new
   only_same params first second old new e = record {

@@ -1,5 +1,5 @@
 -- What lasts over whatever input: the history only goes on, line by line.
-use Rattle.std.proofs.Common.{◌≡◌, ℕ, ◌≤◌, true, List, ◌⊎◌, inl, inr, Result, Ok, Err, refl, sym, subst, arith}
+use Rattle.std.proofs.Common.{◌≡◌, ℕ, ◌≤◌, Bool, true, List, ◌⊎◌, inl, inr, Result, Ok, Err, refl, sym, subst, arith}
 use Rattle.bw_types.specs.History.{History}
 use Rattle.bw_types.specs.declared.params.Params.{Params}
 use Rattle.bw_types.specs.declared.row.Row.{Row}
@@ -46,16 +46,16 @@ module _ {H D : Type 0} (g : Ghosts H D) (params : Params) where
   }
 
   -- a line that was served, or in which the run ended
-  pub text_lasts : (h : History) (t : Step) (rows : List Row) (reading : Type 0) (cost : ℕ) (before : D) (gathered gathered' : List ℕ) (result : Result (Desk H D g) (Ran D))
-      → GoesOnFrom h t.state.history → ServesText g true params h t rows reading cost before gathered gathered' result → LastsBeyond g params h before result
-  text_lasts h t rows reading cost before gathered gathered' (Ok desk) goes s = record {
+  pub text_lasts : (h : History) (t : Step) (rows : List Row) (reading : Type 0) (cost : ℕ) (before : D) (gathered gathered' : List ℕ) (is_urgent : Bool) (result : Result (Desk H D g) (Ran D))
+      → GoesOnFrom h t.state.history → ServesText g true params h t rows reading cost before gathered gathered' is_urgent result → LastsBeyond g params h before result
+  text_lasts h t rows reading cost before gathered gathered' is_urgent (Ok desk) goes s = record {
     sure = t.state.history;
     begins = goes;
     stands = s.at.stands;
     any_moment = only_from _ _ _ _ (s.any_moment refl);
     settled = s.settled refl;
   }
-  text_lasts h t rows reading cost before gathered gathered' (Err ran) goes b = λ within. record {
+  text_lasts h t rows reading cost before gathered gathered' is_urgent (Err ran) goes b = λ within. record {
     sure = b.sure;
     begins = (which_goes h t.state.history b.sure b.which goes).0;
     stands = b.stands;

@@ -6,6 +6,7 @@ pub mod Housing
 pub mod Lined
 pub mod Long
 pub mod Parts
+pub mod Putting
 pub mod Reached
 pub mod Replies
 pub mod Served

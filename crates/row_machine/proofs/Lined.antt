@@ -29,6 +29,11 @@ not_both (PageLimit allotted) w b = b
 within_not : (ending other : Ending) → IsHouseEnding ending → ending ≡ other → IsHouseEnding other
 within_not ending other w e = subst (λ (s : Ending). IsHouseEnding s) e w
 
+pub reply_no_limit : {A D : Type 0} (P : ℕ → Type 0) (d : D) (result : Result A (Ran D)) → IfErr result (λ ran. (ran.device ≡ d) × (ran.ending ≡ NoMemory))
+    → IfErr result (λ ran. (allotted : ℕ) → ran.ending ≡ PageLimit allotted → P allotted)
+reply_no_limit P d (Ok x) w = tt
+reply_no_limit P d (Err ran) w = λ allotted e. absurd (let no : NoMemory ≡ PageLimit allotted = sym w.1 ∙ e in cc)
+
 pub reply_within : {A D : Type 0} (d : D) (result : Result A (Ran D)) → IfErr result (λ ran. (ran.device ≡ d) × (ran.ending ≡ NoMemory)) → IfErr result (λ ran. IsHouseEnding ran.ending)
 reply_within d (Ok x) w = tt
 reply_within d (Err ran) w = subst (λ (s : Ending). IsHouseEnding s) (sym w.1) tt
@@ -41,6 +46,10 @@ module _ {A : Type 0} where
   pub done_no_fault : (P : Ending → Type 0) (result : Result A Ending) → IfErr result (λ ending. ending ≡ NoMemory) → IfErr result (λ ending. ending ≡ DiskFault → P ending)
   done_no_fault P (Ok x) w = tt
   done_no_fault P (Err ending) w = λ e. absurd (let no : NoMemory ≡ DiskFault = sym w ∙ e in cc)
+
+  pub done_no_limit : (P : ℕ → Type 0) (result : Result A Ending) → IfErr result (λ ending. ending ≡ NoMemory) → IfErr result (λ ending. (allotted : ℕ) → ending ≡ PageLimit allotted → P allotted)
+  done_no_limit P (Ok x) w = tt
+  done_no_limit P (Err ending) w = λ allotted e. absurd (let no : NoMemory ≡ PageLimit allotted = sym w ∙ e in cc)
 
   pub ends_within_line : (result : Result A Ending) → IfErr result (λ ending. IsHouseEnding ending) → IfErr result (λ ending. IsBetweenLines ending ⊎ IsHouseEnding ending)
   ends_within_line (Ok x) w = tt
@@ -73,12 +82,12 @@ pub first_may : (whole : Bool) (params : Params) (all : List (List ℕ)) (line :
     → MayServe whole params all → MayTake whole (input params line)
 first_may whole params all line rest e may = (subst (λ (ls : List (List ℕ)). MayServe whole params ls) e may).0
 
-module _ {H D : Type 0} (g : Ghosts H D) (source : Bool) (params : Params) (n : ℕ) (before after : List ℕ) (stopped : Option Line) (old new : Desk H D g) (gathered gathered' : List ℕ) where
+module _ {H D : Type 0} (g : Ghosts H D) (source : Bool) (params : Params) (n : ℕ) (before after : List ℕ) (stopped : Option Line) (old new : Desk H D g) (gathered gathered' : List ℕ) (is_urgent : Bool) where
   pub text_line : (text line : List ℕ) (result : Result (Option ℕ) Ending) → text ≡ line → (IsTrue source → TakesLine before line after stopped)
       → ((whole : Bool) (h : History) → MayTake whole (input params text) → g.stands whole (g.device old.house) params h
-      → OnServed g (ServesText g whole params h (step params n (state_at g h old) text) (rows_committed (state_at g h old) (input params text)) (MayTake false (input params text)) (line_cost g.cost params h text) (g.device old.house) gathered gathered') (λ session. ⊤) new result)
+      → OnServed g (ServesText g whole params h (step params n (state_at g h old) text) (rows_committed (state_at g h old) (input params text)) (MayTake false (input params text)) (line_cost g.cost params h text) (g.device old.house) gathered gathered' is_urgent) (λ session. ⊤) new result)
       → IfOk result (λ left. left ≡ None → IsTrue source → (whole : Bool) (h : History) → MayServe whole params (lines before) → g.stands whole (g.device old.house) params h
-      → ServesLine g whole params n before after stopped h old new gathered gathered')
+      → ServesLine g whole params n before after stopped h old new gathered gathered' is_urgent)
   text_line text line (Ok None) e takes serves = λ none told whole h may stands.
       let t : TakesLine before text after stopped = subst (λ (l : List ℕ). TakesLine before l after stopped) (sym e) (takes told) in
       record { line = text; takes = t; serves = serves whole h (first_may whole params (lines before) text (lines after) t.all_lines may) stands }
@@ -87,7 +96,7 @@ module _ {H D : Type 0} (g : Ghosts H D) (source : Bool) (params : Params) (n : 
 
   pub text_breaks : (text line : List ℕ) (result : Result (Option ℕ) Ending) → text ≡ line → MayGoOn stopped → (IsTrue source → TakesLine before line after stopped)
       → ((whole : Bool) (h : History) → MayTake whole (input params text) → g.stands whole (g.device old.house) params h
-      → OnServed g (ServesText g whole params h (step params n (state_at g h old) text) (rows_committed (state_at g h old) (input params text)) (MayTake false (input params text)) (line_cost g.cost params h text) (g.device old.house) gathered gathered') (λ session. ⊤) new result)
+      → OnServed g (ServesText g whole params h (step params n (state_at g h old) text) (rows_committed (state_at g h old) (input params text)) (MayTake false (input params text)) (line_cost g.cost params h text) (g.device old.house) gathered gathered' is_urgent) (λ session. ⊤) new result)
       → IfErr result (λ ending. IsHouseEnding ending → IsTrue source → (whole : Bool) (h : History) → MayServe whole params (lines before) → g.stands whole (g.device old.house) params h
       → BreaksOff g whole params n before after stopped h old (record { ending = ending; device = g.device new.house }))
   text_breaks text line (Ok left) e going takes serves = tt
@@ -111,9 +120,9 @@ module _ {H D : Type 0} (g : Ghosts H D) (source : Bool) (params : Params) (n : 
 
   pub long_line : (most : ℕ) (result : Result (Option ℕ) Ending) → (IsTrue source → TakesLongLine most before after stopped)
       → ((whole : Bool) (h : History) (line : List ℕ) → most < length line → g.stands whole (g.device old.house) params h
-      → OnServed g (ServesText g whole params h (step params n (state_at g h old) line) (rows_committed (state_at g h old) (input params line)) (MayTake false (input params line)) (line_cost g.cost params h line) (g.device old.house) gathered gathered') (λ session. ⊤) new result)
+      → OnServed g (ServesText g whole params h (step params n (state_at g h old) line) (rows_committed (state_at g h old) (input params line)) (MayTake false (input params line)) (line_cost g.cost params h line) (g.device old.house) gathered gathered' is_urgent) (λ session. ⊤) new result)
       → IfOk result (λ left. left ≡ None → IsTrue source → (whole : Bool) (h : History) → MayServe whole params (lines before) → g.stands whole (g.device old.house) params h
-      → ServesLine g whole params n before after stopped h old new gathered gathered')
+      → ServesLine g whole params n before after stopped h old new gathered gathered' is_urgent)
   long_line most (Ok None) takes serves = λ none told whole h may stands.
       record { line = (takes told).line; takes = (takes told).takes; serves = serves whole h (takes told).line (takes told).long stands }
   long_line most (Ok (Some session)) takes serves = λ none. absurd cc
@@ -121,7 +130,7 @@ module _ {H D : Type 0} (g : Ghosts H D) (source : Bool) (params : Params) (n : 
 
   pub long_breaks : (most : ℕ) (result : Result (Option ℕ) Ending) → MayGoOn stopped → (IsTrue source → TakesLongLine most before after stopped)
       → ((whole : Bool) (h : History) (line : List ℕ) → most < length line → g.stands whole (g.device old.house) params h
-      → OnServed g (ServesText g whole params h (step params n (state_at g h old) line) (rows_committed (state_at g h old) (input params line)) (MayTake false (input params line)) (line_cost g.cost params h line) (g.device old.house) gathered gathered') (λ session. ⊤) new result)
+      → OnServed g (ServesText g whole params h (step params n (state_at g h old) line) (rows_committed (state_at g h old) (input params line)) (MayTake false (input params line)) (line_cost g.cost params h line) (g.device old.house) gathered gathered' is_urgent) (λ session. ⊤) new result)
       → IfErr result (λ ending. IsHouseEnding ending → IsTrue source → (whole : Bool) (h : History) → MayServe whole params (lines before) → g.stands whole (g.device old.house) params h
       → BreaksOff g whole params n before after stopped h old (record { ending = ending; device = g.device new.house }))
   long_breaks most (Ok left) going takes serves = tt

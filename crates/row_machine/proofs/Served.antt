@@ -33,7 +33,7 @@ pub record OneLine (tells : Bool) (params : Params) (n : ℕ) (before after : Li
   pub wrote : IsTrue tells → written' ≡ written ++ replied (step params n old line).reply
 
 -- nothing is served yet
-pub served_nothing : (tells : Bool) (params : Params) (first : State) (input : List ℕ) (before : List ℕ) → Served tells params first first 1 input input None before before
+abbrev pub served_nothing : (tells : Bool) (params : Params) (first : State) (input : List ℕ) (before : List ℕ) → Served tells params first first 1 input input None before before
 served_nothing tells params first input before = record {
   given = [];
   cut = refl;

@@ -172,18 +172,24 @@ module _ {H D : Type 0} (g : Ghosts H D) where
   DiskCause before (Ok taken) = ⊤
   DiskCause before (Err ran) = ran.ending ≡ DiskFault → Rose (g.faults before) (g.faults ran.device)
 
+  -- What reads of the device give, and what a crash may leave of it, are as before.
+  abbrev pub KeepsDevice : D → D → Type 0
+  KeepsDevice before after = (g.image after ≡ g.image before) × (g.moments after ≡ g.moments before)
+
   -- What a line did. From each history that the device stands for the machine is to make this step, which commits these
-  -- rows, and where the line is none that commits it may ask for so many reads. On a device that is whole for queries alone
-  -- that is said only of lines that may be taken there.
+  -- rows, and where the line is none that commits it may ask for so many reads, and changes nothing of the device. On a device
+  -- that is whole for queries alone that is said only of lines that may be taken there.
   pub record Takes (ps : Params) (before : D) (may : Bool → Type 0) (t : History → Step) (rows : History → List Row) (cost : History → ℕ) (result : Result (Taken H D g) (Ran D)) : Type 0 where
     pub params : KeepsParams ps result
     pub went : (whole : Bool) (h : History) → may whole → g.stands whole before ps h → Went whole ps (t h) result
     pub stops : (whole : Bool) (h : History) → may whole → g.stands whole before ps h → Stops whole ps h (t h) (rows h) result
     pub reads : (whole : Bool) (h : History) → may false → g.stands whole before ps h → g.reads (device_left result) ≤ g.reads before + cost h
+    pub quiet : may false → KeepsDevice before (device_left result)
     pub leaves : (h : History) → g.stands true before ps h → Leaves ps h (t h).state.history before result
     pub charge : (h : History) → g.stands true before ps h → Charges ps h before (t h) (rows h) result
     pub faults : g.faults before ≤ g.faults (device_left result)
     pub own : IfErr result (λ ran. IsHouseEnding ran.ending)
+    pub limit : IfErr result (λ ran. (allotted : ℕ) → ran.ending ≡ PageLimit allotted → allotted ≡ ps.pages)
     pub disk : DiskCause before result
 
   -- What is said of a line that a desk took where it stands: it is done, or the run ends in it, or a session is left to commit.

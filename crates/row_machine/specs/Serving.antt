@@ -16,7 +16,7 @@ use Rattle.row_machine.specs.declared.desk.Desk.{Desk}
 use Rattle.row_machine.specs.declared.ending.Ran.{Ran}
 use Rattle.row_machine.specs.declared.ending.Ending.{Ending}
 use Rattle.row_machine.specs.declared.ending.Ending.TheVariants.{Fine, ReadFault, WriteFault, NoMemory, InputLimit, DiskFault, Damaged, PageLimit}
-use Rattle.row_machine.specs.Housed.{GoesOnFrom, IsAt, IsHouseEnding, IsVersion, MayTake, Settled, SettledBetween, SettledFrom, OnlyBetween, OnlyFrom, input_cost, rows_committed, version_need}
+use Rattle.row_machine.specs.Housed.{GoesOnFrom, IsAt, IsHouseEnding, IsVersion, KeepsDevice, MayTake, Settled, SettledBetween, SettledFrom, OnlyBetween, OnlyFrom, input_cost, rows_committed, version_need}
 use Rattle.row_machine.specs.Runs.{WritesPart}
 
 -- a reader that has not stopped, or has stopped at the end of the input
@@ -121,6 +121,16 @@ pub record LeavesLine (params : Params) (before after : List ℕ) (stopped : Opt
   pub takes : TakesLine before line after stopped
   pub spells : input params line ≡ Some (Commit session)
 
+-- All replies were written whole but those of some last lines, which with the line that was begun put at most one batch into the
+-- history.
+pub record PutsAllButOne (params : Params) (begin : State) (served begun : List (List ℕ)) (written written' : List ℕ) : Type 0 where
+  pub first : List (List ℕ)
+  pub later : List (List ℕ)
+  pub more : List ℕ
+  pub cut : served ≡ first ++ later
+  pub wrote : written' ≡ written ++ (replies params 1 begin first ++ more)
+  pub one : length (state_after params 1 begin (served ++ begun)).history ≤ length (state_after params 1 begin first).history + 1
+
 module _ {H D : Type 0} (g : Ghosts H D) where
   abbrev pub state_at : History → Desk H D g → State
   state_at h desk = record { history = h; staged = desk.sessions }
@@ -137,11 +147,13 @@ module _ {H D : Type 0} (g : Ghosts H D) where
   OnServed served commits desk (Err ending) = served (Err (record { ending = ending; device = g.device desk.house }))
 
   -- From the history h the machine made this step, which commits these rows, and its reply was gathered. Where the line only
-  -- reads, the reads are counted.
-  pub record Serves (whole : Bool) (params : Params) (h : History) (t : Step) (rows : List Row) (reading : Type 0) (cost : ℕ) (before : D) (new : Desk H D g) (gathered gathered' : List ℕ) : Type 0 where
+  -- reads, the reads are counted, and nothing of the device is changed. Where the replies are not urgent then, it is no version.
+  pub record Serves (whole : Bool) (params : Params) (h : History) (t : Step) (rows : List Row) (reading : Type 0) (cost : ℕ) (before : D) (new : Desk H D g) (gathered gathered' : List ℕ) (is_urgent : Bool) : Type 0 where
     pub at : IsAt g whole params t.state new
     pub replies : gathered' ≡ gathered ++ replied t.reply
+    pub urgent : is_urgent ≡ false → IsVersion t.reply → ⊥
     pub reads : reading → g.reads (g.device new.house) ≤ g.reads before + cost
+    pub quiet : reading → KeepsDevice g before (g.device new.house)
     pub charge : whole ≡ true → g.charge (g.device new.house) ≤ g.charge before + version_need t.reply (g.need params h rows)
     pub any_moment : whole ≡ true → OnlyBetween g params h t.state.history before (g.device new.house)
     pub settled : whole ≡ true → Settled g params h before → Settled g params t.state.history (g.device new.house)
@@ -157,19 +169,20 @@ module _ {H D : Type 0} (g : Ghosts H D) where
         → IsVersion t.reply × (sure ≡ h) × (allotted ≡ params.pages) × g.lacks_pages ran.device params h rows
         × (whole ≡ true → params.pages < g.charge before + g.need params h rows)
     pub reads : reading → g.reads ran.device ≤ g.reads before + cost
+    pub quiet : reading → KeepsDevice g before ran.device
     pub any_moment : whole ≡ true → OnlyBetween g params h t.state.history before ran.device
     pub settled : whole ≡ true → Settled g params h before → SettledBetween g params sure t.state.history ran.device
 
   -- The line is served, or the run ends in it.
-  abbrev pub ServesText : Bool → Params → History → Step → List Row → Type 0 → ℕ → D → List ℕ → List ℕ → Result (Desk H D g) (Ran D) → Type 0
-  ServesText whole params h t rows reading cost before gathered gathered' (Ok desk) = Serves whole params h t rows reading cost before desk gathered gathered'
-  ServesText whole params h t rows reading cost before gathered gathered' (Err ran) = Breaks whole params h t rows reading cost before ran
+  abbrev pub ServesText : Bool → Params → History → Step → List Row → Type 0 → ℕ → D → List ℕ → List ℕ → Bool → Result (Desk H D g) (Ran D) → Type 0
+  ServesText whole params h t rows reading cost before gathered gathered' is_urgent (Ok desk) = Serves whole params h t rows reading cost before desk gathered gathered' is_urgent
+  ServesText whole params h t rows reading cost before gathered gathered' is_urgent (Err ran) = Breaks whole params h t rows reading cost before ran
 
   -- The next line, which has the number n, is taken off the input and served.
-  pub record ServesLine (whole : Bool) (params : Params) (n : ℕ) (before after : List ℕ) (stopped : Option Line) (h : History) (old new : Desk H D g) (gathered gathered' : List ℕ) : Type 0 where
+  pub record ServesLine (whole : Bool) (params : Params) (n : ℕ) (before after : List ℕ) (stopped : Option Line) (h : History) (old new : Desk H D g) (gathered gathered' : List ℕ) (is_urgent : Bool) : Type 0 where
     pub line : List ℕ
     pub takes : TakesLine before line after stopped
-    pub serves : Serves whole params h (step params n (state_at h old) line) (rows_committed (state_at h old) (input params line)) (MayTake false (input params line)) (line_cost g.cost params h line) (g.device old.house) new gathered gathered'
+    pub serves : Serves whole params h (step params n (state_at h old) line) (rows_committed (state_at h old) (input params line)) (MayTake false (input params line)) (line_cost g.cost params h line) (g.device old.house) new gathered gathered' is_urgent
 
   -- The next line, which has the number n, is taken off the input, and the run ends in it.
   pub record BreaksOff (whole : Bool) (params : Params) (n : ℕ) (before after : List ℕ) (stopped : Option Line) (h : History) (old : Desk H D g) (ran : Ran D) : Type 0 where
@@ -179,9 +192,10 @@ module _ {H D : Type 0} (g : Ghosts H D) where
     pub breaks : Breaks whole params h (step params n (state_at h old) line) (rows_committed (state_at h old) (input params line)) (MayTake false (input params line)) (line_cost g.cost params h line) (g.device old.house) ran
 
   -- What is left when a run over an input ends. Some of its lines were served whole, at most one was begun then, and the rest
-  -- was not begun. What was written are replies to the lines that were served, from the first on. The history that is sure has all
-  -- that these lines have committed, or the line that was begun too; the device stands for it, unless it failed, and what a
-  -- crash may leave now goes on from it.
+  -- was not begun. What was written are replies to the lines that were served, from the first on; at most one batch is in the
+  -- history whose reply was not written whole. The history that is sure has all that these lines have committed, or the line
+  -- that was begun too; the device stands for it, unless it failed, and what a crash may leave now goes on from it. Where no
+  -- line commits, nothing of the device is changed.
   pub record Ends (whole tells tells' still : Bool) (params : Params) (begin : State) (input left : List ℕ) (before : D) (ran : Ran D) (written written' : List ℕ) : Type 0 where
     pub served : List (List ℕ)
     pub begun : List (List ℕ)
@@ -193,6 +207,7 @@ module _ {H D : Type 0} (g : Ghosts H D) where
     pub taken : IsInputEnding ran.ending → IsTrue still → TakesWhole input left served
     pub read : IsTrue still → TakesLines input left (served ++ begun)
     pub wrote : IsTrue tells → IsTrue tells' → WritesPart written written' (replies params 1 begin served)
+    pub put : IsTrue tells → IsTrue tells' → PutsAllButOne params begin served begun written written'
     pub flushed : IsFlushed ran.ending → IsTrue tells → IsTrue tells' → written' ≡ written ++ replies params 1 begin served
     pub sure : History
     pub which : (sure ≡ (state_after params 1 begin served).history) ⊎ (sure ≡ (state_after params 1 begin (served ++ begun)).history)
@@ -203,6 +218,7 @@ module _ {H D : Type 0} (g : Ghosts H D) where
         × (allotted ≡ params.pages) × g.lacks_pages ran.device params sure (next_rows params (state_after params 1 begin served) begun)
         × (whole ≡ true → params.pages < g.charge before + lines_need g.need params 1 begin (served ++ begun))
     pub reads : MayServe false params (lines input) → g.reads ran.device ≤ g.reads before + lines_cost g.cost params 1 begin (served ++ begun)
+    pub quiet : MayServe false params (lines input) → KeepsDevice g before ran.device
     pub any_moment : whole ≡ true → OnlyBetween g params begin.history (state_after params 1 begin (served ++ begun)).history before ran.device
     pub settled : whole ≡ true → Settled g params begin.history before → SettledBetween g params sure (state_after params 1 begin (served ++ begun)).history ran.device
 

@@ -1,7 +1,8 @@
 //! Replies that are gathered, so that several are put together.
-ghost use Rattle.std.specs.Prelude.{◌≡◌, ◌++◌, ◌≤◌, [], IsTrue, OnOk, OnErr};
+ghost use Rattle.std.specs.Prelude.{◌≡◌, ◌++◌, ◌≤◌, [], false, IsTrue, OnOk, OnErr};
 ghost use Rattle.counts.specs.Count.{Rose};
 ghost use Rattle.csv_rows.specs.Machine.{replied};
+ghost use Rattle.row_machine.specs.Housed.{IsVersion};
 ghost use Rattle.row_machine.specs.Runs.{WritesPart};
 
 use byte_ports::{Failed, Sink};
@@ -25,7 +26,8 @@ impl Outbox {
 
     /// An outbox without replies.
     pub(crate) fn new(alloc: Global) -> Outbox
-        ensures { gathered result ≡ [] }
+        ensures empty { gathered result ≡ [] }
+        ensures calm { result.is_urgent ≡ false }
     {
         Outbox {
             text: Vec::new(alloc),
@@ -37,6 +39,7 @@ impl Outbox {
     pub(crate) fn gather(&mut self, alloc: Global, reply: Option<Reply>) -> Result<(), NoMemory>
         ensures ok { OnOk result (gathered self.new ≡ gathered self.old ++ replied reply) }
         ensures err { OnErr result (gathered self.new ≡ gathered self.old) }
+        ensures urgent { OnOk result (self.new.is_urgent ≡ false → (self.old.is_urgent ≡ false) × (IsVersion reply → ⊥)) }
     {
         let Some(reply) = reply else {
             return Ok(());
@@ -54,7 +57,9 @@ impl Outbox {
     /// Whether the replies are to be put before the next line is looked for: where a version is among
     /// them, and where more bytes have to be taken for that line, since somebody may wait for an answer
     /// before the source gives more.
-    pub(crate) fn is_due(&self, ahead: &[u8]) -> bool {
+    pub(crate) fn is_due(&self, ahead: &[u8]) -> bool
+        ensures { result ≡ false → self.now.is_urgent ≡ false }
+    {
         self.is_urgent || !ahead.contains(&b'\n')
     }
 

@@ -11,7 +11,7 @@ ghost use Rattle.csv_rows.specs.Machine.{step, replied};
 ghost use Rattle.line_reader.specs.declared.lines.Line.TheVariants as answered;
 ghost use Rattle.row_machine.specs.Outbox.{gathered};
 ghost use Rattle.row_machine.specs.Runs.{WritesMore, WritesPart};
-ghost use Rattle.row_machine.specs.Housed.{IsHouseEnding, LeavesCommit, MayTake, rows_committed};
+ghost use Rattle.row_machine.specs.Housed.{IsHouseEnding, IsVersion, LeavesCommit, MayTake, rows_committed};
 ghost use Rattle.row_machine.specs.Serving.{BreaksOff, Ends, GoesOn, IsBetweenLines, IsFlushed, Lasts, LastsBeyond, LeavesLine, MayGoOn, MayServe, OnServed, SeenEnd, ServesLine, ServesText, device_after, line_cost, state_at};
 
 use crate::desk::{Desk, LineTaken};
@@ -30,6 +30,7 @@ pub const INPUT_LIMIT: u64 = 1 << 40;
 fn done(alloc: Global, reply: Option<Reply>, outbox: &mut Outbox) -> Result<Option<u8>, Ending>
     ensures served { IfOk result (λ left. left ≡ None) }
     ensures gathers { OnOk result (gathered outbox.new ≡ gathered outbox.old ++ replied reply) }
+    ensures urgent { OnOk result (outbox.new.is_urgent ≡ false → (outbox.old.is_urgent ≡ false) × (IsVersion reply → ⊥)) }
     ensures ended { IfErr result (λ ending. ending ≡ Ending.NoMemory) }
     ensures unsaid { OnErr result (gathered outbox.new ≡ gathered outbox.old) }
 {
@@ -54,13 +55,14 @@ fn serve_text<H: House>(
     ensures params { desk.new.params ≡ desk.old.params }
     ensures serves { (whole : Bool) (h : History) → MayTake whole (input desk.old.params line.now) → H.stands whole (H.device desk.old.house) desk.old.params h →
         OnServed ⟦<H as House>⟧ (ServesText ⟦<H as House>⟧ whole desk.old.params h (step desk.old.params number (state_at ⟦<H as House>⟧ h desk.old) line.now)
-        (rows_committed (state_at ⟦<H as House>⟧ h desk.old) (input desk.old.params line.now)) (MayTake false (input desk.old.params line.now)) (line_cost H.cost desk.old.params h line.now) (H.device desk.old.house) (gathered outbox.old) (gathered outbox.new))
+        (rows_committed (state_at ⟦<H as House>⟧ h desk.old) (input desk.old.params line.now)) (MayTake false (input desk.old.params line.now)) (line_cost H.cost desk.old.params h line.now) (H.device desk.old.house) (gathered outbox.old) (gathered outbox.new) outbox.new.is_urgent)
         (λ session. ⊤) desk.new result }
     ensures commits { IfOk result (λ left. IfSome left (λ session. LeavesCommit ⟦<H as House>⟧ (input desk.old.params line.now) desk.old desk.new session
         × (gathered outbox.new ≡ gathered outbox.old))) }
     ensures lasts { (h : History) → H.stands true (H.device desk.old.house) desk.old.params h →
         OnServed ⟦<H as House>⟧ (LastsBeyond ⟦<H as House>⟧ desk.old.params h (H.device desk.old.house)) (λ session. ⊤) desk.new result }
     ensures within { IfErr result (λ ending. IsHouseEnding ending) }
+    ensures at_limit { IfErr result (λ ending. (allotted : ℕ) → ending ≡ Ending.PageLimit allotted → allotted ≡ desk.old.params.pages) }
     ensures unsaid { OnErr result (gathered outbox.new ≡ gathered outbox.old) }
     ensures faults { H.faults (H.device desk.old.house) ≤ H.faults (H.device desk.new.house) }
     ensures disk_fault { IfErr result (λ ending. ending ≡ Ending.DiskFault → Rose (H.faults (H.device desk.old.house)) (H.faults (H.device desk.new.house))) }
@@ -101,7 +103,7 @@ fn serve_line<H: House, S: Source>(
         (whole : Bool) (h : History) → MayServe whole desk.old.params (lines (to_come reader.old (S.left source.old))) → H.stands whole (H.device desk.old.house) desk.old.params h →
         ServesLine ⟦<H as House>⟧ whole desk.old.params number
         (to_come reader.old (S.left source.old)) (to_come reader.new (S.left source.new)) reader.new.stopped
-        h desk.old desk.new (gathered outbox.old) (gathered outbox.new)) }
+        h desk.old desk.new (gathered outbox.old) (gathered outbox.new) outbox.new.is_urgent) }
     ensures commits { IfOk result (λ left. IfSome left (λ session. (1 ≤ session) × (session ≤ 16)
         × (desk.new ≡ desk.old) × (gathered outbox.new ≡ gathered outbox.old)
         × (IsTrue (S.tells source.old) → LeavesLine desk.old.params (to_come reader.old (S.left source.old)) (to_come reader.new (S.left source.new)) reader.new.stopped session))) }
@@ -111,6 +113,7 @@ fn serve_line<H: House, S: Source>(
 
     // The run ends between two lines, or in one, of which nothing is replied then.
     ensures ended { IfErr result (λ ending. IsBetweenLines ending ⊎ IsHouseEnding ending) }
+    ensures at_limit { IfErr result (λ ending. (allotted : ℕ) → ending ≡ Ending.PageLimit allotted → allotted ≡ desk.old.params.pages) }
     ensures unsaid { OnErr result (gathered outbox.new ≡ gathered outbox.old) }
     ensures between { IfErr result (λ ending. IsBetweenLines ending → desk.new ≡ desk.old) }
     ensures breaks { IfErr result (λ ending. IsHouseEnding ending → IsTrue (S.tells source.old) →
@@ -160,6 +163,7 @@ fn reply_to<H: House>(
 ) -> Result<Desk<H>, Ran<H::Device>>
     ensures same { IfOk result (λ new. new ≡ desk) }
     ensures gathers { OnOk result (gathered outbox.new ≡ gathered outbox.old ++ replied reply) }
+    ensures urgent { OnOk result (outbox.new.is_urgent ≡ false → (outbox.old.is_urgent ≡ false) × (IsVersion reply → ⊥)) }
     ensures ended { IfErr result (λ ran. (ran.device ≡ H.device desk.house) × (ran.ending ≡ Ending.NoMemory)) }
     ensures unsaid { OnErr result (gathered outbox.new ≡ gathered outbox.old) }
 {
@@ -181,9 +185,10 @@ fn serve_commit<H: House>(
     ensures params { IfOk result (λ new. new.params ≡ desk.params) }
     ensures serves { (n : ℕ) (line : List ℕ) (whole : Bool) (h : History) → input desk.params line ≡ Some (Input.Commit session) → IsTrue whole → H.stands whole (H.device desk.house) desk.params h →
         ServesText ⟦<H as House>⟧ whole desk.params h (step desk.params n (state_at ⟦<H as House>⟧ h desk) line)
-        (rows_committed (state_at ⟦<H as House>⟧ h desk) (input desk.params line)) (MayTake false (input desk.params line)) (line_cost H.cost desk.params h line) (H.device desk.house) (gathered outbox.old) (gathered outbox.new) result }
+        (rows_committed (state_at ⟦<H as House>⟧ h desk) (input desk.params line)) (MayTake false (input desk.params line)) (line_cost H.cost desk.params h line) (H.device desk.house) (gathered outbox.old) (gathered outbox.new) outbox.new.is_urgent result }
     ensures lasts { (h : History) → H.stands true (H.device desk.house) desk.params h → LastsBeyond ⟦<H as House>⟧ desk.params h (H.device desk.house) result }
     ensures within { IfErr result (λ ran. IsHouseEnding ran.ending) }
+    ensures at_limit { IfErr result (λ ran. (allotted : ℕ) → ran.ending ≡ Ending.PageLimit allotted → allotted ≡ desk.params.pages) }
     ensures unsaid { OnErr result (gathered outbox.new ≡ gathered outbox.old) }
     ensures faults { H.faults (H.device desk.house) ≤ H.faults (device_after ⟦<H as House>⟧ result) }
     ensures disk_fault { IfErr result (λ ran. ran.ending ≡ Ending.DiskFault → Rose (H.faults (H.device desk.house)) (H.faults ran.device)) }
@@ -197,6 +202,9 @@ fn serve_commit<H: House>(
 // Puts the replies where they are due. False where the sink failed.
 fn put_due<K: Sink>(outbox: &mut Outbox, ahead: &[u8], sink: &mut K) -> bool
     ensures same { result ≡ true → IsTrue (K.tells sink.old) → K.written sink.new ++ gathered outbox.new ≡ K.written sink.old ++ gathered outbox.old }
+    // Where nothing was put, none of the replies is urgent; else all were put.
+    ensures due { result ≡ true → ((sink.new ≡ sink.old) × (outbox.new ≡ outbox.old) × (outbox.old.is_urgent ≡ false))
+        ⊎ ((gathered outbox.new ≡ []) × (IsTrue (K.tells sink.old) → K.written sink.new ≡ K.written sink.old ++ gathered outbox.old)) }
     ensures more { result ≡ true → IsTrue (K.tells sink.old) → WritesMore (K.written sink.old) (K.written sink.new) }
     ensures tells { result ≡ true → IsTrue (K.tells sink.old) → IsTrue (K.tells sink.new) }
     ensures calm { result ≡ true → K.faults sink.new ≡ K.faults sink.old }
@@ -261,6 +269,8 @@ pub fn serve<H: House, S: Source, K: Sink>(
     ensures disk_fault { result.ending ≡ Ending.DiskFault → Rose (H.faults (H.device desk.house)) (H.faults result.device) }
     ensures input_limit { (taken : ℕ) → result.ending ≡ Ending.InputLimit taken → (taken ≡ 2 ^ 40)
         × (IsTrue (S.tells source.old) → length (S.left source.old) ≡ 2 ^ 40 + length (S.left source.new)) }
+    // The limit of pages is that of the params, whatever the device holds and whatever the source gives.
+    ensures at_limit { (allotted : ℕ) → result.ending ≡ Ending.PageLimit allotted → allotted ≡ desk.params.pages }
     ensures faults { H.faults (H.device desk.house) ≤ H.faults result.device }
 {
     // The laws that the invariant of the loop rests on.

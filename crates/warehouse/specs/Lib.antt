@@ -7,3 +7,4 @@ pub mod Parts
 pub mod Told
 pub mod Committed
 pub mod Crashes
+pub mod Left

@@ -1,5 +1,5 @@
 //! A house: it keeps a history, on a device or in memory.
-ghost use Rattle.std.specs.Prelude.{◌≡◌, ◌⊎◌, ◌+◌, ◌<◌, ◌≤◌, ℕ, Bool, true, List, length, Some, Ok, Err, IsTrue, IfOk, MatchResult};
+ghost use Rattle.std.specs.Prelude.{◌≡◌, ◌+◌, ◌<◌, ◌≤◌, ℕ, Bool, true, List, length, Some, Err, IsTrue};
 ghost use Rattle.std.specs.List.{list_all};
 ghost use Rattle.bw_types.specs.Fits.{IsInRange, row_fits, query_fits};
 ghost use Rattle.bw_types.specs.History.{History, last_version};
@@ -9,8 +9,8 @@ ghost use Rattle.bw_types.specs.declared.query.Query.{Query};
 ghost use Rattle.bw_types.specs.declared.refusal.Refusal.{Refusal};
 ghost use Rattle.bw_types.specs.declared.row.Row.{Row};
 ghost use Rattle.counts.specs.Count.{Rose};
-ghost use Rattle.warehouse.specs.Committed.{Answers, IfDone, IfKept, IfDisk, IfPageLimit, IsCommitCause, after_commit, device_out, with_batch};
-ghost use Rattle.warehouse.specs.Crashes.{OnlyLeaves};
+ghost use Rattle.warehouse.specs.Committed.{Answers, IfDone, IfKept, IfPageLimit, IsCommitCause, after_commit, device_out};
+ghost use Rattle.warehouse.specs.Left.{CrashLeavesEither, FaultsRise, IsAsBefore, IsPutLast};
 
 use crate::committed::{Committed, QueryFault};
 use bw_types::{Params, Query, Row};
@@ -92,12 +92,7 @@ pub trait House: Drop {
         requires { IsTrue (query_fits (params self.old) query.now) }
         ensures answers { (whole : Bool) (h : History) → stands whole (device self.old) (params self.old) h →
             Answers (params self.old) h version query.now result }
-        ensures stands { (whole : Bool) (h : History) → stands whole (device self.old) (params self.old) h →
-            stands whole (device self.new) (params self.old) h }
-        ensures image { image (device self.new) ≡ image (device self.old) }
-        ensures moments { moments (device self.new) ≡ moments (device self.old) }
-        ensures params { params self.new ≡ params self.old }
-        ensures charge { charge (device self.new) ≡ charge (device self.old) }
+        ensures kept { IsAsBefore params device stands is_current image moments charge self.old self.new }
         ensures disk { result ≡ Err QueryFault.Disk → Rose (faults (device self.old)) (faults (device self.new)) }
         ensures faults { faults (device self.old) ≤ faults (device self.new) }
         ensures reads { (whole : Bool) (h : History) → stands whole (device self.old) (params self.old) h →
@@ -110,40 +105,21 @@ pub trait House: Drop {
         requires most { length rows.now ≤ 4096 }
         ensures cause { (h : History) → stands true (device self) (params self) h →
             IsCommitCause (first_refusal (params self) h rows.now) result }
-        ensures done { (h : History) → stands true (device self) (params self) h → IfDone result (λ house version.
-            (version ≡ last_version h + 1) × stands true (device house) (params self) (with_batch h rows.now)) }
-        ensures kept { (whole : Bool) (h : History) → stands whole (device self) (params self) h → IfKept result (λ house.
-            stands whole (device house) (params self) h) }
+        ensures done { (h : History) → stands true (device self) (params self) h → IfDone result
+            (IsPutLast params device stands moments now keeps charge need rises_within h rows.now self) }
         // A device that kept its history in an earlier form is written anew with the first batch that is put last.
-        ensures current { IfDone result (λ house version. is_current (device house)) }
-        ensures params_done { IfDone result (λ house version. params house ≡ params self) }
-        ensures params_kept { IfKept result (λ house. params house ≡ params self) }
-
-        ensures any_moment { (h : History) → stands true (device self) (params self) h → OnlyLeaves clock since
-            (λ x. keeps x (params self) h ⊎ keeps x (params self) (after_commit (first_refusal (params self) h rows.now) h rows.now))
-            (moments (device self)) (moments (device_out device result)) }
-        ensures settled { (h : History) → stands true (device self) (params self) h → IfDone result (λ house version.
-            (x : Image) → now (moments (device house)) x → keeps x (params self) (with_batch h rows.now)) }
-        ensures lost { (h : History) → stands true (device self) (params self) h →
-            ((x : Image) → now (moments (device self)) x → keeps x (params self) h) →
-            (x : Image) → now (moments (device_out device result)) x →
-            keeps x (params self) h ⊎ keeps x (params self) (after_commit (first_refusal (params self) h rows.now) h rows.now) }
-        ensures at_limit { IfPageLimit result (λ house allotted. allotted ≡ (params self).pages) }
-        ensures page_limit { (h : History) → stands true (device self) (params self) h → IfPageLimit result (λ house allotted.
-            lacks_pages (device house) (params self) h rows.now
-            × ((params self).pages < charge (device house) + need (params self) h rows.now)) }
+        ensures renewed { IfDone result (λ house version. is_current (device house) × (params house ≡ params self)) }
+        ensures kept { IfKept result (IsAsBefore params device stands is_current image moments charge self) }
+        ensures crash { (h : History) → stands true (device self) (params self) h → CrashLeavesEither clock since now keeps
+            (params self) h (after_commit (first_refusal (params self) h rows.now) h rows.now) (moments (device self)) (moments (device_out device result)) }
+        // A batch that has a refusal changes nothing, whatever is answered, and also where the device fails.
         ensures refused { (h : History) (refusal : Refusal) → stands true (device self) (params self) h
-            → first_refusal (params self) h rows.now ≡ Some refusal → moments (device_out device result) ≡ moments (device self) }
-        ensures charge_done { (h : History) → stands true (device self) (params self) h → IfDone result (λ house version.
-            charge (device house) ≤ charge (device self) + need (params self) h rows.now) }
-        ensures rises { (h : History) → stands true (device self) (params self) h → IfDone result (λ house version.
-            rises_within (device self) (params self) h rows.now (device house)) }
-        ensures charge_kept { IfKept result (λ house. charge (device house) ≡ charge (device self)) }
-        ensures image_kept { IfKept result (λ house. image (device house) ≡ image (device self)) }
-        ensures moments_kept { IfKept result (λ house. moments (device house) ≡ moments (device self)) }
-
-        ensures disk { IfDisk result (Rose (faults (device self)) (faults (device_out device result))) }
-        ensures faults { faults (device self) ≤ faults (device_out device result) };
+            → first_refusal (params self) h rows.now ≡ Some refusal
+            → (moments (device_out device result) ≡ moments (device self)) × (image (device_out device result) ≡ image (device self)) }
+        ensures page_limit { IfPageLimit result (λ house allotted. (allotted ≡ (params self).pages)
+            × ((h : History) → stands true (device self) (params self) h → lacks_pages (device house) (params self) h rows.now
+            × ((params self).pages < charge (device house) + need (params self) h rows.now))) }
+        ensures faults { FaultsRise device faults (device self) result };
 
     /// Gives back what lasts.
     fn into_device(self) -> Self::Device

@@ -10,7 +10,7 @@ use Rattle.change_laws.specs.Growth.{most_growth}
 use Rattle.page_warehouse.specs.Entering.{PagesKeep, PagesWait}
 use Rattle.page_warehouse.specs.Needs.{StayOnePage}
 use Rattle.page_warehouse.specs.Waiting.{CanWait}
-use Rattle.page_warehouse.specs.declared.waiting.Waiting.{Waiting}
+use Rattle.corner_forest.specs.declared.entry.Entry.{Entry as Waiting}
 use Rattle.page_warehouse.proofs.Next.{entries_then}
 use Rattle.page_warehouse.proofs.Rows.{for_both}
 use Rattle.page_warehouse.proofs.Stages.{changes_then, refused, went_then}

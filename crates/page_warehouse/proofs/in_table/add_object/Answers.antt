@@ -11,7 +11,7 @@ use Rattle.change_laws.specs.Begun.{with_changes}
 use Rattle.page_warehouse.specs.declared.roots.Roots.{Roots}
 use Rattle.page_warehouse.specs.Entering.{PagesTell, PagesWait}
 use Rattle.page_warehouse.specs.Waiting.{CanWait}
-use Rattle.page_warehouse.specs.declared.waiting.Waiting.{Waiting}
+use Rattle.corner_forest.specs.declared.entry.Entry.{Entry as Waiting}
 use Rattle.page_warehouse.proofs.Exits.{exit_error, read_damaged}
 use Rattle.page_warehouse.proofs.Adding.{NextLaws, goes, kept_few, number_is, one_more_entry, ready, told_then}
 use Rattle.page_warehouse.proofs.Pages.{PageLaws}

@@ -7,7 +7,7 @@ use Rattle.page_ports.specs.declared.page.StageFault.TheVariants.{Damaged}
 use Rattle.history_entries.specs.Entries.{history_entries}
 use Rattle.change_laws.specs.Begun.{with_changes}
 use Rattle.page_warehouse.specs.Entering.{PagesTell, PagesWait}
-use Rattle.page_warehouse.specs.declared.waiting.Waiting.{Waiting}
+use Rattle.corner_forest.specs.declared.entry.Entry.{Entry as Waiting}
 use Rattle.page_warehouse.proofs.Exits.{exit_error, read_damaged}
 use Rattle.page_warehouse.proofs.Adding.{NextLaws}
 use Rattle.page_warehouse.proofs.Withdrawing.{can_end, goes as going, last_is, next_is, one_more_entry, told_then}

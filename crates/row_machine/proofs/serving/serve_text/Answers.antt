@@ -7,7 +7,7 @@ use Rattle.row_machine.specs.Outbox.{gathered}
 use Rattle.row_machine.specs.declared.desk.Desk.{Desk}
 use Rattle.row_machine.proofs.Housing.{step_goes_on}
 use Rattle.row_machine.proofs.Lasting.{text_lasts}
-use Rattle.row_machine.proofs.Lined.{done_no_fault, done_within, none_left}
+use Rattle.row_machine.proofs.Lined.{done_no_fault, done_no_limit, done_within, none_left}
 use Rattle.row_machine.proofs.Serviced.{done_served, on_served, step_broke}
 use Rattle.row_machine.specs.Serving.{LastsBeyond, ServesText, line_cost, state_at}
 use Rattle.row_machine.proofs.serving.serve_text.Goals as goal
@@ -16,13 +16,13 @@ pub returns-in-Ok-Done-clause-serves : goal.returns-in-Ok-Done-clause-serves
 returns-in-Ok-Done-clause-serves g c =
     let does = rw c.in-Ok-Done.field-0-is at c.in-Ok-Done.ensures.does in
     λ whole h may stands.
-    done_served g.H.House whole c.args.desk.now.params h _ _ _ _ _ c.take_line.new.self c.in-Ok-Done.reply _ _ c.done.result
+    done_served g.H.House whole c.args.desk.now.params h _ _ _ _ _ c.take_line.new.self c.in-Ok-Done.reply _ _ _ _ c.done.result
     (does.went whole h may stands)
     (λ e. does.leaves h (subst (λ (w : Bool). g.H.House.stands w (g.H.House.device c.args.desk.now.house) c.args.desk.now.params h) e stands))
     (step_goes_on c.args.desk.now.params c.args.number (state_at g.H.House h c.args.desk.now) c.args.line.now)
-    (λ reading. does.reads whole h reading stands)
+    (λ reading. does.reads whole h reading stands) does.quiet
     (λ e. does.charge h (subst (λ (w : Bool). g.H.House.stands w (g.H.House.device c.args.desk.now.house) c.args.desk.now.params h) e stands))
-    c.done.ensures.gathers c.done.ensures.ended
+    c.done.ensures.gathers c.done.ensures.urgent c.done.ensures.ended
 
 pub returns-in-Ok-Done-clause-lasts : goal.returns-in-Ok-Done-clause-lasts
 returns-in-Ok-Done-clause-lasts g c =
@@ -32,15 +32,15 @@ returns-in-Ok-Done-clause-lasts g c =
     let rows : List Row = rows_committed (state_at g.H.House h c.args.desk.now) (input c.args.desk.now.params c.args.line.now) in
     let reading : Type 0 = MayTake false (input c.args.desk.now.params c.args.line.now) in
     let cost : ℕ = line_cost g.H.House.cost c.args.desk.now.params h c.args.line.now in
-    on_served g.H.House (ServesText g.H.House true c.args.desk.now.params h t rows reading cost (g.H.House.device c.args.desk.now.house) (gathered c.args.outbox.now) (gathered c.done.new.outbox))
+    on_served g.H.House (ServesText g.H.House true c.args.desk.now.params h t rows reading cost (g.H.House.device c.args.desk.now.house) (gathered c.args.outbox.now) (gathered c.done.new.outbox) c.done.new.outbox.is_urgent)
     (LastsBeyond g.H.House c.args.desk.now.params h (g.H.House.device c.args.desk.now.house)) c.take_line.new.self c.done.result
-    (λ served. text_lasts g.H.House c.args.desk.now.params h t rows reading cost (g.H.House.device c.args.desk.now.house) (gathered c.args.outbox.now) (gathered c.done.new.outbox) served
+    (λ served. text_lasts g.H.House c.args.desk.now.params h t rows reading cost (g.H.House.device c.args.desk.now.house) (gathered c.args.outbox.now) (gathered c.done.new.outbox) c.done.new.outbox.is_urgent served
     (step_goes_on c.args.desk.now.params c.args.number (state_at g.H.House h c.args.desk.now) c.args.line.now))
-    (done_served g.H.House true c.args.desk.now.params h t rows reading cost (g.H.House.device c.args.desk.now.house) c.take_line.new.self c.in-Ok-Done.reply (gathered c.args.outbox.now) (gathered c.done.new.outbox) c.done.result
+    (done_served g.H.House true c.args.desk.now.params h t rows reading cost (g.H.House.device c.args.desk.now.house) c.take_line.new.self c.in-Ok-Done.reply (gathered c.args.outbox.now) (gathered c.done.new.outbox) c.args.outbox.now.is_urgent c.done.new.outbox.is_urgent c.done.result
     (does.went true h tt stands) (λ e. does.leaves h stands)
     (step_goes_on c.args.desk.now.params c.args.number (state_at g.H.House h c.args.desk.now) c.args.line.now)
-    (λ reads. does.reads true h reads stands) (λ e. does.charge h stands)
-    c.done.ensures.gathers c.done.ensures.ended)
+    (λ reads. does.reads true h reads stands) does.quiet (λ e. does.charge h stands)
+    c.done.ensures.gathers c.done.ensures.urgent c.done.ensures.ended)
 
 pub returns-in-Ok-Done-clause-commits : goal.returns-in-Ok-Done-clause-commits
 returns-in-Ok-Done-clause-commits g c = none_left _ c.done.result c.done.ensures.served
@@ -68,16 +68,16 @@ returns-in-Err-clause-serves g c = λ whole h may stands.
     (c.in-Err.ensures.does.stops whole h may stands)
     (λ e. c.in-Err.ensures.does.leaves h (subst (λ (w : Bool). g.H.House.stands w (g.H.House.device c.args.desk.now.house) c.args.desk.now.params h) e stands))
     (step_goes_on c.args.desk.now.params c.args.number (state_at g.H.House h c.args.desk.now) c.args.line.now)
-    (λ reading. c.in-Err.ensures.does.reads whole h reading stands)
+    (λ reading. c.in-Err.ensures.does.reads whole h reading stands) c.in-Err.ensures.does.quiet
     (λ e. c.in-Err.ensures.does.charge h (subst (λ (w : Bool). g.H.House.stands w (g.H.House.device c.args.desk.now.house) c.args.desk.now.params h) e stands))
 
 pub returns-in-Err-clause-lasts : goal.returns-in-Err-clause-lasts
 returns-in-Err-clause-lasts g c = λ h stands.
-    text_lasts g.H.House c.args.desk.now.params h (step c.args.desk.now.params c.args.number (state_at g.H.House h c.args.desk.now) c.args.line.now) _ _ _ _ [] [] (Err (record { ending = c.in-Err.ending; device = g.H.House.device c.take_line.new.self.house })) (step_goes_on c.args.desk.now.params c.args.number (state_at g.H.House h c.args.desk.now) c.args.line.now)
+    text_lasts g.H.House c.args.desk.now.params h (step c.args.desk.now.params c.args.number (state_at g.H.House h c.args.desk.now) c.args.line.now) _ _ _ _ [] [] true (Err (record { ending = c.in-Err.ending; device = g.H.House.device c.take_line.new.self.house })) (step_goes_on c.args.desk.now.params c.args.number (state_at g.H.House h c.args.desk.now) c.args.line.now)
     (step_broke g.H.House true c.args.desk.now.params h _ _ _ _ _ (record { ending = c.in-Err.ending; device = g.H.House.device c.take_line.new.self.house })
     (c.in-Err.ensures.does.stops true h tt stands) (λ e. c.in-Err.ensures.does.leaves h stands)
     (step_goes_on c.args.desk.now.params c.args.number (state_at g.H.House h c.args.desk.now) c.args.line.now)
-    (λ reading. c.in-Err.ensures.does.reads true h reading stands) (λ e. c.in-Err.ensures.does.charge h stands))
+    (λ reading. c.in-Err.ensures.does.reads true h reading stands) c.in-Err.ensures.does.quiet (λ e. c.in-Err.ensures.does.charge h stands))
 
 pub returns-in-Err-clause-within : goal.returns-in-Err-clause-within
 returns-in-Err-clause-within g c = c.in-Err.ensures.does.own
@@ -87,3 +87,9 @@ returns-in-Err-clause-faults g c = c.in-Err.ensures.does.faults
 
 pub returns-in-Err-clause-disk_fault : goal.returns-in-Err-clause-disk_fault
 returns-in-Err-clause-disk_fault g c = c.in-Err.ensures.does.disk
+
+pub returns-in-Ok-Done-clause-at_limit : goal.returns-in-Ok-Done-clause-at_limit
+returns-in-Ok-Done-clause-at_limit g c = done_no_limit _ c.done.result c.done.ensures.ended
+
+pub returns-in-Err-clause-at_limit : goal.returns-in-Err-clause-at_limit
+returns-in-Err-clause-at_limit g c = c.in-Err.ensures.does.limit

@@ -1,4 +1,4 @@
-use Rattle.std.proofs.Common.{◌≡◌, ◌⊎◌, ◌+◌, ◌<◌, ◌≤◌, ◌^◌, true, IsTrue, List, Option, None, Ok, Err, IfOk, length, inl, inr, refl, sym, ◌∙◌, ap, subst}
+use Rattle.std.proofs.Common.{◌≡◌, ℕ, ◌⊎◌, ◌+◌, ◌<◌, ◌≤◌, ◌^◌, true, IsTrue, List, Option, None, Ok, Err, IfOk, length, inl, inr, refl, sym, ◌∙◌, ap, subst}
 use Rattle.std.specs.List.{list_all}
 use Rattle.bw_types.specs.Fits.{row_fits}
 use Rattle.bw_types.specs.History.{History, flat, last_version}
@@ -13,12 +13,13 @@ use Rattle.page_layout.specs.declared.meta.Meta.{Meta}
 use Rattle.page_space.specs.Begun.{Begun}
 use Rattle.page_space.specs.Shown.{begun_of, disk_of, meta_of, params_of}
 use Rattle.session_book.specs.declared.refusals.BookFault.{BookFault}
-use Rattle.warehouse.specs.Committed.{IfDone, IsCommitCause, after_commit, device_out, with_batch}
+use Rattle.warehouse.specs.Committed.{IsCommitCause, after_commit, device_out, with_batch}
+use Rattle.warehouse.specs.Left.{IsAsBefore, IsPutLast}
 use Rattle.page_warehouse.specs.Holds.{Holds}
 use Rattle.page_warehouse.specs.Needs.{LacksPages, RisesWithin, StaysSmall, batch_need, charge_of, small_need}
-use Rattle.page_warehouse.specs.Shown.{HoldsHistory, disk_in, space_in}
-use Rattle.page_warehouse.proofs.Outcomes.{if_done}
-use Rattle.page_warehouse.proofs.Same.{both_done, done_both, held_own, kept_at_limit, left_now, limit_both, only_leaves}
+use Rattle.page_warehouse.specs.Shown.{HasNewForm, HoldsHistory, disk_charge, disk_in, params_in, space_in}
+use Rattle.page_warehouse.proofs.Outcomes.{if_kept}
+use Rattle.page_warehouse.proofs.Same.{as_before, both_at_limit, both_done, done_both, held_own, left_now, limit_both, limit_each, only_leaves}
 use Rattle.page_warehouse.proofs.house.WarehouseHouse.commit.Goals as goal
 
 pub put-requires-clause-fit : goal.put-requires-clause-fit
@@ -69,155 +70,107 @@ returns-in-None-clause-done g c = λ h held.
     let held1 = held_own g.X.DomIndex true old mid h stays held in
     let batch1 = subst (λ (p : Params). IsLawfulBatch p h (flat rows)) (sym same) batch in
     let h1 : History = with_batch h rows in
-    let done = subst (λ (p : Params). IfDone c.put.result (λ house version. (version ≡ last_version h + 1) × HoldsHistory g.D.Disk g.X.DomIndex true (disk_in house) p h1)) same (c.put.ensures.done h held1 batch1) in
-    done
-
-pub returns-in-None-clause-any_moment : goal.returns-in-None-clause-any_moment
-returns-in-None-clause-any_moment g c = λ h held.
-    let old = c.args.self.space in
-    let mid = c.judge-house.result.house.space in
-    let params = params_of old in
-    let rows = c.args.rows.now in
-    let stays = c.judge-house.ensures.stays in
-    let same : params_of mid ≡ params = ap (λ (b : Begun). b.params) stays in
-    let none = c.in-Ok.is ∙ ap (λ (r : Option Refusal). Ok r) c.in-None.is in
-    let found = subst (λ r. IfOk r (λ (refusal : Option Refusal). (h : History) → HoldsHistory g.D.Disk g.X.DomIndex true (disk_of old) params h → refusal ≡ first_refusal params h rows)) none c.judge-house.ensures.ok in
-    let accepted : None ≡ first_refusal params h rows = found h held in
-    let batch : IsLawfulBatch params h (flat rows) = c.accepted_batches_are_lawful.ensures params h rows c.requires.fit c.requires.most (sym accepted) in
-    let held1 = held_own g.X.DomIndex true old mid h stays held in
-    let batch1 = subst (λ (p : Params). IsLawfulBatch p h (flat rows)) (sym same) batch in
-    let h1 : History = with_batch h rows in
-    let P : Image → Type 0 = (λ (x : Image). Holds g.X.DomIndex x params h ⊎ Holds g.X.DomIndex x params h1) in
-    let only = subst (λ (m : List Moment). LeavesOnly P m (g.D.Disk.moments (device_out disk_in c.put.result))) (ap (λ (b : Begun). b.moments) stays)
-    (subst (λ (p : Params). LeavesOnly (λ x. Holds g.X.DomIndex x p h ⊎ Holds g.X.DomIndex x p h1) (g.D.Disk.moments (disk_of mid)) (g.D.Disk.moments (device_out disk_in c.put.result))) same (c.put.ensures.any_moment h held1 batch1)) in
-    let onto : (x : Image) → Holds g.X.DomIndex x params h1 → Holds g.X.DomIndex x params (after_commit (first_refusal params h rows) h rows) = (λ x b. subst (λ (f : Option Refusal). Holds g.X.DomIndex x params (after_commit f h rows)) accepted b) in
-    only_leaves P (λ x. Holds g.X.DomIndex x params h ⊎ Holds g.X.DomIndex x params (after_commit (first_refusal params h rows) h rows)) _ _
-    (λ x cases. elim cases [
-      | inl a ↦ inl a
-      | inr b ↦ inr (onto x b)
-    ]) only
-
-pub returns-in-None-clause-settled : goal.returns-in-None-clause-settled
-returns-in-None-clause-settled g c = λ h held.
-    let old = c.args.self.space in
-    let mid = c.judge-house.result.house.space in
-    let params = params_of old in
-    let rows = c.args.rows.now in
-    let stays = c.judge-house.ensures.stays in
-    let same : params_of mid ≡ params = ap (λ (b : Begun). b.params) stays in
-    let none = c.in-Ok.is ∙ ap (λ (r : Option Refusal). Ok r) c.in-None.is in
-    let found = subst (λ r. IfOk r (λ (refusal : Option Refusal). (h : History) → HoldsHistory g.D.Disk g.X.DomIndex true (disk_of old) params h → refusal ≡ first_refusal params h rows)) none c.judge-house.ensures.ok in
-    let accepted : None ≡ first_refusal params h rows = found h held in
-    let batch : IsLawfulBatch params h (flat rows) = c.accepted_batches_are_lawful.ensures params h rows c.requires.fit c.requires.most (sym accepted) in
-    let held1 = held_own g.X.DomIndex true old mid h stays held in
-    let batch1 = subst (λ (p : Params). IsLawfulBatch p h (flat rows)) (sym same) batch in
-    let h1 : History = with_batch h rows in
-    let done = subst (λ (p : Params). IfDone c.put.result (λ house version. (version ≡ last_version h + 1) × HoldsHistory g.D.Disk g.X.DomIndex true (disk_in house) p h1)) same (c.put.ensures.done h held1 batch1) in
-    both_done c.put.result (λ house version. (version ≡ last_version h + 1) × HoldsHistory g.D.Disk g.X.DomIndex true (disk_in house) params h1)
-    (λ house version. LeavesNow (g.D.Disk.moments (disk_in house)) (g.D.Disk.image (disk_in house)))
-    (λ house version. (x : Image) → MayBeLeftNow (g.D.Disk.moments (disk_in house)) x → Holds g.X.DomIndex x params h1)
-    (λ house version holds settled x now. subst (λ (y : Image). Holds g.X.DomIndex y params h1) (sym (settled x now)) holds.1.1) done c.put.ensures.settled
-
-pub returns-in-None-clause-lost : goal.returns-in-None-clause-lost
-returns-in-None-clause-lost g c = λ h held settled x now.
-    let old = c.args.self.space in
-    let mid = c.judge-house.result.house.space in
-    let params = params_of old in
-    let rows = c.args.rows.now in
-    let stays = c.judge-house.ensures.stays in
-    let same : params_of mid ≡ params = ap (λ (b : Begun). b.params) stays in
-    let none = c.in-Ok.is ∙ ap (λ (r : Option Refusal). Ok r) c.in-None.is in
-    let found = subst (λ r. IfOk r (λ (refusal : Option Refusal). (h : History) → HoldsHistory g.D.Disk g.X.DomIndex true (disk_of old) params h → refusal ≡ first_refusal params h rows)) none c.judge-house.ensures.ok in
-    let accepted : None ≡ first_refusal params h rows = found h held in
-    let batch : IsLawfulBatch params h (flat rows) = c.accepted_batches_are_lawful.ensures params h rows c.requires.fit c.requires.most (sym accepted) in
-    let held1 = held_own g.X.DomIndex true old mid h stays held in
-    let batch1 = subst (λ (p : Params). IsLawfulBatch p h (flat rows)) (sym same) batch in
-    let h1 : History = with_batch h rows in
-    let P : Image → Type 0 = (λ (x : Image). Holds g.X.DomIndex x params h ⊎ Holds g.X.DomIndex x params h1) in
-    let only = subst (λ (m : List Moment). LeavesOnly P m (g.D.Disk.moments (device_out disk_in c.put.result))) (ap (λ (b : Begun). b.moments) stays)
-    (subst (λ (p : Params). LeavesOnly (λ x. Holds g.X.DomIndex x p h ⊎ Holds g.X.DomIndex x p h1) (g.D.Disk.moments (disk_of mid)) (g.D.Disk.moments (device_out disk_in c.put.result))) same (c.put.ensures.any_moment h held1 batch1)) in
-    let onto : (x : Image) → Holds g.X.DomIndex x params h1 → Holds g.X.DomIndex x params (after_commit (first_refusal params h rows) h rows) = (λ x b. subst (λ (f : Option Refusal). Holds g.X.DomIndex x params (after_commit f h rows)) accepted b) in
-    elim (left_now P (λ y. Holds g.X.DomIndex y params h) _ _ c.crash_laws.ensures.now only settled x now) [
-      | inl a ↦ inl a
-      | inr p ↦ elim p [
-        | inl a ↦ inl a
-        | inr b ↦ inr (onto x b)
-      ]
-    ]
-
-pub returns-in-None-clause-page_limit : goal.returns-in-None-clause-page_limit
-returns-in-None-clause-page_limit g c = λ h held.
-    let old = c.args.self.space in
-    let mid = c.judge-house.result.house.space in
-    let params = params_of old in
-    let rows = c.args.rows.now in
-    let stays = c.judge-house.ensures.stays in
-    let same : params_of mid ≡ params = ap (λ (b : Begun). b.params) stays in
-    let none = c.in-Ok.is ∙ ap (λ (r : Option Refusal). Ok r) c.in-None.is in
-    let found = subst (λ r. IfOk r (λ (refusal : Option Refusal). (h : History) → HoldsHistory g.D.Disk g.X.DomIndex true (disk_of old) params h → refusal ≡ first_refusal params h rows)) none c.judge-house.ensures.ok in
-    let accepted : None ≡ first_refusal params h rows = found h held in
-    let batch : IsLawfulBatch params h (flat rows) = c.accepted_batches_are_lawful.ensures params h rows c.requires.fit c.requires.most (sym accepted) in
-    let held1 = held_own g.X.DomIndex true old mid h stays held in
-    let batch1 = subst (λ (p : Params). IsLawfulBatch p h (flat rows)) (sym same) batch in
-    let h1 : History = with_batch h rows in
     let x = g.D.Disk.image (disk_of mid) in
-    kept_at_limit c.put.result (λ house. begun_of (space_in house) ≡ begun_of mid)
-    (λ house n. ((params_of mid).pages < charge_of x + batch_need (params_of mid) h rows) × (StaysSmall x (params_of mid) h rows → (params_of mid).pages < charge_of x + small_need (params_of mid) (length (flat rows))))
-    (λ house n. LacksPages (g.D.Disk.image (disk_in house)) params h rows × (params.pages < charge_of (g.D.Disk.image (disk_in house)) + batch_need params h rows))
-    (λ house n kept passed.
-    let own : LacksPages x params h rows = subst (λ (p : Params). LacksPages x p h rows) same (record { need = passed.0; small = passed.1 }) in
-    let here = subst (λ (y : Image). LacksPages y params h rows) (sym (ap (λ (b : Begun). b.image) kept)) own in
-    (here, here.need)) c.put.ensures.kept
-    (limit_both c.put.result (StaysSmall x (params_of mid) h rows) (λ house n. (params_of mid).pages < charge_of x + batch_need (params_of mid) h rows) (λ house n. (params_of mid).pages < charge_of x + small_need (params_of mid) (length (flat rows)))
-    (c.put.ensures.page_limit h held1 batch1) (c.put.ensures.small_limit h held1 batch1))
-
-pub returns-in-None-clause-charge_done : goal.returns-in-None-clause-charge_done
-returns-in-None-clause-charge_done g c = λ h held.
-    let old = c.args.self.space in
-    let mid = c.judge-house.result.house.space in
-    let params = params_of old in
-    let rows = c.args.rows.now in
-    let stays = c.judge-house.ensures.stays in
-    let same : params_of mid ≡ params = ap (λ (b : Begun). b.params) stays in
-    let none = c.in-Ok.is ∙ ap (λ (r : Option Refusal). Ok r) c.in-None.is in
-    let found = subst (λ r. IfOk r (λ (refusal : Option Refusal). (h : History) → HoldsHistory g.D.Disk g.X.DomIndex true (disk_of old) params h → refusal ≡ first_refusal params h rows)) none c.judge-house.ensures.ok in
-    let accepted : None ≡ first_refusal params h rows = found h held in
-    let batch : IsLawfulBatch params h (flat rows) = c.accepted_batches_are_lawful.ensures params h rows c.requires.fit c.requires.most (sym accepted) in
-    let held1 = held_own g.X.DomIndex true old mid h stays held in
-    let batch1 = subst (λ (p : Params). IsLawfulBatch p h (flat rows)) (sym same) batch in
-    let h1 : History = with_batch h rows in
-    if_done c.put.result (λ house version. charge_of (g.D.Disk.image (disk_in house)) ≤ charge_of (g.D.Disk.image (disk_of mid)) + batch_need (params_of mid) h rows)
-    (λ house version. charge_of (g.D.Disk.image (disk_in house)) ≤ charge_of (g.D.Disk.image (disk_of old)) + batch_need params h rows)
-    (λ house version most.
-    let own = subst (λ (p : Params). charge_of (g.D.Disk.image (disk_in house)) ≤ charge_of (g.D.Disk.image (disk_of mid)) + batch_need p h rows) same most in
-    subst (λ (y : Image). charge_of (g.D.Disk.image (disk_in house)) ≤ charge_of y + batch_need params h rows) (ap (λ (b : Begun). b.image) stays) own)
-    (c.put.ensures.charge_done h held1 batch1)
-
-pub returns-in-None-clause-rises : goal.returns-in-None-clause-rises
-returns-in-None-clause-rises g c = λ h held.
-    let old = c.args.self.space in
-    let mid = c.judge-house.result.house.space in
-    let params = params_of old in
-    let rows = c.args.rows.now in
-    let stays = c.judge-house.ensures.stays in
-    let same : params_of mid ≡ params = ap (λ (b : Begun). b.params) stays in
-    let none = c.in-Ok.is ∙ ap (λ (r : Option Refusal). Ok r) c.in-None.is in
-    let found = subst (λ r. IfOk r (λ (refusal : Option Refusal). (h : History) → HoldsHistory g.D.Disk g.X.DomIndex true (disk_of old) params h → refusal ≡ first_refusal params h rows)) none c.judge-house.ensures.ok in
-    let accepted : None ≡ first_refusal params h rows = found h held in
-    let batch : IsLawfulBatch params h (flat rows) = c.accepted_batches_are_lawful.ensures params h rows c.requires.fit c.requires.most (sym accepted) in
-    let held1 = held_own g.X.DomIndex true old mid h stays held in
-    let batch1 = subst (λ (p : Params). IsLawfulBatch p h (flat rows)) (sym same) batch in
-    let h1 : History = with_batch h rows in
-    let x = g.D.Disk.image (disk_of mid) in
-    if_done c.put.result (λ house version. (charge_of (g.D.Disk.image (disk_in house)) ≤ charge_of x + batch_need (params_of mid) h rows)
+    both_done c.put.result (λ house version. ((version ≡ last_version h + 1) × HoldsHistory g.D.Disk g.X.DomIndex true (disk_in house) (params_of mid) h1) × LeavesNow (g.D.Disk.moments (disk_in house)) (g.D.Disk.image (disk_in house)))
+    (λ house version. (charge_of (g.D.Disk.image (disk_in house)) ≤ charge_of x + batch_need (params_of mid) h rows)
     × (StaysSmall x (params_of mid) h rows → charge_of (g.D.Disk.image (disk_in house)) ≤ charge_of x + small_need (params_of mid) (length (flat rows))))
-    (λ house version. RisesWithin (g.D.Disk.image (disk_of old)) params h rows (g.D.Disk.image (disk_in house)))
-    (λ house version both.
-    let own : RisesWithin x params h rows (g.D.Disk.image (disk_in house)) = subst (λ (p : Params). RisesWithin x p h rows (g.D.Disk.image (disk_in house))) same (record { need = both.0; small = both.1 }) in
-    subst (λ (y : Image). RisesWithin y params h rows (g.D.Disk.image (disk_in house))) (ap (λ (b : Begun). b.image) stays) own)
+    (IsPutLast params_in disk_in (HoldsHistory g.D.Disk g.X.DomIndex) g.D.Disk.moments MayBeLeftNow (Holds g.X.DomIndex) (disk_charge g.D.Disk) batch_need (λ d p k batch d'. RisesWithin (g.D.Disk.image d) p k batch (g.D.Disk.image d')) h rows c.args.self)
+    (λ house version done rose.
+    let holds : HoldsHistory g.D.Disk g.X.DomIndex true (disk_in house) params h1 = subst (λ (p : Params). HoldsHistory g.D.Disk g.X.DomIndex true (disk_in house) p h1) same done.0.1 in
+    let own : RisesWithin x params h rows (g.D.Disk.image (disk_in house)) = subst (λ (p : Params). RisesWithin x p h rows (g.D.Disk.image (disk_in house))) same (record { need = rose.0; small = rose.1 }) in
+    let rises : RisesWithin (g.D.Disk.image (disk_of old)) params h rows (g.D.Disk.image (disk_in house)) = subst (λ (y : Image). RisesWithin y params h rows (g.D.Disk.image (disk_in house))) (ap (λ (b : Begun). b.image) stays) own in
+    record {
+      version = done.0.0;
+      stands = holds;
+      settled = λ y now. subst (λ (z : Image). Holds g.X.DomIndex z params h1) (sym (done.1 y now)) holds.1;
+      charge = rises.need;
+      rises = rises;
+    })
+    (both_done c.put.result (λ house version. (version ≡ last_version h + 1) × HoldsHistory g.D.Disk g.X.DomIndex true (disk_in house) (params_of mid) h1) (λ house version. LeavesNow (g.D.Disk.moments (disk_in house)) (g.D.Disk.image (disk_in house))) _ (λ house version done settled. (done, settled))
+    (c.put.ensures.done h held1 batch1) c.put.ensures.settled)
     (done_both c.put.result (StaysSmall x (params_of mid) h rows) (λ house version. charge_of (g.D.Disk.image (disk_in house)) ≤ charge_of x + batch_need (params_of mid) h rows)
     (λ house version. charge_of (g.D.Disk.image (disk_in house)) ≤ charge_of x + small_need (params_of mid) (length (flat rows)))
     (c.put.ensures.charge_done h held1 batch1) (c.put.ensures.small_done h held1 batch1))
+
+pub returns-in-None-clause-renewed : goal.returns-in-None-clause-renewed
+returns-in-None-clause-renewed g c =
+    let same : params_of c.judge-house.result.house.space ≡ params_of c.args.self.space = ap (λ (b : Begun). b.params) c.judge-house.ensures.stays in
+    both_done c.put.result (λ house version. HasNewForm g.D.Disk (disk_in house)) (λ house version. params_in house ≡ params_of c.judge-house.result.house.space)
+    (λ house version. HasNewForm g.D.Disk (disk_in house) × (params_in house ≡ params_of c.args.self.space))
+    (λ house version form own. (form, own ∙ same)) c.put.ensures.by_lives c.put.ensures.params_done
+
+pub returns-in-None-clause-kept : goal.returns-in-None-clause-kept
+returns-in-None-clause-kept g c =
+    if_kept c.put.result (λ house. begun_of (space_in house) ≡ begun_of c.judge-house.result.house.space)
+    (IsAsBefore params_in disk_in (HoldsHistory g.D.Disk g.X.DomIndex) (HasNewForm g.D.Disk) g.D.Disk.image g.D.Disk.moments (disk_charge g.D.Disk) c.args.self)
+    (λ house kept. as_before c.args.self house (kept ∙ c.judge-house.ensures.stays)) c.put.ensures.kept
+
+pub returns-in-None-clause-crash : goal.returns-in-None-clause-crash
+returns-in-None-clause-crash g c = λ h held.
+    let old = c.args.self.space in
+    let mid = c.judge-house.result.house.space in
+    let params = params_of old in
+    let rows = c.args.rows.now in
+    let stays = c.judge-house.ensures.stays in
+    let same : params_of mid ≡ params = ap (λ (b : Begun). b.params) stays in
+    let none = c.in-Ok.is ∙ ap (λ (r : Option Refusal). Ok r) c.in-None.is in
+    let found = subst (λ r. IfOk r (λ (refusal : Option Refusal). (h : History) → HoldsHistory g.D.Disk g.X.DomIndex true (disk_of old) params h → refusal ≡ first_refusal params h rows)) none c.judge-house.ensures.ok in
+    let accepted : None ≡ first_refusal params h rows = found h held in
+    let batch : IsLawfulBatch params h (flat rows) = c.accepted_batches_are_lawful.ensures params h rows c.requires.fit c.requires.most (sym accepted) in
+    let held1 = held_own g.X.DomIndex true old mid h stays held in
+    let batch1 = subst (λ (p : Params). IsLawfulBatch p h (flat rows)) (sym same) batch in
+    let h1 : History = with_batch h rows in
+    let P : Image → Type 0 = (λ (x : Image). Holds g.X.DomIndex x params h ⊎ Holds g.X.DomIndex x params h1) in
+    let only = subst (λ (m : List Moment). LeavesOnly P m (g.D.Disk.moments (device_out disk_in c.put.result))) (ap (λ (b : Begun). b.moments) stays)
+    (subst (λ (p : Params). LeavesOnly (λ x. Holds g.X.DomIndex x p h ⊎ Holds g.X.DomIndex x p h1) (g.D.Disk.moments (disk_of mid)) (g.D.Disk.moments (device_out disk_in c.put.result))) same (c.put.ensures.any_moment h held1 batch1)) in
+    let onto : (x : Image) → Holds g.X.DomIndex x params h1 → Holds g.X.DomIndex x params (after_commit (first_refusal params h rows) h rows) = (λ x b. subst (λ (f : Option Refusal). Holds g.X.DomIndex x params (after_commit f h rows)) accepted b) in
+    record {
+      any_moment = only_leaves P (λ x. Holds g.X.DomIndex x params h ⊎ Holds g.X.DomIndex x params (after_commit (first_refusal params h rows) h rows)) _ _
+          (λ x cases. elim cases [
+            | inl a ↦ inl a
+            | inr b ↦ inr (onto x b)
+          ]) only;
+      lost = λ settled x now. elim (left_now P (λ y. Holds g.X.DomIndex y params h) _ _ c.crash_laws.ensures.now only settled x now) [
+        | inl a ↦ inl a
+        | inr p ↦ elim p [
+          | inl a ↦ inl a
+          | inr b ↦ inr (onto x b)
+        ]
+      ];
+    }
+
+pub returns-in-None-clause-page_limit : goal.returns-in-None-clause-page_limit
+returns-in-None-clause-page_limit g c =
+    let old = c.args.self.space in
+    let mid = c.judge-house.result.house.space in
+    let params = params_of old in
+    let rows = c.args.rows.now in
+    let stays = c.judge-house.ensures.stays in
+    let same : params_of mid ≡ params = ap (λ (b : Begun). b.params) stays in
+    let x = g.D.Disk.image (disk_of mid) in
+    both_at_limit c.put.result (λ house. begun_of (space_in house) ≡ begun_of mid) (λ house n. n ≡ (params_of mid).pages)
+    (λ house n. (h : History) → HoldsHistory g.D.Disk g.X.DomIndex true (disk_of old) params h → ((params_of mid).pages < charge_of x + batch_need (params_of mid) h rows) × (StaysSmall x (params_of mid) h rows → (params_of mid).pages < charge_of x + small_need (params_of mid) (length (flat rows))))
+    (λ house n. (n ≡ params.pages) × ((h : History) → HoldsHistory g.D.Disk g.X.DomIndex true (disk_of old) params h → LacksPages (g.D.Disk.image (disk_in house)) params h rows × (params.pages < charge_of (g.D.Disk.image (disk_in house)) + batch_need params h rows)))
+    (λ house n kept limit passed. (
+      limit ∙ ap (λ (p : Params). p.pages) same,
+      λ h held.
+          let both = passed h held in
+          let own : LacksPages x params h rows = subst (λ (p : Params). LacksPages x p h rows) same (record { need = both.0; small = both.1 }) in
+          let here = subst (λ (y : Image). LacksPages y params h rows) (sym (ap (λ (b : Begun). b.image) kept)) own in
+          (here, here.need),
+    ))
+    c.put.ensures.kept c.put.ensures.at_limit
+    (limit_each c.put.result (λ (h : History). HoldsHistory g.D.Disk g.X.DomIndex true (disk_of old) params h)
+    (λ (h : History) house (n : ℕ). ((params_of mid).pages < charge_of x + batch_need (params_of mid) h rows) × (StaysSmall x (params_of mid) h rows → (params_of mid).pages < charge_of x + small_need (params_of mid) (length (flat rows))))
+    (λ h held.
+    let none = c.in-Ok.is ∙ ap (λ (r : Option Refusal). Ok r) c.in-None.is in
+    let found = subst (λ r. IfOk r (λ (refusal : Option Refusal). (h : History) → HoldsHistory g.D.Disk g.X.DomIndex true (disk_of old) params h → refusal ≡ first_refusal params h rows)) none c.judge-house.ensures.ok in
+    let accepted : None ≡ first_refusal params h rows = found h held in
+    let batch : IsLawfulBatch params h (flat rows) = c.accepted_batches_are_lawful.ensures params h rows c.requires.fit c.requires.most (sym accepted) in
+    let held1 = held_own g.X.DomIndex true old mid h stays held in
+    let batch1 = subst (λ (p : Params). IsLawfulBatch p h (flat rows)) (sym same) batch in
+    limit_both c.put.result (StaysSmall x (params_of mid) h rows) (λ house n. (params_of mid).pages < charge_of x + batch_need (params_of mid) h rows) (λ house n. (params_of mid).pages < charge_of x + small_need (params_of mid) (length (flat rows)))
+    (c.put.ensures.page_limit h held1 batch1) (c.put.ensures.small_limit h held1 batch1)))
 
 pub returns-in-Damaged-clause-cause : goal.returns-in-Damaged-clause-cause
 returns-in-Damaged-clause-cause g c = λ h held. c.judge-house.ensures.sound h c.in-Damaged.page held (c.in-Err.is ∙ ap (λ (f : BookFault). Err f) c.in-Damaged.is)
