@@ -1,61 +1,57 @@
-//! `boxsum`: keeps boxes with weights and answers, at any past version, how much weight touches a
-//! box, how many boxes do, or how much of a quantity lies inside it.
+//! The program `boxsum`.
 //!
-//! `main` makes the devices, calls `run`, whose contract says all that the program promises, prints
-//! the text of the status and ends.
+//! `main` makes the devices, hands the words on to `run` of the library, whose contract says all that the program promises, prints
+//! the text of the status and ends with its number.
 #![tactic(auto)]
 
-#[cfg(test)]
-mod disk_tests;
-#[cfg(test)]
-mod earlier_tests;
-#[cfg(test)]
-mod great_tests;
-#[cfg(test)]
-mod hostile_tests;
-mod index;
-mod run;
-mod sample;
-#[cfg(test)]
-mod sample_tests;
-mod status;
-#[cfg(test)]
-mod tests;
+ghost use Rattle.std.specs.Prelude.{◌≡◌};
+ghost use Rattle.std.specs.Process.{exit_status};
+ghost use Rattle.boxsum.specs.Statuses.{exit_code};
 
-use crate::run::run;
-use crate::status::Status;
+mod words;
+
+use crate::words::words_behind;
+use boxsum::{Status, run};
 use byte_ports::{StdSink, StdSource};
-use page_disk::FileDisk;
+use page_disk::{Failure, FileDisk};
 use std::env;
 use std::process::ExitCode;
 
 fn main(rt: HostRuntime) -> ExitCode {
-    let status = run_on(&rt);
+    let (status, failure) = run_on(&rt);
     if status != Status::Fine {
         // A text that standard error does not take is not worth another status.
         let _ = eprintln!(rt; "boxsum: {status}");
     }
+    if let (Status::DiskFault, Some(failure)) = (status, failure) {
+        let _ = eprintln!(rt; "boxsum: {failure}");
+    }
+    ending(status)
+}
+
+// How the process ends: with the number of the status.
+fn ending(status: Status) -> ExitCode
+    ensures { exit_status result ≡ exit_code status }
+{
     ExitCode::from(status.code())
 }
 
-// Reads the words and makes the devices. Arguments that cannot be read are no command.
-fn run_on(rt: &HostRuntime) -> Status {
+// Reads the words and makes the devices. Arguments that cannot be read are no command. Answers the last
+// call on a file that failed as well, if one did.
+fn run_on(rt: &HostRuntime) -> (Status, Option<Failure>) {
     let Ok(args) = env::args(rt) else {
-        return Status::Usage;
+        return (Status::Usage, None);
     };
-    let mut words = Vec::new(rt.alloc());
-    for word in args.skip(1) {
-        if words.push(word).is_err() {
-            return Status::NoMemory;
-        }
-    }
+    let Some(words) = words_behind(rt.alloc(), args) else {
+        return (Status::NoMemory, None);
+    };
     let Ok(files) = rt.clone() else {
-        return Status::NoMemory;
+        return (Status::NoMemory, None);
     };
     // The files are opened, and made where absent, at the first call on the disk.
-    let disk = FileDisk::new(files);
+    let disk = FileDisk::new(rt.alloc(), files);
     let mut source = StdSource::new(rt.stdin());
     let mut sink = StdSink::new(rt.stdout());
     let ran = run(rt.alloc(), words.as_slice(), disk, &mut source, &mut sink);
-    ran.status
+    (ran.status, ran.disk.last_failure())
 }

@@ -1,0 +1,43 @@
+-- The command that the words ask for.
+use Rattle.std.proofs.Common.{◌≡◌, ℕ, List, Option, Some, ◌∙◌, sym, ap, subst}
+use Rattle.bw_types.specs.declared.params.Params.{Params}
+use Rattle.csv_rows.specs.Input.{given, provided}
+use Rattle.command_words.specs.Command.{command_of}
+use Rattle.command_words.specs.declared.command.Command.{Command}
+use Rattle.command_words.specs.declared.command.Command.TheVariants.{Create, Scratch, Sample}
+use Rattle.byte_ports.specs.declared.Source.{Ghosts as SourceGhosts}
+use Rattle.byte_ports.specs.declared.Sink.{Ghosts as SinkGhosts}
+use Rattle.page_disk.specs.declared.disk.Disk.{Ghosts as DiskGhosts}
+use Rattle.dom_index.specs.declared.index.DomIndex.{Ghosts as IndexGhosts}
+use Rattle.boxsum.specs.Built.{built_command, is_built}
+use Rattle.boxsum.specs.Ran.{AnswersFromNothing, MakesEmpty, Samples}
+use Rattle.boxsum.specs.declared.status.Ran.{Ran}
+use Rattle.boxsum.specs.declared.status.Status.{Status}
+
+-- a command that was read is the one that is built
+built_is : (words : List (List ℕ)) (read command : Command) → command_of words ≡ Some read → read ≡ command → built_command words ≡ provided (is_built command) command
+built_is words read command e is = ap (λ (o : Option Command). given o (λ c. provided (is_built c) c)) (e ∙ ap Some is)
+
+-- there is one command that the words ask for
+pub same_create : (words : List (List ℕ)) (read : Command) (at params : Params) → command_of words ≡ Some read → read ≡ Create at → built_command words ≡ Some (Create params) → at ≡ params
+same_create words read at params e is asked = let same : Some (Create at) ≡ Some (Create params) = sym (built_is words read (Create at) e is) ∙ asked in cc
+
+pub same_scratch : (words : List (List ℕ)) (read : Command) (at params : Params) → command_of words ≡ Some read → read ≡ Scratch at → built_command words ≡ Some (Scratch params) → at ≡ params
+same_scratch words read at params e is asked = let same : Some (Scratch at) ≡ Some (Scratch params) = sym (built_is words read (Scratch at) e is) ∙ asked in cc
+
+pub same_sample : (words : List (List ℕ)) (read : Command) (from many start count : ℕ) → command_of words ≡ Some read → read ≡ Sample from many → built_command words ≡ Some (Sample start count)
+    → (from ≡ start) × (many ≡ count)
+same_sample words read from many start count e is asked = let same : Some (Sample from many) ≡ Some (Sample start count) = sym (built_is words read (Sample from many) e is) ∙ asked in (cc, cc)
+
+-- What was done for what was read was done for what is asked.
+pub created_by : {D X : Type 0} (d : DiskGhosts D) (i : IndexGhosts X) (disk : D) (ran : Ran D) (at params : Params) → at ≡ params → MakesEmpty d disk ran i at → MakesEmpty d disk ran i params
+created_by d i disk ran at params same m = subst (λ (p : Params). MakesEmpty d disk ran i p) same m
+
+pub scratched_by : {S K : Type 0} (s : SourceGhosts S) (k : SinkGhosts K) (source source' : S) (sink sink' : K) (ended : Status) (at params : Params) → at ≡ params
+    → AnswersFromNothing s k source source' sink sink' ended at → AnswersFromNothing s k source source' sink sink' ended params
+scratched_by s k source source' sink sink' ended at params same a = subst (λ (p : Params). AnswersFromNothing s k source source' sink sink' ended p) same a
+
+pub sampled_by : {D K X : Type 0} (d : DiskGhosts D) (k : SinkGhosts K) (i : IndexGhosts X) (disk : D) (sink sink' : K) (ran : Ran D) (from many start count : ℕ) → (from ≡ start) × (many ≡ count)
+    → Samples d k i disk sink sink' ran from many → Samples d k i disk sink sink' ran start count
+sampled_by d k i disk sink sink' ran from many start count same a =
+    subst (λ (n : ℕ). Samples d k i disk sink sink' ran n count) same.0 (subst (λ (n : ℕ). Samples d k i disk sink sink' ran from n) same.1 a)

@@ -1,0 +1,7 @@
+pub mod Asked
+pub mod Endings
+pub mod Nothing
+pub mod Opened
+pub mod Reading
+pub mod Sampling
+pub mod Scratch

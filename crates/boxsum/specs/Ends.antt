@@ -1,0 +1,50 @@
+-- With which statuses each command may end.
+use Rattle.std.specs.Prelude.{Bool, true, false, Option, Some, None}
+use Rattle.command_words.specs.declared.command.Command.{Command}
+use Rattle.command_words.specs.declared.command.Command.TheVariants.{Create, Run, Scratch, Sample}
+use Rattle.boxsum.specs.declared.status.Status.{Status}
+use Rattle.boxsum.specs.declared.status.Status.TheVariants.{Fine, Usage, AlreadyThere, ReadFault, WriteFault, DiskFault, NoMemory, Damaged, InputLimit, PageLimit}
+
+abbrev pub ends_create : Status → Bool
+ends_create Fine = true
+ends_create AlreadyThere = true
+ends_create DiskFault = true
+ends_create NoMemory = true
+ends_create _ = false
+
+abbrev pub ends_run : Status → Bool
+ends_run Usage = false
+ends_run AlreadyThere = false
+ends_run _ = true
+
+abbrev pub ends_scratch : Status → Bool
+ends_scratch Fine = true
+ends_scratch ReadFault = true
+ends_scratch WriteFault = true
+ends_scratch NoMemory = true
+ends_scratch (InputLimit taken) = true
+ends_scratch _ = false
+
+abbrev pub ends_sample : Status → Bool
+ends_sample Fine = true
+ends_sample AlreadyThere = true
+ends_sample WriteFault = true
+ends_sample DiskFault = true
+ends_sample NoMemory = true
+ends_sample (Damaged area page) = true
+ends_sample (PageLimit allotted) = true
+ends_sample _ = false
+
+abbrev pub ends_nothing : Status → Bool
+ends_nothing Usage = true
+ends_nothing NoMemory = true
+ends_nothing _ = false
+
+-- what is asked for may end so
+abbrev pub may_end : Option Command → Status → Bool
+may_end None status = ends_nothing status
+may_end (Some (Create params)) status = ends_create status
+may_end (Some Run) status = ends_run status
+may_end (Some (Scratch params)) status = ends_scratch status
+may_end (Some (Sample start count)) status = ends_sample status
+may_end (Some _) status = ends_nothing status

@@ -1,0 +1,117 @@
+-- What a disk holds when a command begins and when it ends, and what a crash may leave of it.
+use Rattle.std.specs.Prelude.{◌≡◌, ◌≢◌, ◌⊎◌, ◌≤◌, ⊤, Bool, true, false, IsTrue, ℕ, List, []}
+use Rattle.bw_types.specs.History.{History}
+use Rattle.bw_types.specs.declared.params.Params.{Params}
+use Rattle.line_reader.specs.Lines.{lines}
+use Rattle.page_disk.specs.Image.{Image, PageList}
+use Rattle.page_disk.specs.Moment.{Moment, MayBeLeftNow}
+use Rattle.page_disk.specs.Since.{LeavesOnly}
+use Rattle.page_disk.specs.declared.disk.Area.TheVariants.{Pages, Journal}
+use Rattle.page_disk.specs.declared.disk.Disk.{Ghosts}
+use Rattle.page_layout.specs.declared.meta.Meta.{Meta}
+use Rattle.page_ports.specs.Pages.{PageMap}
+use Rattle.page_space.specs.Opening.{StandsAlike}
+use Rattle.page_space.specs.Settling.{IsBadAt}
+use Rattle.page_space.specs.Space.{HoldsSpace}
+use Rattle.redo_journal.specs.Gates.{is_empty}
+use Rattle.dom_index.specs.declared.index.DomIndex.{Ghosts as IndexGhosts}
+use Rattle.page_warehouse.specs.Holds.{Holds}
+use Rattle.page_warehouse.specs.Needs.{charge_of}
+use Rattle.page_warehouse.specs.Opened.{GoTogether, IsDamagedToOpen}
+use Rattle.page_warehouse.specs.Shown.{HoldsHistory}
+use Rattle.row_machine.specs.Housed.{GoesOnFrom}
+use Rattle.row_machine.specs.Serving.{MayServe}
+use Rattle.boxsum.specs.declared.status.Ran.{Ran}
+use Rattle.boxsum.specs.declared.status.Status.{Status}
+use Rattle.boxsum.specs.declared.status.Status.TheVariants.{Fine, Usage, NoWarehouse, AlreadyThere, ReadFault, WriteFault, DiskFault, NoMemory, Damaged, InputLimit, PageLimit}
+
+-- no row of the input commits, so that it reads alone
+abbrev pub CommitsNothing : Params → List ℕ → Type 0
+CommitsNothing params input = MayServe false params (lines input)
+
+-- each image that a crash now may leave has P
+abbrev pub LeavesEach : (Image → Type 0) → List Moment → Type 0
+LeavesEach P moments = (x : Image) → MayBeLeftNow moments x → P x
+
+-- what counts against the limit of pages, in these pages
+abbrev pub charge_in : PageList → ℕ
+charge_in pages = charge_of (record { pages = pages; journal = [] })
+
+-- There is no warehouse in the image over so many dimensions at most: it is no space, or the numbers of its meta page do not go together.
+abbrev pub IsNoWarehouse : ℕ → Image → Type 0
+IsNoWarehouse dims x = (params : Params) (meta : Meta) (pages : PageMap) → HoldsSpace x params meta pages ⊥ → params.dims ≤ dims → GoTogether params meta → ⊥
+
+-- A status with which such a disk is refused: it is empty, or this page is the one for which it is no warehouse; or the device
+-- failed, or there was no memory.
+abbrev pub IsRefusal : ℕ → Image → Status → Type 0
+IsRefusal dims x NoWarehouse = is_empty x ≡ true
+IsRefusal dims x (Damaged Pages page) = IsDamagedToOpen dims x page
+IsRefusal dims x (Damaged Journal page) = IsBadAt x page
+IsRefusal dims x DiskFault = ⊤
+IsRefusal dims x NoMemory = ⊤
+IsRefusal dims x Fine = ⊥
+IsRefusal dims x Usage = ⊥
+IsRefusal dims x AlreadyThere = ⊥
+IsRefusal dims x ReadFault = ⊥
+IsRefusal dims x WriteFault = ⊥
+IsRefusal dims x (InputLimit taken) = ⊥
+IsRefusal dims x (PageLimit allotted) = ⊥
+
+module _ {X : Type 0} (i : IndexGhosts X) where
+  -- The image holds a history that goes on from this one.
+  pub record HoldsFrom (params : Params) (first : History) (x : Image) : Type 0 where
+    pub kept : History
+    pub holds : Holds i x params kept
+    pub begins : GoesOnFrom first kept
+
+  -- The image holds a history that goes on from the first and of which the second goes on.
+  pub record HoldsBetween (params : Params) (first second : History) (x : Image) : Type 0 where
+    pub kept : History
+    pub holds : Holds i x params kept
+    pub begins : GoesOnFrom first kept
+    pub within : GoesOnFrom kept second
+
+  -- no warehouse is there, or one with this history
+  abbrev pub IsEmptyOrHolds : Params → History → Image → Type 0
+  IsEmptyOrHolds params h x = (is_empty x ≡ true) ⊎ Holds i x params h
+
+  -- no warehouse is there, or one with a first part of this history
+  abbrev pub IsEmptyOrPart : Params → History → Image → Type 0
+  IsEmptyOrPart params whole x = (is_empty x ≡ true) ⊎ HoldsBetween params [] whole x
+
+  -- From the one list of moments to the other a warehouse was made, as far as to the moments amid, and then it was loaded: a crash
+  -- before these leaves what it might have left, no warehouse, or a new one, and later one with a first part of this history.
+  pub record Loads (params : Params) (whole : History) (old new : List Moment) : Type 0 where
+    pub amid : List Moment
+    pub made : LeavesOnly (IsEmptyOrHolds params []) old amid
+    pub there : LeavesEach (λ x. Holds i x params []) amid
+    pub loaded : LeavesOnly (HoldsBetween params [] whole) amid new
+
+  -- It was made and loaded, or it was at most made.
+  abbrev pub MakesAndLoads : Params → History → List Moment → List Moment → Type 0
+  MakesAndLoads params whole old new = LeavesOnly (IsEmptyOrHolds params []) old new ⊎ Loads params whole old new
+
+module _ {D : Type 0} (g : Ghosts D) where
+  -- Nothing was written: the disk reads as before, and a crash leaves no more than what it might have left, or that.
+  pub record StaysAsRead (old new : D) : Type 0 where
+    pub image : g.image new ≡ g.image old
+    pub moments : LeavesOnly (λ x. x ≡ g.image old) (g.moments old) (g.moments new)
+
+  -- The run was refused with its cause, and unless the device failed the disk stands for the pages that it stood for, and a crash now
+  -- leaves no more than it might have left before, or that.
+  pub record Refuses (dims : ℕ) (old : D) (ran : Ran D) : Type 0 where
+    pub cause : IsRefusal dims (g.image old) ran.status
+    pub stands : ran.status ≢ DiskFault → StandsAlike (g.image old) (g.image ran.disk)
+    pub left : ran.status ≢ DiskFault → (x : Image) → MayBeLeftNow (g.moments ran.disk) x → MayBeLeftNow (g.moments old) x ⊎ (x ≡ g.image ran.disk)
+
+module _ {D X : Type 0} (g : Ghosts D) (i : IndexGhosts X) where
+  -- The disk holds this history, and so does each image that a crash now may leave.
+  pub record HoldsSurely (params : Params) (h : History) (d : D) : Type 0 where
+    pub holds : HoldsHistory g i true d params h
+    pub left : LeavesEach (λ x. Holds i x params h) (g.moments d)
+
+  -- The history with which a run begins to answer the rows of an input: the one that the disk holds. Where no row commits, which is known
+  -- where the source tells what it has left, queries alone are to find it there.
+  abbrev pub BeginsWith : D → Bool → List ℕ → Params → History → Type 0
+  BeginsWith d told input params h =
+      HoldsHistory g i true d params h ⊎ (IsTrue told × CommitsNothing params input × HoldsHistory g i false d params h)

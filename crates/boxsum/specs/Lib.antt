@@ -1,0 +1,6 @@
+pub mod Built
+pub mod Ends
+pub mod Held
+pub mod Runs
+pub mod Statuses
+pub mod Ran

@@ -1,0 +1,225 @@
+-- What a run of the program leaves behind, command by command.
+use Rattle.std.specs.Prelude.{◌≡◌, ◌≢◌, ◌⊎◌, ℕ, ◌+◌, ◌<◌, ◌≤◌, ◌^◌, ◌++◌, List, [], true, false, IsTrue, length}
+use Rattle.counts.specs.Count.{Rose}
+use Rattle.bw_types.specs.History.{History}
+use Rattle.bw_types.specs.declared.params.Params.{Params}
+use Rattle.byte_ports.specs.declared.Source.{Ghosts as SourceGhosts}
+use Rattle.byte_ports.specs.declared.Sink.{Ghosts as SinkGhosts}
+use Rattle.line_reader.specs.Lines.{lines, whole_part}
+use Rattle.csv_rows.specs.Machine.{after, begun, text}
+use Rattle.page_disk.specs.Image.{Image, PageList}
+use Rattle.page_disk.specs.Moment.{MayBeLeftNow}
+use Rattle.page_disk.specs.Since.{LeavesOnly}
+use Rattle.page_disk.specs.declared.disk.Area.{Area}
+use Rattle.page_disk.specs.declared.disk.Disk.{Ghosts as DiskGhosts}
+use Rattle.page_layout.specs.declared.meta.Meta.{Meta}
+use Rattle.page_ports.specs.Pages.{PageMap}
+use Rattle.page_space.specs.Settling.{HasNoReplay, replay_reads}
+use Rattle.page_space.specs.Space.{HoldsSpace}
+use Rattle.redo_journal.specs.Gates.{is_empty}
+use Rattle.redo_journal.specs.Settled.{SettlesTo}
+use Rattle.dom_index.specs.declared.index.DomIndex.{Ghosts as IndexGhosts}
+use Rattle.page_warehouse.specs.Costs.{query_cost}
+use Rattle.page_warehouse.specs.Needs.{batch_need}
+use Rattle.page_warehouse.specs.Shown.{HoldsHistory}
+use Rattle.row_machine.specs.Runs.{WritesPart}
+use Rattle.row_machine.specs.Serving.{lines_need}
+use Rattle.sample_rows.specs.Generator.{rows}
+use Rattle.sample_rows.specs.Summary.{WritesSummary, sample_history, sample_params, summary}
+use Rattle.boxsum.specs.Held.{BeginsWith, CommitsNothing, HoldsBetween, HoldsFrom, HoldsSurely, IsEmptyOrHolds, IsEmptyOrPart, IsNoWarehouse, LeavesEach, MakesAndLoads, Refuses, StaysAsRead, charge_in}
+use Rattle.boxsum.specs.Runs.{AreReplied, IsInputStatus, LacksPagesAmid, LacksPagesNext, ReadsForLines, ServesLines, WritesWholeLines, history_by}
+use Rattle.boxsum.specs.declared.status.Ran.{Ran}
+use Rattle.boxsum.specs.declared.status.Status.{Status}
+use Rattle.boxsum.specs.declared.status.Status.TheVariants as status
+
+-- Neither the source nor the sink was called.
+abbrev pub Untouched : {S K : Type 0} → S → S → K → K → Type 0
+Untouched source source' sink sink' = (source' ≡ source) × (sink' ≡ sink)
+
+-- What is read and printed.
+module _ {S K : Type 0} (s : SourceGhosts S) (k : SinkGhosts K) (source source' : S) (sink sink' : K) (ended : Status) where
+  -- The rows of the source were answered from this history on.
+  pub record Answers (params : Params) (h : History) : Type 0 where
+    -- The whole text is written.
+    pub fine : ended ≡ status.Fine → IsTrue (s.tells source) → IsTrue (k.tells sink)
+        → IsTrue (k.tells sink') × (k.written sink' ≡ k.written sink ++ text params h (s.left source))
+    -- Where the run ends early it is a part of the text; where the input ends it, that of all whole lines that were taken.
+    pub part : IsTrue (s.tells source) → IsTrue (k.tells sink) → IsTrue (k.tells sink')
+        → WritesPart (k.written sink) (k.written sink') (text params h (s.left source))
+    pub whole_lines : IsInputStatus ended → IsTrue (s.tells source) → IsTrue (s.tells source') → IsTrue (k.tells sink)
+        → IsTrue (k.tells sink') × WritesWholeLines params h (s.left source) (s.left source') (k.written sink) (k.written sink')
+    pub undamaged : (area : Area) (page : ℕ) → ended ≢ status.Damaged area page
+    -- With no fault, pages enough and ample memory the run is fine.
+    pub complete : IsTrue (s.tells source) → length (s.left source) < 2 ^ 40
+        → (Rose (s.faults source) (s.faults source') → ⊥) → (Rose (k.faults sink) (k.faults sink') → ⊥)
+        → ended ≢ status.DiskFault → ((allotted : ℕ) → ended ≢ status.PageLimit allotted)
+        → (ended ≡ status.Fine) ⊎ (ended ≡ status.NoMemory)
+
+  -- Where the run is fine the input was read to its end, and was no longer than it may be.
+  abbrev pub ReadsToTheEnd : Type 0
+  ReadsToTheEnd = ended ≡ status.Fine → IsTrue (s.tells source) → (s.left source' ≡ []) × (length (s.left source) < 2 ^ 40)
+
+  -- These lines of the input were carried out.
+  abbrev pub ServesInput : Params → History → Type 0
+  ServesInput params h = ServesLines params h (s.left source) (s.left source') (s.tells source') ended (k.tells sink) (k.tells sink') (k.written sink) (k.written sink')
+
+  -- What source and sink have to do with a status.
+  pub record HasPortCause : Type 0 where
+    pub read_fault : ended ≡ status.ReadFault → Rose (s.faults source) (s.faults source')
+    pub write_fault : ended ≡ status.WriteFault → Rose (k.faults sink) (k.faults sink')
+    pub input_limit : (taken : ℕ) → ended ≡ status.InputLimit taken → (taken ≡ 2 ^ 40)
+        × (IsTrue (s.tells source) → length (s.left source) ≡ 2 ^ 40 + length (s.left source'))
+
+  -- Rows were answered over a history in memory, which began empty.
+  pub record AnswersFromNothing (params : Params) : Type 0 where
+    pub answers : Answers params []
+    pub at_end : ReadsToTheEnd
+    pub served : IsTrue (s.tells source) → ServesInput params []
+
+-- How a warehouse is made.
+module _ {D : Type 0} (d : DiskGhosts D) (disk : D) (ran : Ran D) where
+  -- It is made on an empty disk, and on no other.
+  pub record MakesWhereEmpty : Type 0 where
+    pub there : IsTrue (d.tells disk) → is_empty (d.image disk) ≡ false → StaysAsRead d disk ran.disk
+        × ((ran.status ≡ status.AlreadyThere) ⊎ ((ran.status ≡ status.DiskFault) ⊎ (ran.status ≡ status.NoMemory)))
+    pub only : ran.status ≡ status.AlreadyThere → IsTrue (d.tells disk) → is_empty (d.image disk) ≡ false
+
+  -- An empty warehouse was made on the disk.
+  pub record MakesEmpty {X : Type 0} (i : IndexGhosts X) (params : Params) : Type 0 where
+    pub where_empty : MakesWhereEmpty
+    pub made : ran.status ≡ status.Fine → IsTrue (d.tells disk) → (is_empty (d.image disk) ≡ true) × HoldsSurely d i params [] ran.disk
+    -- A stop at any moment leaves what might have been left before, no warehouse, or the new one.
+    pub moments : IsTrue (d.tells disk) → is_empty (d.image disk) ≡ true → LeavesOnly (IsEmptyOrHolds i params []) (d.moments disk) (d.moments ran.disk)
+    -- Memory is wanted before the disk is called.
+    pub no_memory : ran.status ≡ status.NoMemory → ran.disk ≡ disk
+    pub complete : IsTrue (d.tells disk) → is_empty (d.image disk) ≡ true → ran.status ≢ status.DiskFault
+        → (ran.status ≡ status.Fine) ⊎ (ran.status ≡ status.NoMemory)
+
+-- A sample.
+module _ {D K X : Type 0} (d : DiskGhosts D) (k : SinkGhosts K) (i : IndexGhosts X) (disk : D) (sink sink' : K) (ran : Ran D) where
+  -- A warehouse was made, rows that are drawn were loaded, and a summary of their answers was written.
+  pub record Samples (start count : ℕ) : Type 0 where
+    pub where_empty : MakesWhereEmpty d disk ran
+    pub fine : ran.status ≡ status.Fine → IsTrue (d.tells disk) → IsTrue (k.tells sink)
+        → IsTrue (k.tells sink') × (k.written sink' ≡ k.written sink ++ summary start count)
+    pub part : IsTrue (d.tells disk) → IsTrue (k.tells sink) → IsTrue (k.tells sink') → WritesPart (k.written sink) (k.written sink') (summary start count)
+    -- Whatever the disk tells: nothing, or the summary with some total, or a part of it.
+    pub silent : ran.status ≢ status.Fine → ran.status ≢ status.WriteFault → sink' ≡ sink
+    pub form : IsTrue (k.tells sink) → IsTrue (k.tells sink') → WritesSummary count (k.written sink) (k.written sink')
+    pub kept : ran.status ≡ status.Fine → IsTrue (d.tells disk)
+        → (is_empty (d.image disk) ≡ true) × HoldsSurely d i sample_params (sample_history start count) ran.disk
+    pub stays : IsTrue (d.tells disk) → is_empty (d.image disk) ≡ true → ran.status ≢ status.DiskFault
+        → IsTrue (d.tells ran.disk) × IsEmptyOrPart i sample_params (sample_history start count) (d.image ran.disk)
+    -- A stop while the warehouse is made leaves what might have been left before, no warehouse or a new one, and later one with a part of
+    -- the sample.
+    pub moments : IsTrue (d.tells disk) → is_empty (d.image disk) ≡ true
+        → MakesAndLoads i sample_params (sample_history start count) (d.moments disk) (d.moments ran.disk)
+    pub undamaged : (area : Area) (page : ℕ) → IsTrue (d.tells disk) → ran.status ≢ status.Damaged area page
+    pub limit : (allotted : ℕ) → IsTrue (d.tells disk) → ran.status ≡ status.PageLimit allotted
+        → LacksPagesAmid i sample_params [] (rows start count) (d.image ran.disk) allotted
+    pub enough_pages : (allotted : ℕ) → IsTrue (d.tells disk)
+        → 3 + lines_need batch_need sample_params 1 (begun []) (lines (rows start count)) ≤ sample_params.pages → ran.status ≢ status.PageLimit allotted
+    pub complete : IsTrue (d.tells disk) → is_empty (d.image disk) ≡ true → (Rose (k.faults sink) (k.faults sink') → ⊥)
+        → ran.status ≢ status.DiskFault → ((allotted : ℕ) → ran.status ≢ status.PageLimit allotted)
+        → (ran.status ≡ status.Fine) ⊎ (ran.status ≡ status.NoMemory)
+
+-- The commands.
+module _ {D S K X : Type 0} (d : DiskGhosts D) (s : SourceGhosts S) (k : SinkGhosts K) (i : IndexGhosts X) (disk : D) (source source' : S) (sink sink' : K) (ran : Ran D) where
+  -- The causes of the statuses that all commands share.
+  pub record HasCause : Type 0 where
+    pub ports : HasPortCause s k source source' sink sink' ran.status
+    pub disk_fault : ran.status ≡ status.DiskFault → Rose (d.faults disk) (d.faults ran.disk)
+
+  -- `scratch`: the disk is not called.
+  pub record ScratchRan (params : Params) : Type 0 where
+    pub disk_stays : ran.disk ≡ disk
+    pub answers : AnswersFromNothing s k source source' sink sink' ran.status params
+
+  -- `create`
+  pub record CreateRan (params : Params) : Type 0 where
+    pub untouched : Untouched source source' sink sink'
+    pub makes : MakesEmpty d disk ran i params
+
+  -- `sample`
+  pub record SampleRan (start count : ℕ) : Type 0 where
+    pub source_stays : source' ≡ source
+    pub samples : Samples d k i disk sink sink' ran start count
+
+  -- Of the input some lines were served, and at most one more was begun. The disk, unless it failed, holds the history after the first
+  -- or after both, and no batch of a later line. A crash now leaves what might have been left before, or no less than the one, and no more
+  -- than the other, also where the disk failed.
+  pub record KeepsServed (params : Params) (h : History) : Type 0 where
+    pub served : ServesInput s k source source' sink sink' ran.status params h
+    pub sure : History
+    pub which : (sure ≡ history_by params h served.replied) ⊎ (sure ≡ history_by params h (served.replied ++ served.begins))
+    pub holds : ran.status ≢ status.DiskFault → HoldsHistory d i true ran.disk params sure
+    pub left : (x : Image) → MayBeLeftNow (d.moments ran.disk) x
+        → MayBeLeftNow (d.moments disk) x ⊎ HoldsBetween i params sure (history_by params h (served.replied ++ served.begins)) x
+
+  -- The history that the disk is left with, where it held this one.
+  pub record LeavesHistory (params : Params) (h : History) : Type 0 where
+    -- All batches of the input, where the run is fine; all of the lines that were taken, where the input ends it.
+    pub kept : ran.status ≡ status.Fine → IsTrue (s.tells source) → HoldsSurely d i params (after params h (s.left source)) ran.disk
+    pub whole_kept : (taken : List ℕ) → IsInputStatus ran.status → IsTrue (s.tells source) → IsTrue (s.tells source') → s.left source ≡ taken ++ s.left source'
+        → HoldsHistory d i true ran.disk params (after params h (whole_part taken))
+    -- However it ends: those of the lines that were served, and at most of the one that was begun.
+    pub served : IsTrue (s.tells source) → KeepsServed params h
+    -- That is a first part of what the input gives, in which what is acknowledged stays.
+    pub stays : IsTrue (s.tells source) → ran.status ≢ status.DiskFault → HoldsBetween i params h (after params h (s.left source)) (d.image ran.disk)
+    pub acknowledged : (first : List (List ℕ)) → IsTrue (s.tells source) → IsTrue (k.tells sink) → IsTrue (k.tells sink')
+        → AreReplied params h (s.left source) (k.written sink) (k.written sink') first → ran.status ≢ status.DiskFault
+        → HoldsBetween i params (history_by params h first) (after params h (s.left source)) (d.image ran.disk)
+    -- Whatever the source gives, the history only goes on.
+    pub goes_on : ran.status ≢ status.DiskFault → IsTrue (d.tells ran.disk) × HoldsFrom i params h (d.image ran.disk)
+
+  -- What a stop at any moment of the run leaves of such a disk, beside what might have been left before.
+  pub record CrashesLeave (params : Params) (h : History) : Type 0 where
+    -- A first part of what the input gives.
+    pub between : IsTrue (s.tells source) → LeavesOnly (HoldsBetween i params h (after params h (s.left source))) (d.moments disk) (d.moments ran.disk)
+    -- What is acknowledged is in it.
+    pub acknowledged : (first : List (List ℕ)) → IsTrue (s.tells source) → IsTrue (k.tells sink) → IsTrue (k.tells sink')
+        → AreReplied params h (s.left source) (k.written sink) (k.written sink') first
+        → ((ran.status ≡ status.DiskFault) ⊎ (ran.status ≡ status.NoMemory) → history_by params h first ≢ h)
+        → LeavesEach (HoldsBetween i params (history_by params h first) (after params h (s.left source))) (d.moments ran.disk)
+    -- Whatever the source gives, a history that goes on from this one.
+    pub goes_on : LeavesOnly (HoldsFrom i params h) (d.moments disk) (d.moments ran.disk)
+
+  -- An input that commits nothing was answered from trees that stand for this history, whatever the table holds.
+  pub record ReadsAlone (params : Params) (h : History) : Type 0 where
+    pub reads : ReadsForLines (query_cost i.cost) params h (s.tells source') (s.left source) (s.left source') ran.status (k.tells sink) (k.tells sink') (k.written sink) (k.written sink')
+        (d.reads disk + 4 + replay_reads (d.image disk)) (d.reads ran.disk)
+    -- The disk stands for the pages that it stood for, and so does each image that a stop at any moment leaves beside what might have been
+    -- left before.
+    pub stays : (pages : PageList) → SettlesTo (d.image disk) pages → ran.status ≢ status.DiskFault → SettlesTo (d.image ran.disk) pages
+    pub moments : (pages : PageList) → SettlesTo (d.image disk) pages → LeavesOnly (λ x. SettlesTo x pages) (d.moments disk) (d.moments ran.disk)
+    -- Where no commit that was cut off is put in its place, nothing is written.
+    pub untouched : HasNoReplay (d.image disk) → StaysAsRead d disk ran.disk
+    pub unlimited : (allotted : ℕ) → ran.status ≢ status.PageLimit allotted
+
+  -- Where the pages did not suffice on such a disk: a commit comes next that may need more than there are.
+  pub record LimitsPages (params : Params) (h : History) : Type 0 where
+    pub lacks : (allotted : ℕ) → ran.status ≡ status.PageLimit allotted → IsTrue (s.tells source)
+        → LacksPagesNext i params h (s.left source) (d.image ran.disk) (k.tells sink) (k.tells sink') (k.written sink) (k.written sink') allotted
+    pub enough_pages : (pages : PageList) (allotted : ℕ) → IsTrue (s.tells source) → SettlesTo (d.image disk) pages
+        → charge_in pages + lines_need batch_need params 1 (begun h) (lines (s.left source)) ≤ params.pages → ran.status ≢ status.PageLimit allotted
+
+  -- `run`: the warehouse on the disk was opened, and the rows of the source were answered and put into it.
+  pub record RunRan : Type 0 where
+    -- Without a warehouse nothing is run, nor where what is there is none.
+    pub empty : IsTrue (d.tells disk) → is_empty (d.image disk) ≡ true → Untouched source source' sink sink' × StaysAsRead d disk ran.disk
+        × ((ran.status ≡ status.NoWarehouse) ⊎ ((ran.status ≡ status.DiskFault) ⊎ (ran.status ≡ status.NoMemory)))
+    pub empty_only : ran.status ≡ status.NoWarehouse → IsTrue (d.tells disk) → is_empty (d.image disk) ≡ true
+    pub refused : IsTrue (d.tells disk) → IsNoWarehouse i.DIMS (d.image disk) → Untouched source source' sink sink' × Refuses d i.DIMS disk ran
+    -- What is printed.
+    pub answers : (params : Params) (h : History) → BeginsWith d i disk (s.tells source) (s.left source) params h → Answers s k source source' sink sink' ran.status params h
+    pub at_end : ReadsToTheEnd s k source source' sink sink' ran.status
+    -- What is left on the disk, and what a stop leaves.
+    pub history : (params : Params) (h : History) → HoldsHistory d i true disk params h → LeavesHistory params h
+    pub crashes : (params : Params) (h : History) → HoldsHistory d i true disk params h → CrashesLeave params h
+    -- What is read.
+    pub reads : (params : Params) (h : History) → HoldsHistory d i false disk params h → IsTrue (s.tells source) → CommitsNothing params (s.left source)
+        → ReadsAlone params h
+    -- When pages do not suffice. The number is the limit, whatever the pages hold.
+    pub pages : (params : Params) (h : History) → HoldsHistory d i true disk params h → LimitsPages params h
+    pub at_limit : (params : Params) (meta : Meta) (pages : PageMap) (allotted : ℕ) → IsTrue (d.tells disk) → HoldsSpace (d.image disk) params meta pages ⊥
+        → ran.status ≡ status.PageLimit allotted → allotted ≡ params.pages

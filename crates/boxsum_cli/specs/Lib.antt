@@ -1,5 +1,0 @@
-pub mod Built
-pub mod Ends
-pub mod Held
-pub mod Runs
-pub mod Statuses
