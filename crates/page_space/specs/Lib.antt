@@ -8,6 +8,7 @@ pub mod InUse
 pub mod InUseLaws
 pub mod Laws
 pub mod MetaSet
+pub mod Opened
 pub mod Opening
 pub mod Ranges
 pub mod Refused

@@ -1,17 +1,18 @@
 //! The opening of a space on a disk.
-ghost use Rattle.std.specs.Prelude.{◌≡◌, ◌≢◌, true, ◌⊎◌, ◌+◌, ◌*◌, ◌≤◌, ◌<◌, ℕ, length, Ok, Err, IsTrue, IfOk, IfErr, OnOk, OnErr};
+ghost use Rattle.std.specs.Prelude.{◌≡◌, ◌+◌, ◌≤◌, ◌<◌, length, Ok, Err, IsTrue, IfOk, IfErr};
 ghost use Rattle.bw_types.specs.Fits.{IsInRange};
 ghost use Rattle.page_disk.specs.Calls.{OnlyReads, WritesAsTold};
 ghost use Rattle.page_disk.specs.Image.{PageList, page_at};
 ghost use Rattle.page_disk.specs.Since.{LeavesNow, LeavesOnly};
-ghost use Rattle.redo_journal.specs.Gates.{gate_of, is_empty};
+ghost use Rattle.redo_journal.specs.Gates.{gate_of};
 ghost use Rattle.redo_journal.specs.Settled.{SettlesTo};
 ghost use Rattle.redo_journal.specs.declared.gate.Gate.TheVariants.{Idle};
 ghost use Rattle.page_layout.specs.Meta.{IsMeta, IsTyped, meta_page};
-ghost use Rattle.page_space.specs.Opening.{HasNoMeta, HasNoParams, IsDamagedAt, IsSomeSpace, StandsAlike, StandsDamagedAt, StandsWhole};
+ghost use Rattle.page_space.specs.Opened.{IsRefusedAsSpace, IsSpaceOf, StaysAsRead};
+ghost use Rattle.page_space.specs.Opening.{HasNoMeta, HasNoParams, IsDamagedAt, IsSomeSpace};
 ghost use Rattle.page_space.specs.Faults.{AtBadJournal, AtDamaged, AtEmpty, AtNoMemory, is_disk};
 ghost use Rattle.page_space.specs.Refused.{opened_disk};
-ghost use Rattle.page_space.specs.Settling.{HasNoReplay, IsBadAt, replay_reads};
+ghost use Rattle.page_space.specs.Settling.{HasNoReplay, replay_reads};
 ghost use Rattle.page_space.specs.Space.{params_page};
 
 use crate::settling::settle;
@@ -137,9 +138,6 @@ fn open_settled<D: Disk>(alloc: Global, mut disk: D) -> Result<Space<D>, OpenRef
 }
 
 impl<D: Disk> Space<D> {
-    ghost use Rattle.page_space.specs.Space.{AreRoots, HoldsSpace};
-    ghost use Rattle.page_space.specs.Shown.{disk_of, params_of, meta_of, map_of, IsInOrder};
-
     /// Opens the space on a disk: syncs it, replays its journal where that is open, and reads the
     /// superblock and the meta page. A refusal hands the disk back.
     ///
@@ -154,29 +152,13 @@ impl<D: Disk> Space<D> {
     /// refusal hands back, with nothing pending, unless the device failed. Four reads at most, and as
     /// many more for a replay as twice the journal has pages.
     pub fn open_on(alloc: Global, mut disk: D) -> Result<Space<D>, OpenRefused<D>>
-        ensures holds { IfOk result (λ space. IsTrue (D.tells disk)
-            → HoldsSpace (D.image disk) (params_of space) (meta_of space) (map_of space) (IsInOrder space)) }
-        ensures settles { IfOk result (λ space. IsTrue (D.tells disk) → SettlesTo (D.image disk) (D.image (disk_of space)).pages) }
-        ensures roots { IfOk result (λ space. AreRoots (params_of space) (meta_of space)) }
-        ensures idle { IfOk result (λ space. IsTrue (D.tells disk) → gate_of (D.image (disk_of space)) ≡ Idle) }
-        // An opening makes no journal longer.
-        ensures journal { IfOk result (λ space. IsTrue (D.tells disk) → length (D.image (disk_of space)).journal ≡ length (D.image disk).journal) }
-        ensures settled { IfOk result (λ space. LeavesNow (D.moments (disk_of space)) (D.image (disk_of space))) }
+        ensures opened { IfOk result (λ space. IsSpaceOf D.Disk disk space) }
+        ensures refused { IfErr result (λ refused. IsRefusedAsSpace D.Disk disk refused.fault refused.disk) }
+        // A crash at any moment leaves the same pages.
         ensures any_moment { IsTrue (D.tells disk) → (pages : PageList) → SettlesTo (D.image disk) pages
             → LeavesOnly (λ x. SettlesTo x pages) (D.moments disk) (D.moments (opened_disk result)) }
-        // A disk that is refused while the device did not fail stands for the pages that it stood for.
-        ensures stands { IfErr result (λ refused. refused.fault ≢ OpenFault.Disk
-            → IsTrue (D.tells disk) → StandsAlike (D.image disk) (D.image refused.disk)) }
-        ensures refused_settled { IfErr result (λ refused. refused.fault ≢ OpenFault.Disk
-            → IsTrue (D.tells disk) → LeavesNow (D.moments refused.disk) (D.image refused.disk)) }
         // Where nothing is replayed, the disk is as it was.
-        ensures untouched { IsTrue (D.tells disk) → HasNoReplay (D.image disk) → D.image (opened_disk result) ≡ D.image disk }
-        ensures untouched_moments { IsTrue (D.tells disk) → HasNoReplay (D.image disk)
-            → LeavesOnly (λ x. x ≡ D.image disk) (D.moments disk) (D.moments (opened_disk result)) }
-        ensures empty { IfErr result (λ refused. AtEmpty refused.fault (IsTrue (D.tells disk) → is_empty (D.image disk) ≡ true)) }
-        ensures bad_journal { IfErr result (λ refused. AtBadJournal refused.fault (λ page. IsTrue (D.tells disk) → IsBadAt (D.image disk) page)) }
-        ensures damaged { IfErr result (λ refused. AtDamaged refused.fault (λ page. IsTrue (D.tells disk) → StandsDamagedAt (D.image disk) page)) }
-        ensures no_memory { IfErr result (λ refused. AtNoMemory refused.fault (IsTrue (D.tells disk) → StandsWhole (D.image disk))) }
+        ensures untouched { IsTrue (D.tells disk) → HasNoReplay (D.image disk) → StaysAsRead D.Disk disk (opened_disk result) }
         ensures writes { WritesAsTold D.Disk (λ refused. is_disk refused.fault) (4 + replay_reads (D.image disk)) disk (opened_disk result) result }
     {
         // A disk stands for one list of pages.

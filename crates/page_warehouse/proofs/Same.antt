@@ -33,11 +33,12 @@ module _ {D X : Type 0} {d : DiskGhosts D} (g : Ghosts X) where
 module _ {D X : Type 0} {d : DiskGhosts D} {g : Ghosts X} where
   -- a warehouse over a space that is as before
   pub as_before : (old new : Warehouse D X d g) → begun_of (space_in new) ≡ begun_of (space_in old)
-      → IsAsBefore params_in disk_in (HoldsHistory d g) (HasNewForm d) d.image d.moments (disk_charge d) old new
+      → IsAsBefore params_in disk_in (HoldsHistory d g) (HasNewForm d) d.tells d.image d.moments (disk_charge d) old new
   as_before old new same = record {
     params = ap (λ (b : Begun). b.params) same;
     stands = λ whole h held. held_alike g whole (space_in old) (space_in new) (params_in old) h same held;
     current = λ had told. subst (λ (x : Image). IsByLives x) (sym (ap (λ (b : Begun). b.image) same)) (had (subst IsTrue (ap (λ (b : Begun). b.tells) same) told));
+    tells = ap (λ (b : Begun). b.tells) same;
     image = ap (λ (b : Begun). b.image) same;
     moments = ap (λ (b : Begun). b.moments) same;
     charge = ap (λ (b : Begun). charge_of b.image) same;
@@ -89,20 +90,3 @@ module _ {H D : Type 0} where
   limit_each (NoMemory house) S Q each = tt
   limit_each (Damaged house page) S Q each = tt
   limit_each (Disk device) S Q each = tt
-
-  -- a clause, and another one where S is so
-  pub limit_both : (r : Committed H D) (S : Type 0) (P Q : H → ℕ → Type 0) → IfPageLimit r P → (S → IfPageLimit r Q) → IfPageLimit r (λ house allotted. P house allotted × (S → Q house allotted))
-  limit_both (Done house version) S P Q p q = tt
-  limit_both (Refused house refusal) S P Q p q = tt
-  limit_both (PageLimit house allotted) S P Q p q = (p, q)
-  limit_both (NoMemory house) S P Q p q = tt
-  limit_both (Damaged house page) S P Q p q = tt
-  limit_both (Disk device) S P Q p q = tt
-
-  pub done_both : (r : Committed H D) (S : Type 0) (P Q : H → ℕ → Type 0) → IfDone r P → (S → IfDone r Q) → IfDone r (λ house version. P house version × (S → Q house version))
-  done_both (Done house version) S P Q p q = (p, q)
-  done_both (Refused house refusal) S P Q p q = tt
-  done_both (PageLimit house allotted) S P Q p q = tt
-  done_both (NoMemory house) S P Q p q = tt
-  done_both (Damaged house page) S P Q p q = tt
-  done_both (Disk device) S P Q p q = tt

@@ -28,10 +28,12 @@ module _ {X : Type 0} (g : Ghosts X) where
 
   -- A disk holds a history by the pages that it stands for.
   abbrev pub HoldsByPages : Type 0
-  HoldsByPages = (x y : Image) (pages : PageList) (params : Params) (h : History) → SettlesTo x pages → SettlesTo y pages → Holds g x params h → Holds g y params h
+  HoldsByPages = (x y : Image) (pages : PageList) (params : Params) (h : History) → SettlesTo x pages → SettlesTo y pages
+      → Holds g x params h → Holds g y params h
 
   abbrev pub HoldsTreesByPages : Type 0
-  HoldsTreesByPages = (x y : Image) (pages : PageList) (params : Params) (h : History) → SettlesTo x pages → SettlesTo y pages → HoldsTrees g x params h → HoldsTrees g y params h
+  HoldsTreesByPages = (x y : Image) (pages : PageList) (params : Params) (h : History) → SettlesTo x pages → SettlesTo y pages
+      → HoldsTrees g x params h → HoldsTrees g y params h
 
   -- The table of a disk that holds a history tells it.
   abbrev pub TableTells : Type 0
@@ -39,4 +41,5 @@ module _ {X : Type 0} (g : Ghosts X) where
 
   -- A disk holds one history at most, under one choice of params.
   abbrev pub HoldsOneHistory : Type 0
-  HoldsOneHistory = (x : Image) (params others : Params) (h k : History) → Holds g x params h → Holds g x others k → (params ≡ others) × (h ≡ k)
+  HoldsOneHistory = (x : Image) (params others : Params) (h k : History) → Holds g x params h → Holds g x others k
+      → (params ≡ others) × (h ≡ k)

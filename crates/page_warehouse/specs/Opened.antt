@@ -3,7 +3,7 @@ use Rattle.std.specs.Prelude.{◌≡◌, ◌≢◌, ◌⊎◌, ℕ, ◌+◌, ◌
 use Rattle.bw_types.specs.History.{History}
 use Rattle.bw_types.specs.declared.params.Params.{Params}
 use Rattle.page_disk.specs.Image.{Image}
-use Rattle.page_disk.specs.Since.{LeavesNow, LeavesOnly}
+use Rattle.page_disk.specs.Since.{LeavesNow}
 use Rattle.page_disk.specs.declared.disk.Disk.{Ghosts}
 use Rattle.redo_journal.specs.Gates.{is_empty}
 use Rattle.redo_journal.specs.Settled.{SettlesTo}
@@ -30,7 +30,8 @@ pub record GoTogether (params : Params) (meta : Meta) : Type 0 where
   pub events : meta.events ≤ params.events
   pub mass : meta.mass < 2 ^ 126
 
--- This page of a space is the one for which it is no warehouse over an index of so many dimensions: the superblock, or behind one the meta page.
+-- This page of a space is the one for which it is no warehouse over an index of so many dimensions: the superblock, or behind one the
+-- meta page.
 pub record IsNoWarehouseAt (dims : ℕ) (x : Image) (page : ℕ) : Type 0 where
   pub params : Params
   pub meta : Meta
@@ -50,7 +51,7 @@ module _ {W D : Type 0} where
 
 module _ {D X : Type 0} (g : Ghosts D) (i : IndexGhosts X) where
   -- The warehouse is the one of this disk. Its own disk stands for the same pages, so that it holds whatever history the disk held,
-  -- and a crash from now on leaves that disk alone.
+  -- and a crash from now on leaves that disk's image and no other.
   pub record IsOpenedFrom (disk : D) (w : Warehouse D X g i) : Type 0 where
     pub whole : IsTrue (g.tells disk) → (pages : PageMap) × HoldsSpace (g.image disk) (params_in w) (meta_in w) pages ⊥
     pub settles : IsTrue (g.tells disk) → SettlesTo (g.image disk) (g.image (disk_in w)).pages
@@ -64,18 +65,15 @@ module _ {D X : Type 0} (g : Ghosts D) (i : IndexGhosts X) where
     pub settled : LeavesNow (g.moments (disk_in w)) (g.image (disk_in w))
 
   -- The disk is refused for a fault that it has, or for want of memory: where it holds a history, no page of it is at fault. What
-  -- comes back stands for the same pages and holds the same history, and a crash from now on leaves it alone, unless the device failed.
+  -- comes back stands for the same pages and holds the same history, and a crash from now on leaves its image and no other,
+  -- unless the device failed.
   pub record IsRefusedFor (disk : D) (fault : OpenFault) (back : D) : Type 0 where
     pub empty : AtEmpty fault (IsTrue (g.tells disk) → is_empty (g.image disk) ≡ true)
     pub bad_journal : AtBadJournal fault (λ page. IsTrue (g.tells disk) → IsBadAt (g.image disk) page)
     pub damaged : AtDamaged fault (λ page. IsTrue (g.tells disk) → IsDamagedToOpen i.DIMS (g.image disk) page)
-    pub sound : IsTrue (g.tells disk) → (params : Params) (h : History) → HoldsTrees i (g.image disk) params h → (fault ≡ Disk) ⊎ (fault ≡ NoMemory)
+    pub sound : IsTrue (g.tells disk) → (params : Params) (h : History) → HoldsTrees i (g.image disk) params h
+        → (fault ≡ Disk) ⊎ (fault ≡ NoMemory)
     pub stands : fault ≢ Disk → IsTrue (g.tells disk) → StandsAlike (g.image disk) (g.image back)
-    pub kept : fault ≢ Disk → IsTrue (g.tells disk) → (params : Params) (h : History) → Holds i (g.image disk) params h → Holds i (g.image back) params h
+    pub kept : fault ≢ Disk → IsTrue (g.tells disk) → (params : Params) (h : History) → Holds i (g.image disk) params h
+        → Holds i (g.image back) params h
     pub settled : fault ≢ Disk → IsTrue (g.tells disk) → LeavesNow (g.moments back) (g.image back)
-
-module _ {D : Type 0} (g : Ghosts D) where
-  -- The disk has the image of before, and had no other at any moment.
-  pub record IsUntouched (old new : D) : Type 0 where
-    pub image : g.image new ≡ g.image old
-    pub moments : LeavesOnly (λ x. x ≡ g.image old) (g.moments old) (g.moments new)

@@ -7,14 +7,16 @@ ghost use Rattle.bw_types.specs.Lawful.{IsLawfulBatch};
 ghost use Rattle.bw_types.specs.Refusals.{first_refusal, total_mass};
 ghost use Rattle.corner_forest.specs.Entries.{root_count};
 ghost use Rattle.counts.specs.Count.{Rose};
-ghost use Rattle.page_disk.specs.Image.{page_at};
+ghost use Rattle.page_disk.specs.Image.{PageList, page_at};
 ghost use Rattle.page_disk.specs.Since.{LeavesNow, LeavesOnly};
+ghost use Rattle.redo_journal.specs.Settled.{SettlesTo};
 ghost use Rattle.page_space.specs.Shown.{begun_of, disk_of, meta_of, params_of};
 ghost use Rattle.session_book.specs.declared.refusals.BookFault.{BookFault};
 ghost use Rattle.warehouse.specs.Committed.{IfDisk, IfDone, IfKept, IfPageLimit, IsCommitCause, device_out, with_batch};
+ghost use Rattle.warehouse.specs.Left.{DeviceGoesOn};
 ghost use Rattle.page_layout.specs.Meta.{meta_in as meta_on};
 ghost use Rattle.page_warehouse.specs.Holds.{Holds, IsByLives, table_form};
-ghost use Rattle.page_warehouse.specs.Needs.{StaysSmall, batch_need, charge_of, meta_charge, small_need};
+ghost use Rattle.page_warehouse.specs.Needs.{LacksPagesIn, RisesWithin, charge_of, meta_charge};
 
 use crate::Warehouse;
 use crate::drafting::{Counts, draft};
@@ -184,6 +186,15 @@ impl<D: Disk, X: DomIndex> Warehouse<D, X> {
         self.space.is_held();
     }
 
+    // Proves that the disk stands for its own pages alone; it does nothing when it runs.
+    pub(crate) fn is_settled(&self)
+        ensures { IsTrue (D.tells (disk_in self.now)) → (pages : PageList) → SettlesTo (D.image (disk_in self.now)) pages
+            → (D.image (disk_in self.now)).pages ≡ pages }
+    {
+        settling_laws();
+        self.space.is_held();
+    }
+
     // Puts rows that have no refusal last in the history.
     pub(crate) fn put(self, rows: &[Row]) -> Committed<Warehouse<D, X>, D>
         requires fit { IsTrue (list_all (row_fits (params_in self)) rows.now) }
@@ -205,20 +216,11 @@ impl<D: Disk, X: DomIndex> Warehouse<D, X> {
         ensures at_limit { IfPageLimit result (λ house allotted. allotted ≡ (params_in self).pages) }
         ensures page_limit { (h : History) → HoldsHistory D.Disk X.DomIndex true (disk_in self) (params_in self) h
             → IsLawfulBatch (params_in self) h (flat rows.now) → IfPageLimit result (λ house allotted.
-            (params_in self).pages < charge_of (D.image (disk_in self)) + batch_need (params_in self) h rows.now) }
-        ensures charge_done { (h : History) → HoldsHistory D.Disk X.DomIndex true (disk_in self) (params_in self) h
+            LacksPagesIn (D.image (disk_in self)).pages (params_in self) h rows.now) }
+        ensures rises { (h : History) → HoldsHistory D.Disk X.DomIndex true (disk_in self) (params_in self) h
             → IsLawfulBatch (params_in self) h (flat rows.now) → IfDone result (λ house version.
-            charge_of (D.image (disk_in house)) ≤ charge_of (D.image (disk_in self)) + batch_need (params_in self) h rows.now) }
-        ensures small_limit { (h : History) → HoldsHistory D.Disk X.DomIndex true (disk_in self) (params_in self) h
-            → IsLawfulBatch (params_in self) h (flat rows.now) → StaysSmall (D.image (disk_in self)) (params_in self) h rows.now
-            → IfPageLimit result (λ house allotted.
-            (params_in self).pages < charge_of (D.image (disk_in self)) + small_need (params_in self) (length (flat rows.now))) }
-        ensures small_done { (h : History) → HoldsHistory D.Disk X.DomIndex true (disk_in self) (params_in self) h
-            → IsLawfulBatch (params_in self) h (flat rows.now) → StaysSmall (D.image (disk_in self)) (params_in self) h rows.now
-            → IfDone result (λ house version.
-            charge_of (D.image (disk_in house)) ≤ charge_of (D.image (disk_in self)) + small_need (params_in self) (length (flat rows.now))) }
-        ensures disk { IfDisk result (Rose (D.faults (disk_in self)) (D.faults (device_out disk_in result))) }
-        ensures faults { D.faults (disk_in self) ≤ D.faults (device_out disk_in result) }
+            RisesWithin (D.image (disk_in self)) (params_in self) h rows.now (D.image (disk_in house))) }
+        ensures device { DeviceGoesOn disk_in D.tells D.faults (disk_in self) result }
     {
         // One space stands on a disk, and the batch makes a lawful history.
         holds_one();

@@ -30,6 +30,8 @@ impl<D: Disk + Drop, X: DomIndex + Drop> House for Warehouse<D, X> {
 
     ghost stands = { λ whole disk params h. HoldsHistory D.Disk X.DomIndex whole disk params h };
 
+    ghost tells = { λ disk. D.tells disk };
+
     ghost image = { λ disk. D.image disk };
 
     ghost moments = { λ disk. D.moments disk };
@@ -73,6 +75,7 @@ impl<D: Disk + Drop, X: DomIndex + Drop> House for Warehouse<D, X> {
     fn commit(self, rows: &[Row]) -> Committed<Self, D> {
         accepted_batches_are_lawful();
         crash_laws();
+        self.is_settled();
         let Judged { house, found } = self.judge(rows);
         match found {
             Ok(refusal) => match refusal {

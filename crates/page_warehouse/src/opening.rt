@@ -7,8 +7,9 @@ ghost use Rattle.page_disk.specs.Image.{PageList};
 ghost use Rattle.page_disk.specs.Since.{LeavesOnly};
 ghost use Rattle.redo_journal.specs.Settled.{SettlesTo};
 ghost use Rattle.page_space.specs.Faults.{is_disk};
+ghost use Rattle.page_space.specs.Opened.{StaysAsRead};
 ghost use Rattle.page_space.specs.Settling.{HasNoReplay, replay_reads};
-ghost use Rattle.page_warehouse.specs.Opened.{GoTogether, IsOpenedFrom, IsRefusedFor, IsUntouched, opened_disk};
+ghost use Rattle.page_warehouse.specs.Opened.{GoTogether, IsOpenedFrom, IsRefusedFor, opened_disk};
 ghost use Rattle.corner_forest.specs.Entries.{root_count};
 ghost use Rattle.page_warehouse.specs.Holds.{Holds};
 ghost use Rattle.page_warehouse.specs.Shown.{disk_in};
@@ -71,7 +72,7 @@ impl<D: Disk, X: DomIndex> Warehouse<D, X> {
         ensures stands_on { IsTrue (D.tells disk) → (pages : PageList) → SettlesTo (D.image disk) pages
             → LeavesOnly (λ x. SettlesTo x pages) (D.moments disk) (D.moments (opened_disk disk_in result)) }
         // Where nothing is replayed, the disk is as it was.
-        ensures untouched { IsTrue (D.tells disk) → HasNoReplay (D.image disk) → IsUntouched D.Disk disk (opened_disk disk_in result) }
+        ensures untouched { IsTrue (D.tells disk) → HasNoReplay (D.image disk) → StaysAsRead D.Disk disk (opened_disk disk_in result) }
         ensures writes { WritesAsTold D.Disk (λ refused. is_disk refused.fault) (4 + replay_reads (D.image disk)) disk (opened_disk disk_in result) result }
     {
         // A disk stands for one list of pages, and one space.

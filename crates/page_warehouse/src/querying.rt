@@ -62,8 +62,7 @@ impl<D: Disk, X: DomIndex> Warehouse<D, X> {
         requires { IsTrue (query_fits (params_in self.old) query.now) }
         ensures answers { (whole : Bool) (h : History) → HoldsHistory D.Disk X.DomIndex whole (disk_in self.old) (params_in self.old) h
             → Answers (params_in self.old) h version query.now result }
-        ensures kept { IsAsBefore params_in disk_in (HoldsHistory D.Disk X.DomIndex) (HasNewForm D.Disk) D.image D.moments (disk_charge D.Disk) self.old self.new }
-        ensures tells { D.tells (disk_in self.new) ≡ D.tells (disk_in self.old) }
+        ensures kept { IsAsBefore params_in disk_in (HoldsHistory D.Disk X.DomIndex) (HasNewForm D.Disk) D.tells D.image D.moments (disk_charge D.Disk) self.old self.new }
         ensures above { (meta_in self.old).version < version → (result ≡ Err (QueryFault.NoVersion (meta_in self.old).version)) × (self.new ≡ self.old) }
         ensures within { (last : ℕ) → version ≤ (meta_in self.old).version → result ≢ Err (QueryFault.NoVersion last) }
         ensures meta { meta_in self.new ≡ meta_in self.old }

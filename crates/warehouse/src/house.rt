@@ -10,7 +10,7 @@ ghost use Rattle.bw_types.specs.declared.refusal.Refusal.{Refusal};
 ghost use Rattle.bw_types.specs.declared.row.Row.{Row};
 ghost use Rattle.counts.specs.Count.{Rose};
 ghost use Rattle.warehouse.specs.Committed.{Answers, IfDone, IfKept, IfPageLimit, IsCommitCause, after_commit, device_out};
-ghost use Rattle.warehouse.specs.Left.{CrashLeavesEither, FaultsRise, IsAsBefore, IsPutLast};
+ghost use Rattle.warehouse.specs.Left.{CrashLeavesEither, DeviceGoesOn, IsAsBefore, IsPutLast};
 
 use crate::committed::{Committed, QueryFault};
 use bw_types::{Params, Query, Row};
@@ -35,6 +35,9 @@ pub trait House: Drop {
 
     /// The device stands for this history: whole, or (false) as far as queries read.
     ghost stands: { Bool → Self.Device → Params → History → Type 0 };
+
+    /// Whether the device tells what it holds.
+    ghost tells: { Self.Device → Bool };
 
     /// What reads of the device give.
     ghost image: { Self.Device → Image };
@@ -92,7 +95,7 @@ pub trait House: Drop {
         requires { IsTrue (query_fits (params self.old) query.now) }
         ensures answers { (whole : Bool) (h : History) → stands whole (device self.old) (params self.old) h →
             Answers (params self.old) h version query.now result }
-        ensures kept { IsAsBefore params device stands is_current image moments charge self.old self.new }
+        ensures kept { IsAsBefore params device stands is_current tells image moments charge self.old self.new }
         ensures disk { result ≡ Err QueryFault.Disk → Rose (faults (device self.old)) (faults (device self.new)) }
         ensures faults { faults (device self.old) ≤ faults (device self.new) }
         ensures reads { (whole : Bool) (h : History) → stands whole (device self.old) (params self.old) h →
@@ -109,7 +112,7 @@ pub trait House: Drop {
             (IsPutLast params device stands moments now keeps charge need rises_within h rows.now self) }
         // A device that kept its history in an earlier form is written anew with the first batch that is put last.
         ensures renewed { IfDone result (λ house version. is_current (device house) × (params house ≡ params self)) }
-        ensures kept { IfKept result (IsAsBefore params device stands is_current image moments charge self) }
+        ensures kept { IfKept result (IsAsBefore params device stands is_current tells image moments charge self) }
         ensures crash { (h : History) → stands true (device self) (params self) h → CrashLeavesEither clock since now keeps
             (params self) h (after_commit (first_refusal (params self) h rows.now) h rows.now) (moments (device self)) (moments (device_out device result)) }
         // A batch that has a refusal changes nothing, whatever is answered, and also where the device fails.
@@ -119,7 +122,7 @@ pub trait House: Drop {
         ensures page_limit { IfPageLimit result (λ house allotted. (allotted ≡ (params self).pages)
             × ((h : History) → stands true (device self) (params self) h → lacks_pages (device house) (params self) h rows.now
             × ((params self).pages < charge (device house) + need (params self) h rows.now))) }
-        ensures faults { FaultsRise device faults (device self) result };
+        ensures device { DeviceGoesOn device tells faults (device self) result };
 
     /// Gives back what lasts.
     fn into_device(self) -> Self::Device

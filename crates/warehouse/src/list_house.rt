@@ -167,7 +167,7 @@ impl ListHouse {
 impl House for ListHouse {
     type Device = ListHouse;
 
-    ghost use Rattle.std.specs.Prelude.{◌≡◌, ⊤};
+    ghost use Rattle.std.specs.Prelude.{◌≡◌, ⊤, true};
 
     ghost Image = { ⊤ };
 
@@ -178,6 +178,8 @@ impl House for ListHouse {
     ghost device = { λ house. house };
 
     ghost stands = { λ whole house params h. house.history ≡ h };
+
+    ghost tells = { λ house. true };
 
     ghost image = { λ house. tt };
 

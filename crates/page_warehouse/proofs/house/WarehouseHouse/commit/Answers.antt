@@ -1,4 +1,4 @@
-use Rattle.std.proofs.Common.{◌≡◌, ℕ, ◌⊎◌, ◌+◌, ◌<◌, ◌≤◌, ◌^◌, true, IsTrue, List, Option, None, Ok, Err, IfOk, length, inl, inr, refl, sym, ◌∙◌, ap, subst}
+use Rattle.std.proofs.Common.{◌≡◌, ℕ, ◌⊎◌, ◌+◌, ◌<◌, ◌^◌, true, IsTrue, List, Option, None, Ok, Err, IfOk, inl, inr, refl, sym, ◌∙◌, ap, subst, arith}
 use Rattle.std.specs.List.{list_all}
 use Rattle.bw_types.specs.Fits.{row_fits}
 use Rattle.bw_types.specs.History.{History, flat, last_version}
@@ -6,20 +6,22 @@ use Rattle.bw_types.specs.Lawful.{IsLawfulBatch}
 use Rattle.bw_types.specs.Refusals.{first_refusal, total_mass}
 use Rattle.bw_types.specs.declared.params.Params.{Params}
 use Rattle.bw_types.specs.declared.refusal.Refusal.{Refusal}
-use Rattle.page_disk.specs.Image.{Image}
+use Rattle.counts.specs.Count.{Rose}
+use Rattle.page_disk.specs.Image.{Image, PageList}
 use Rattle.page_disk.specs.Moment.{Moment, MayBeLeftNow}
 use Rattle.page_disk.specs.Since.{LeavesNow, LeavesOnly}
 use Rattle.page_layout.specs.declared.meta.Meta.{Meta}
+use Rattle.redo_journal.specs.Settled.{SettlesTo}
 use Rattle.page_space.specs.Begun.{Begun}
 use Rattle.page_space.specs.Shown.{begun_of, disk_of, meta_of, params_of}
 use Rattle.session_book.specs.declared.refusals.BookFault.{BookFault}
 use Rattle.warehouse.specs.Committed.{IsCommitCause, after_commit, device_out, with_batch}
 use Rattle.warehouse.specs.Left.{IsAsBefore, IsPutLast}
 use Rattle.page_warehouse.specs.Holds.{Holds}
-use Rattle.page_warehouse.specs.Needs.{LacksPages, RisesWithin, StaysSmall, batch_need, charge_of, small_need}
+use Rattle.page_warehouse.specs.Needs.{LacksPages, LacksPagesIn, RisesWithin, batch_need, charge_of}
 use Rattle.page_warehouse.specs.Shown.{HasNewForm, HoldsHistory, disk_charge, disk_in, params_in, space_in}
-use Rattle.page_warehouse.proofs.Outcomes.{if_kept}
-use Rattle.page_warehouse.proofs.Same.{as_before, both_at_limit, both_done, done_both, held_own, left_now, limit_both, limit_each, only_leaves}
+use Rattle.page_warehouse.proofs.Outcomes.{if_disk, if_kept}
+use Rattle.page_warehouse.proofs.Same.{as_before, both_at_limit, both_done, held_own, left_now, limit_each, only_leaves}
 use Rattle.page_warehouse.proofs.house.WarehouseHouse.commit.Goals as goal
 
 pub put-requires-clause-fit : goal.put-requires-clause-fit
@@ -72,13 +74,11 @@ returns-in-None-clause-done g c = λ h held.
     let h1 : History = with_batch h rows in
     let x = g.D.Disk.image (disk_of mid) in
     both_done c.put.result (λ house version. ((version ≡ last_version h + 1) × HoldsHistory g.D.Disk g.X.DomIndex true (disk_in house) (params_of mid) h1) × LeavesNow (g.D.Disk.moments (disk_in house)) (g.D.Disk.image (disk_in house)))
-    (λ house version. (charge_of (g.D.Disk.image (disk_in house)) ≤ charge_of x + batch_need (params_of mid) h rows)
-    × (StaysSmall x (params_of mid) h rows → charge_of (g.D.Disk.image (disk_in house)) ≤ charge_of x + small_need (params_of mid) (length (flat rows))))
+    (λ house version. RisesWithin x (params_of mid) h rows (g.D.Disk.image (disk_in house)))
     (IsPutLast params_in disk_in (HoldsHistory g.D.Disk g.X.DomIndex) g.D.Disk.moments MayBeLeftNow (Holds g.X.DomIndex) (disk_charge g.D.Disk) batch_need (λ d p k batch d'. RisesWithin (g.D.Disk.image d) p k batch (g.D.Disk.image d')) h rows c.args.self)
     (λ house version done rose.
     let holds : HoldsHistory g.D.Disk g.X.DomIndex true (disk_in house) params h1 = subst (λ (p : Params). HoldsHistory g.D.Disk g.X.DomIndex true (disk_in house) p h1) same done.0.1 in
-    let own : RisesWithin x params h rows (g.D.Disk.image (disk_in house)) = subst (λ (p : Params). RisesWithin x p h rows (g.D.Disk.image (disk_in house))) same (record { need = rose.0; small = rose.1 }) in
-    let rises : RisesWithin (g.D.Disk.image (disk_of old)) params h rows (g.D.Disk.image (disk_in house)) = subst (λ (y : Image). RisesWithin y params h rows (g.D.Disk.image (disk_in house))) (ap (λ (b : Begun). b.image) stays) own in
+    let rises : RisesWithin (g.D.Disk.image (disk_of old)) params h rows (g.D.Disk.image (disk_in house)) = subst (λ (b : Begun). RisesWithin b.image b.params h rows (g.D.Disk.image (disk_in house))) stays rose in
     record {
       version = done.0.0;
       stands = holds;
@@ -88,9 +88,7 @@ returns-in-None-clause-done g c = λ h held.
     })
     (both_done c.put.result (λ house version. (version ≡ last_version h + 1) × HoldsHistory g.D.Disk g.X.DomIndex true (disk_in house) (params_of mid) h1) (λ house version. LeavesNow (g.D.Disk.moments (disk_in house)) (g.D.Disk.image (disk_in house))) _ (λ house version done settled. (done, settled))
     (c.put.ensures.done h held1 batch1) c.put.ensures.settled)
-    (done_both c.put.result (StaysSmall x (params_of mid) h rows) (λ house version. charge_of (g.D.Disk.image (disk_in house)) ≤ charge_of x + batch_need (params_of mid) h rows)
-    (λ house version. charge_of (g.D.Disk.image (disk_in house)) ≤ charge_of x + small_need (params_of mid) (length (flat rows)))
-    (c.put.ensures.charge_done h held1 batch1) (c.put.ensures.small_done h held1 batch1))
+    (c.put.ensures.rises h held1 batch1)
 
 pub returns-in-None-clause-renewed : goal.returns-in-None-clause-renewed
 returns-in-None-clause-renewed g c =
@@ -102,7 +100,7 @@ returns-in-None-clause-renewed g c =
 pub returns-in-None-clause-kept : goal.returns-in-None-clause-kept
 returns-in-None-clause-kept g c =
     if_kept c.put.result (λ house. begun_of (space_in house) ≡ begun_of c.judge-house.result.house.space)
-    (IsAsBefore params_in disk_in (HoldsHistory g.D.Disk g.X.DomIndex) (HasNewForm g.D.Disk) g.D.Disk.image g.D.Disk.moments (disk_charge g.D.Disk) c.args.self)
+    (IsAsBefore params_in disk_in (HoldsHistory g.D.Disk g.X.DomIndex) (HasNewForm g.D.Disk) g.D.Disk.tells g.D.Disk.image g.D.Disk.moments (disk_charge g.D.Disk) c.args.self)
     (λ house kept. as_before c.args.self house (kept ∙ c.judge-house.ensures.stays)) c.put.ensures.kept
 
 pub returns-in-None-clause-crash : goal.returns-in-None-clause-crash
@@ -149,19 +147,22 @@ returns-in-None-clause-page_limit g c =
     let same : params_of mid ≡ params = ap (λ (b : Begun). b.params) stays in
     let x = g.D.Disk.image (disk_of mid) in
     both_at_limit c.put.result (λ house. begun_of (space_in house) ≡ begun_of mid) (λ house n. n ≡ (params_of mid).pages)
-    (λ house n. (h : History) → HoldsHistory g.D.Disk g.X.DomIndex true (disk_of old) params h → ((params_of mid).pages < charge_of x + batch_need (params_of mid) h rows) × (StaysSmall x (params_of mid) h rows → (params_of mid).pages < charge_of x + small_need (params_of mid) (length (flat rows))))
+    (λ house n. (h : History) → HoldsHistory g.D.Disk g.X.DomIndex true (disk_of old) params h → LacksPagesIn x.pages (params_of mid) h rows)
     (λ house n. (n ≡ params.pages) × ((h : History) → HoldsHistory g.D.Disk g.X.DomIndex true (disk_of old) params h → LacksPages (g.D.Disk.image (disk_in house)) params h rows × (params.pages < charge_of (g.D.Disk.image (disk_in house)) + batch_need params h rows)))
     (λ house n kept limit passed. (
       limit ∙ ap (λ (p : Params). p.pages) same,
       λ h held.
-          let both = passed h held in
-          let own : LacksPages x params h rows = subst (λ (p : Params). LacksPages x p h rows) same (record { need = both.0; small = both.1 }) in
-          let here = subst (λ (y : Image). LacksPages y params h rows) (sym (ap (λ (b : Begun). b.image) kept)) own in
-          (here, here.need),
+          let back : g.D.Disk.image (disk_in house) ≡ g.D.Disk.image (disk_of old) = ap (λ (b : Begun). b.image) (kept ∙ stays) in
+          let own : LacksPagesIn (g.D.Disk.image (disk_of old)).pages params h rows = subst (λ (b : Begun). LacksPagesIn b.image.pages b.params h rows) stays (passed h held) in (
+            λ pages settles.
+                let all = c.is_settled.ensures held.0 pages (subst (λ (y : Image). SettlesTo y pages) back settles) in
+                subst (λ (ps : PageList). LacksPagesIn ps params h rows) all own,
+            subst (λ (y : Image). params.pages < charge_of y + batch_need params h rows) (sym back) own.need,
+          ),
     ))
     c.put.ensures.kept c.put.ensures.at_limit
     (limit_each c.put.result (λ (h : History). HoldsHistory g.D.Disk g.X.DomIndex true (disk_of old) params h)
-    (λ (h : History) house (n : ℕ). ((params_of mid).pages < charge_of x + batch_need (params_of mid) h rows) × (StaysSmall x (params_of mid) h rows → (params_of mid).pages < charge_of x + small_need (params_of mid) (length (flat rows))))
+    (λ (h : History) house (n : ℕ). LacksPagesIn x.pages (params_of mid) h rows)
     (λ h held.
     let none = c.in-Ok.is ∙ ap (λ (r : Option Refusal). Ok r) c.in-None.is in
     let found = subst (λ r. IfOk r (λ (refusal : Option Refusal). (h : History) → HoldsHistory g.D.Disk g.X.DomIndex true (disk_of old) params h → refusal ≡ first_refusal params h rows)) none c.judge-house.ensures.ok in
@@ -169,8 +170,19 @@ returns-in-None-clause-page_limit g c =
     let batch : IsLawfulBatch params h (flat rows) = c.accepted_batches_are_lawful.ensures params h rows c.requires.fit c.requires.most (sym accepted) in
     let held1 = held_own g.X.DomIndex true old mid h stays held in
     let batch1 = subst (λ (p : Params). IsLawfulBatch p h (flat rows)) (sym same) batch in
-    limit_both c.put.result (StaysSmall x (params_of mid) h rows) (λ house n. (params_of mid).pages < charge_of x + batch_need (params_of mid) h rows) (λ house n. (params_of mid).pages < charge_of x + small_need (params_of mid) (length (flat rows)))
-    (c.put.ensures.page_limit h held1 batch1) (c.put.ensures.small_limit h held1 batch1)))
+    c.put.ensures.page_limit h held1 batch1))
+
+pub returns-in-None-clause-device : goal.returns-in-None-clause-device
+returns-in-None-clause-device g c =
+    let was = ap (λ (b : Begun). b.tells) c.judge-house.ensures.stays in
+    let rose = c.judge-house.ensures.faults in
+    let on = c.put.ensures.device in
+    let last = on.never_fall in
+    record {
+      tells = on.tells ∙ was;
+      disk = if_disk c.put.result (Rose (g.D.Disk.faults (disk_of c.judge-house.result.house.space)) (g.D.Disk.faults (device_out disk_in c.put.result))) _ (λ more. omega (arith, rose, more)) on.disk;
+      never_fall = omega (arith, rose, last);
+    }
 
 pub returns-in-Damaged-clause-cause : goal.returns-in-Damaged-clause-cause
 returns-in-Damaged-clause-cause g c = λ h held. c.judge-house.ensures.sound h c.in-Damaged.page held (c.in-Err.is ∙ ap (λ (f : BookFault). Err f) c.in-Damaged.is)

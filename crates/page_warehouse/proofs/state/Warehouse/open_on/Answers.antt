@@ -1,10 +1,11 @@
-use Rattle.std.proofs.Common.{◌≡◌, ap, sym, subst, ◌∙◌, IsTrue, arith}
+use Rattle.std.proofs.Common.{ap, sym, subst, ◌∙◌, IsTrue, arith}
 use Rattle.bw_types.specs.declared.params.Params.{Params}
 use Rattle.page_disk.specs.Since.{LeavesNow, LeavesOnly}
 use Rattle.page_layout.specs.declared.meta.Meta.{Meta}
 use Rattle.redo_journal.specs.Settled.{SettlesTo}
 use Rattle.page_warehouse.specs.Holds.{Holds}
 use Rattle.page_warehouse.specs.Opened.{GoTogether}
+use Rattle.page_space.specs.Opened.{StaysAsRead}
 use Rattle.page_space.specs.Opening.{StandsAlike}
 use Rattle.page_space.specs.Shown.{disk_of, map_of, meta_of, params_of, IsInOrder}
 use Rattle.page_warehouse.proofs.Opened.{any_moment, damaged_space, dims_held, for_queries, held_in, kept_alike, not_together, only_free, same_params, stands_alike, together_held, too_many_dims, trees_in, unordered}
@@ -16,16 +17,16 @@ returns-in-Err-clause-any_moment g c = λ told params h held.
 
 pub returns-in-Err-clause-refused : goal.returns-in-Err-clause-refused
 returns-in-Err-clause-refused g c = record {
-  empty = c.in-Err.ensures.empty;
-  bad_journal = c.in-Err.ensures.bad_journal;
-  damaged = damaged_space g.X.DomIndex.DIMS (g.D.Disk.image c.args.disk) (IsTrue (g.D.Disk.tells c.args.disk)) c.in-Err.refused.fault c.in-Err.ensures.damaged;
+  empty = c.in-Err.ensures.refused.empty;
+  bad_journal = c.in-Err.ensures.refused.bad_journal;
+  damaged = damaged_space g.X.DomIndex.DIMS (g.D.Disk.image c.args.disk) (IsTrue (g.D.Disk.tells c.args.disk)) c.in-Err.refused.fault c.in-Err.ensures.refused.damaged;
   sound = λ told params h held.
       only_free g.X.DomIndex c.held_opens.ensures (g.D.Disk.image c.args.disk) (IsTrue (g.D.Disk.tells c.args.disk)) told c.in-Err.refused.fault
-      c.in-Err.ensures.empty c.in-Err.ensures.bad_journal c.in-Err.ensures.damaged params h held;
-  stands = c.in-Err.ensures.stands;
+      c.in-Err.ensures.refused.empty c.in-Err.ensures.refused.bad_journal c.in-Err.ensures.refused.damaged params h held;
+  stands = c.in-Err.ensures.refused.stands;
   kept = λ other told params h held.
-      kept_alike g.X.DomIndex c.settling_laws.ensures.one (g.D.Disk.image c.args.disk) (g.D.Disk.image c.in-Err.refused.disk) (c.in-Err.ensures.stands other told) params h held;
-  settled = c.in-Err.ensures.refused_settled;
+      kept_alike g.X.DomIndex c.settling_laws.ensures.one (g.D.Disk.image c.args.disk) (g.D.Disk.image c.in-Err.refused.disk) (c.in-Err.ensures.refused.stands other told) params h held;
+  settled = c.in-Err.ensures.refused.settled;
 }
 
 pub returns-then-params-DIMS-clause-any_moment : goal.returns-then-params-DIMS-clause-any_moment
@@ -40,27 +41,23 @@ returns-then-params-DIMS-clause-refused g c = record {
   damaged = λ told.
       let over = c.if-params-DIMS.true in
       let is = ap (λ (p : Params). p.dims) c.params-params.ensures.value in
-      too_many_dims g.X.DomIndex c.holds_one.ensures.one (g.D.Disk.image c.args.disk) (params_of c.in-Ok.space) (meta_of c.in-Ok.space) (map_of c.in-Ok.space) (IsInOrder c.in-Ok.space) (c.in-Ok.ensures.holds told) (omega arith);
+      too_many_dims g.X.DomIndex c.holds_one.ensures.one (g.D.Disk.image c.args.disk) (params_of c.in-Ok.space) (meta_of c.in-Ok.space) (map_of c.in-Ok.space) (IsInOrder c.in-Ok.space) (c.in-Ok.ensures.opened.holds told) (omega arith);
   sound = λ told params h held.
-      let dims = dims_held g.X.DomIndex c.holds_one.ensures.one (g.D.Disk.image c.args.disk) (params_of c.in-Ok.space) (meta_of c.in-Ok.space) (map_of c.in-Ok.space) (IsInOrder c.in-Ok.space) (c.in-Ok.ensures.holds told) params h held in
+      let dims = dims_held g.X.DomIndex c.holds_one.ensures.one (g.D.Disk.image c.args.disk) (params_of c.in-Ok.space) (meta_of c.in-Ok.space) (map_of c.in-Ok.space) (IsInOrder c.in-Ok.space) (c.in-Ok.ensures.opened.holds told) params h held in
       let over = c.if-params-DIMS.true in
       let is = ap (λ (p : Params). p.dims) c.params-params.ensures.value in
       absurd (omega arith);
   stands = λ other told.
       subst (λ (d : _). StandsAlike (g.D.Disk.image c.args.disk) (g.D.Disk.image d)) (sym c.into_disk.ensures.disk)
-      (stands_alike c.settling_laws.ensures.one c.settling_laws.ensures.idle (g.D.Disk.image c.args.disk) (g.D.Disk.image (disk_of c.in-Ok.space)) (c.in-Ok.ensures.settles told) (c.in-Ok.ensures.idle told));
+      (stands_alike c.settling_laws.ensures.one c.settling_laws.ensures.idle (g.D.Disk.image c.args.disk) (g.D.Disk.image (disk_of c.in-Ok.space)) (c.in-Ok.ensures.opened.settles told) (c.in-Ok.ensures.opened.idle told));
   kept = λ other told params h held.
       subst (λ (d : _). Holds g.X.DomIndex (g.D.Disk.image d) params h) (sym c.into_disk.ensures.disk)
-      (held_in g.X.DomIndex c.settling_laws.ensures.one c.settling_laws.ensures.idle (g.D.Disk.image c.args.disk) (g.D.Disk.image (disk_of c.in-Ok.space)) (c.in-Ok.ensures.settles told) (c.in-Ok.ensures.idle told) params h held);
-  settled = λ other told. subst (λ (d : _). LeavesNow (g.D.Disk.moments d) (g.D.Disk.image d)) (sym c.into_disk.ensures.disk) c.in-Ok.ensures.settled;
+      (held_in g.X.DomIndex c.settling_laws.ensures.one c.settling_laws.ensures.idle (g.D.Disk.image c.args.disk) (g.D.Disk.image (disk_of c.in-Ok.space)) (c.in-Ok.ensures.opened.settles told) (c.in-Ok.ensures.opened.idle told) params h held);
+  settled = λ other told. subst (λ (d : _). LeavesNow (g.D.Disk.moments d) (g.D.Disk.image d)) (sym c.into_disk.ensures.disk) c.in-Ok.ensures.opened.settled;
 }
 
 pub returns-then-params-DIMS-clause-untouched : goal.returns-then-params-DIMS-clause-untouched
-returns-then-params-DIMS-clause-untouched g c = λ told calm. record {
-  image = subst (λ (d : _). g.D.Disk.image d ≡ g.D.Disk.image c.args.disk) (sym c.into_disk.ensures.disk) (c.in-Ok.ensures.untouched told calm);
-  moments = subst (λ (d : _). LeavesOnly (λ x. x ≡ g.D.Disk.image c.args.disk) (g.D.Disk.moments c.args.disk) (g.D.Disk.moments d)) (sym c.into_disk.ensures.disk)
-      (c.in-Ok.ensures.untouched_moments told calm);
-}
+returns-then-params-DIMS-clause-untouched g c = λ told calm. subst (λ (d : _). StaysAsRead g.D.Disk c.args.disk d) (sym c.into_disk.ensures.disk) (c.in-Ok.ensures.untouched told calm)
 
 pub returns-then-not-goes_together-clause-any_moment : goal.returns-then-not-goes_together-clause-any_moment
 returns-then-not-goes_together-clause-any_moment g c = λ told params h held.
@@ -74,31 +71,28 @@ returns-then-not-goes_together-clause-refused g c = record {
   damaged = λ told.
       let least = c.if-params-DIMS.false in
       let is = ap (λ (p : Params). p.dims) c.params-params.ensures.value in
-      not_together g.X.DomIndex c.holds_one.ensures.one (g.D.Disk.image c.args.disk) (params_of c.in-Ok.space) (meta_of c.in-Ok.space) (map_of c.in-Ok.space) (IsInOrder c.in-Ok.space) (c.in-Ok.ensures.holds told) (omega arith)
+      not_together g.X.DomIndex c.holds_one.ensures.one (g.D.Disk.image c.args.disk) (params_of c.in-Ok.space) (meta_of c.in-Ok.space) (map_of c.in-Ok.space) (IsInOrder c.in-Ok.space) (c.in-Ok.ensures.opened.holds told) (omega arith)
       (λ together. c.goes_together.ensures.no c.if-not-goes_together.true
       (subst (λ (m : Meta). GoTogether c.params-params.result m) (sym c.meta.ensures.value)
       (subst (λ (p : Params). GoTogether p (meta_of c.in-Ok.space)) (sym c.params-params.ensures.value) together)));
   sound = λ told params h held.
-      let together = together_held g.X.DomIndex c.holds_one.ensures.one (g.D.Disk.image c.args.disk) (params_of c.in-Ok.space) (meta_of c.in-Ok.space) (map_of c.in-Ok.space) (IsInOrder c.in-Ok.space) (c.in-Ok.ensures.holds told)
+      let together = together_held g.X.DomIndex c.holds_one.ensures.one (g.D.Disk.image c.args.disk) (params_of c.in-Ok.space) (meta_of c.in-Ok.space) (map_of c.in-Ok.space) (IsInOrder c.in-Ok.space) (c.in-Ok.ensures.opened.holds told)
       c.lawful_histories_have_room.ensures params h held in
       absurd (c.goes_together.ensures.no c.if-not-goes_together.true
       (subst (λ (m : Meta). GoTogether c.params-params.result m) (sym c.meta.ensures.value)
       (subst (λ (p : Params). GoTogether p (meta_of c.in-Ok.space)) (sym c.params-params.ensures.value) together)));
   stands = λ other told.
       subst (λ (d : _). StandsAlike (g.D.Disk.image c.args.disk) (g.D.Disk.image d)) (sym c.into_disk-then-not-goes_together.ensures.disk)
-      (stands_alike c.settling_laws.ensures.one c.settling_laws.ensures.idle (g.D.Disk.image c.args.disk) (g.D.Disk.image (disk_of c.in-Ok.space)) (c.in-Ok.ensures.settles told) (c.in-Ok.ensures.idle told));
+      (stands_alike c.settling_laws.ensures.one c.settling_laws.ensures.idle (g.D.Disk.image c.args.disk) (g.D.Disk.image (disk_of c.in-Ok.space)) (c.in-Ok.ensures.opened.settles told) (c.in-Ok.ensures.opened.idle told));
   kept = λ other told params h held.
       subst (λ (d : _). Holds g.X.DomIndex (g.D.Disk.image d) params h) (sym c.into_disk-then-not-goes_together.ensures.disk)
-      (held_in g.X.DomIndex c.settling_laws.ensures.one c.settling_laws.ensures.idle (g.D.Disk.image c.args.disk) (g.D.Disk.image (disk_of c.in-Ok.space)) (c.in-Ok.ensures.settles told) (c.in-Ok.ensures.idle told) params h held);
-  settled = λ other told. subst (λ (d : _). LeavesNow (g.D.Disk.moments d) (g.D.Disk.image d)) (sym c.into_disk-then-not-goes_together.ensures.disk) c.in-Ok.ensures.settled;
+      (held_in g.X.DomIndex c.settling_laws.ensures.one c.settling_laws.ensures.idle (g.D.Disk.image c.args.disk) (g.D.Disk.image (disk_of c.in-Ok.space)) (c.in-Ok.ensures.opened.settles told) (c.in-Ok.ensures.opened.idle told) params h held);
+  settled = λ other told. subst (λ (d : _). LeavesNow (g.D.Disk.moments d) (g.D.Disk.image d)) (sym c.into_disk-then-not-goes_together.ensures.disk) c.in-Ok.ensures.opened.settled;
 }
 
 pub returns-then-not-goes_together-clause-untouched : goal.returns-then-not-goes_together-clause-untouched
-returns-then-not-goes_together-clause-untouched g c = λ told calm. record {
-  image = subst (λ (d : _). g.D.Disk.image d ≡ g.D.Disk.image c.args.disk) (sym c.into_disk-then-not-goes_together.ensures.disk) (c.in-Ok.ensures.untouched told calm);
-  moments = subst (λ (d : _). LeavesOnly (λ x. x ≡ g.D.Disk.image c.args.disk) (g.D.Disk.moments c.args.disk) (g.D.Disk.moments d)) (sym c.into_disk-then-not-goes_together.ensures.disk)
-      (c.in-Ok.ensures.untouched_moments told calm);
-}
+returns-then-not-goes_together-clause-untouched g c = λ told calm.
+    subst (λ (d : _). StaysAsRead g.D.Disk c.args.disk d) (sym c.into_disk-then-not-goes_together.ensures.disk) (c.in-Ok.ensures.untouched told calm)
 
 pub invariant_of-result : goal.invariant_of-result
 invariant_of-result g c =
@@ -120,9 +114,9 @@ invariant_of-result g c =
 pub returns-clause-opened : goal.returns-clause-opened
 returns-clause-opened g c = record {
   whole = λ told.
-      (map_of c.in-Ok.space, unordered (g.D.Disk.image c.args.disk) (params_of c.in-Ok.space) (meta_of c.in-Ok.space) (map_of c.in-Ok.space) (IsInOrder c.in-Ok.space) (c.in-Ok.ensures.holds told));
-  settles = c.in-Ok.ensures.settles;
-  stands = λ told. stands_alike c.settling_laws.ensures.one c.settling_laws.ensures.idle (g.D.Disk.image c.args.disk) (g.D.Disk.image (disk_of c.in-Ok.space)) (c.in-Ok.ensures.settles told) (c.in-Ok.ensures.idle told);
+      (map_of c.in-Ok.space, unordered (g.D.Disk.image c.args.disk) (params_of c.in-Ok.space) (meta_of c.in-Ok.space) (map_of c.in-Ok.space) (IsInOrder c.in-Ok.space) (c.in-Ok.ensures.opened.holds told));
+  settles = c.in-Ok.ensures.opened.settles;
+  stands = λ told. stands_alike c.settling_laws.ensures.one c.settling_laws.ensures.idle (g.D.Disk.image c.args.disk) (g.D.Disk.image (disk_of c.in-Ok.space)) (c.in-Ok.ensures.opened.settles told) (c.in-Ok.ensures.opened.idle told);
   here = λ told. (
     map_of c.in-Ok.space,
     unordered (g.D.Disk.image (disk_of c.in-Ok.space)) (params_of c.in-Ok.space) (meta_of c.in-Ok.space) (map_of c.in-Ok.space) (IsInOrder c.in-Ok.space) (c.is_held.ensures.held (c.in-Ok.ensures.writes.tells ∙ told)),
@@ -135,23 +129,20 @@ returns-clause-opened g c = record {
             (subst (λ (m : Meta). GoTogether c.params-params.result m) c.meta.ensures.value (c.goes_together.ensures.yes c.if-not-goes_together.false)),
       );
   holds = λ params h told held. (
-    same_params g.X.DomIndex c.holds_one.ensures.one (g.D.Disk.image c.args.disk) (params_of c.in-Ok.space) (meta_of c.in-Ok.space) (map_of c.in-Ok.space) (IsInOrder c.in-Ok.space) (c.in-Ok.ensures.holds told) params h
+    same_params g.X.DomIndex c.holds_one.ensures.one (g.D.Disk.image c.args.disk) (params_of c.in-Ok.space) (meta_of c.in-Ok.space) (map_of c.in-Ok.space) (IsInOrder c.in-Ok.space) (c.in-Ok.ensures.opened.holds told) params h
         (for_queries g.X.DomIndex (g.D.Disk.image c.args.disk) params h held),
-    held_in g.X.DomIndex c.settling_laws.ensures.one c.settling_laws.ensures.idle (g.D.Disk.image c.args.disk) (g.D.Disk.image (disk_of c.in-Ok.space)) (c.in-Ok.ensures.settles told) (c.in-Ok.ensures.idle told) params h held,
+    held_in g.X.DomIndex c.settling_laws.ensures.one c.settling_laws.ensures.idle (g.D.Disk.image c.args.disk) (g.D.Disk.image (disk_of c.in-Ok.space)) (c.in-Ok.ensures.opened.settles told) (c.in-Ok.ensures.opened.idle told) params h held,
   );
   holds_trees = λ params h told held. (
-    same_params g.X.DomIndex c.holds_one.ensures.one (g.D.Disk.image c.args.disk) (params_of c.in-Ok.space) (meta_of c.in-Ok.space) (map_of c.in-Ok.space) (IsInOrder c.in-Ok.space) (c.in-Ok.ensures.holds told) params h held,
-    trees_in g.X.DomIndex c.settling_laws.ensures.one c.settling_laws.ensures.idle (g.D.Disk.image c.args.disk) (g.D.Disk.image (disk_of c.in-Ok.space)) (c.in-Ok.ensures.settles told) (c.in-Ok.ensures.idle told) params h held,
+    same_params g.X.DomIndex c.holds_one.ensures.one (g.D.Disk.image c.args.disk) (params_of c.in-Ok.space) (meta_of c.in-Ok.space) (map_of c.in-Ok.space) (IsInOrder c.in-Ok.space) (c.in-Ok.ensures.opened.holds told) params h held,
+    trees_in g.X.DomIndex c.settling_laws.ensures.one c.settling_laws.ensures.idle (g.D.Disk.image c.args.disk) (g.D.Disk.image (disk_of c.in-Ok.space)) (c.in-Ok.ensures.opened.settles told) (c.in-Ok.ensures.opened.idle told) params h held,
   );
-  settled = c.in-Ok.ensures.settled;
+  settled = c.in-Ok.ensures.opened.settled;
 }
 
 pub returns-clause-any_moment : goal.returns-clause-any_moment
 returns-clause-any_moment g c = λ told params h held.
     any_moment g.X.DomIndex c.settling_laws.ensures.one (g.D.Disk.image c.args.disk) _ _ (λ pages settles. c.in-Ok.ensures.any_moment told pages settles) params h held
-
-pub returns-clause-untouched : goal.returns-clause-untouched
-returns-clause-untouched g c = λ told calm. record { image = c.in-Ok.ensures.untouched told calm; moments = c.in-Ok.ensures.untouched_moments told calm }
 
 pub returns-in-Err-clause-stands_on : goal.returns-in-Err-clause-stands_on
 returns-in-Err-clause-stands_on g c = λ told pages settles. c.in-Err.ensures.any_moment told pages settles
