@@ -1,5 +1,5 @@
 -- The ending of a run, and the fault of an opening, by the status.
-use Rattle.std.proofs.Common.{◌≡◌, ◌≢◌, ◌⊎◌, ℕ, IsTrue, Option, Some, None, inl, inr, refl, sym, ◌∙◌, ap, subst}
+use Rattle.std.proofs.Common.{◌≡◌, ◌≢◌, ◌⊎◌, ℕ, IsTrue, Option, Some, None, inl, inr, refl, sym, ◌∙◌, ap, subst, arith}
 use Rattle.counts.specs.Count.{Rose}
 use Rattle.std.specs.Prelude.{◌≤◌}
 use Rattle.std.specs.Bool.{MatchBool}
@@ -8,7 +8,7 @@ use Rattle.page_disk.specs.declared.disk.Area.TheVariants.{Pages, Journal}
 use Rattle.page_space.specs.Faults.{is_disk}
 use Rattle.page_space.specs.declared.refusal.OpenFault.{OpenFault}
 use Rattle.page_space.specs.declared.refusal.OpenFault.TheVariants as fault
-use Rattle.row_machine.specs.Serving.{IsFlushed, IsInputEnding}
+use Rattle.row_machine.specs.Serving.{IsBetweenLines, IsFlushed, IsInputEnding}
 use Rattle.row_machine.specs.declared.ending.Ending.{Ending}
 use Rattle.row_machine.specs.declared.ending.Ending.TheVariants as ending
 use Rattle.boxsum.specs.Ends.{ends_run, ends_scratch}
@@ -95,6 +95,23 @@ input_ending e s is why = elim why [
   | inr w ↦ subst (λ (x : Ending). IsInputEnding x) (sym (ending_of e (ending.InputLimit w.0) s (InputLimit w.0) is w.1 refl)) tt
 ]
 
+-- such a run, and one that is fine, ends between two lines
+input_between : (e : Ending) → IsInputEnding e → IsBetweenLines e
+input_between ending.ReadFault i = tt
+input_between (ending.InputLimit taken) i = tt
+input_between ending.Fine i = absurd i
+input_between ending.WriteFault i = absurd i
+input_between ending.NoMemory i = absurd i
+input_between ending.DiskFault i = absurd i
+input_between (ending.Damaged page) i = absurd i
+input_between (ending.PageLimit allotted) i = absurd i
+
+pub ends_between : (e : Ending) (s : Status) → s ≡ status_of e → (s ≡ Fine) ⊎ IsInputStatus s → IsBetweenLines e
+ends_between e s is why = elim why [
+  | inl fine ↦ subst (λ (x : Ending). IsBetweenLines x) (sym (ending_of e ending.Fine s Fine is fine refl)) tt
+  | inr input ↦ input_between e (input_ending e s is input)
+]
+
 pub input_flushes : (e : Ending) → IsInputEnding e → IsFlushed e
 input_flushes ending.ReadFault i = tt
 input_flushes (ending.InputLimit taken) i = tt
@@ -162,3 +179,11 @@ only_fine (PageLimit allotted) ends empty read write disk damaged input limit = 
 pub rises : (f : OpenFault) (old new : ℕ) → MatchBool (is_disk f) (Rose old new × (old ≤ new)) (new ≡ old) → f ≡ fault.Disk → Rose old new
 rises f old new rose is =
     let both : Rose old new × (old ≤ new) = subst (λ (x : OpenFault). MatchBool (is_disk x) (Rose old new × (old ≤ new)) (new ≡ old)) is rose in both.0
+
+-- and it never falls
+pub never_falls : (f : OpenFault) (old new : ℕ) → MatchBool (is_disk f) (Rose old new × (old ≤ new)) (new ≡ old) → old ≤ new
+never_falls fault.Disk old new rose = rose.1
+never_falls fault.Empty old new same = omega (arith, same)
+never_falls (fault.Damaged page) old new same = omega (arith, same)
+never_falls fault.NoMemory old new same = omega (arith, same)
+never_falls (fault.BadJournal page) old new same = omega (arith, same)

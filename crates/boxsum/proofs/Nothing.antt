@@ -1,5 +1,5 @@
 -- Where there is no memory to read the words, nothing is called.
-use Rattle.std.proofs.Common.{◌≡◌, ℕ, List, [], inl, inr, refl, sym, arith}
+use Rattle.std.proofs.Common.{◌≡◌, ◌≢◌, ℕ, List, [], inl, inr, refl, sym, arith}
 use Rattle.std.proofs.lemmas.List.{append-nil}
 use Rattle.bw_types.specs.History.{History}
 use Rattle.bw_types.specs.declared.params.Params.{Params}
@@ -14,14 +14,18 @@ use Rattle.page_disk.specs.declared.disk.Disk.{Ghosts as DiskGhosts}
 use Rattle.dom_index.specs.declared.index.DomIndex.{Ghosts as IndexGhosts}
 use Rattle.row_machine.specs.Ended.{AfterGoesOn, SilentLinesKeep}
 use Rattle.sample_rows.specs.Summary.{summary}
-use Rattle.boxsum.specs.Held.{StaysAsRead}
+use Rattle.page_space.specs.Opened.{StaysAsRead}
 use Rattle.boxsum.specs.Ran.{Answers, AnswersFromNothing, CreateRan, HasPortCause, ReadsToTheEnd, RunRan, Samples, SampleRan, ScratchRan, ServesInput}
-use Rattle.boxsum.specs.Runs.{history_by}
+use Rattle.boxsum.specs.Runs.{IsInputStatus, history_by}
 use Rattle.boxsum.specs.declared.status.Ran.{Ran}
 use Rattle.boxsum.specs.declared.status.Status.{Status}
-use Rattle.boxsum.specs.declared.status.Status.TheVariants.{NoMemory}
+use Rattle.boxsum.specs.declared.status.Status.TheVariants.{Fine, NoMemory}
 use Rattle.boxsum.proofs.Opened.{between_by, between_here, from_here, nothing_replied, writes_nothing}
 use Rattle.boxsum.proofs.Sampling.{no_summary}
+
+-- want of memory does not come from the input
+no_input_here : IsInputStatus NoMemory → ⊥
+no_input_here why = elim why [ inl e ↦ cc | inr w ↦ (let e = w.1 in cc) ]
 
 -- nothing more is left
 pub nothing_left : (P : Image → Type 0) (moments : List Moment) → LeavesOnly P moments moments
@@ -31,23 +35,28 @@ pub stays_read : {D : Type 0} (d : DiskGhosts D) (disk : D) → StaysAsRead d di
 stays_read d disk = record { image = refl; moments = nothing_left (λ x. x ≡ d.image disk) (d.moments disk) }
 
 module _ {S K : Type 0} (s : SourceGhosts S) (k : SinkGhosts K) (source : S) (sink : K) where
-  abbrev pub nothing_served : (ended : Status) (params : Params) (h : History) → ServesInput s k source source sink sink ended params h
-  nothing_served ended params h = record {
-    replied = [];
-    begins = [];
+  abbrev pub nothing_served : (ended : Status) (params : Params) (h : History) → ended ≢ Fine → (IsInputStatus ended → ⊥)
+      → ServesInput s k source source sink sink ended params h
+  nothing_served ended params h fine input = record {
+    served = [];
+    cut_off = [];
     rest = lines (s.left source);
     cut = refl;
     one = omega arith;
+    none_cut_off = λ ends. refl;
+    all = λ e. absurd (fine e);
+    whole_lines = λ why still. absurd (input why);
     read = λ still. record { taken = []; more = []; cut = refl; begins = refl };
-    wrote = λ put disk told still. sym (append-nil (k.written sink));
-    put = λ told still. record { first = []; later = []; more = []; cut = refl; wrote = sym (append-nil (k.written sink)); one = omega arith };
+    part = λ told still. writes_nothing (k.written sink) [];
+    wrote = λ put disk told. (told, sym (append-nil (k.written sink)));
+    put = λ told still. record { first = []; later = []; more = []; cut = refl; wrote = sym (append-nil (k.written sink)); last = inl (omega arith) };
   }
 
   pub nothing_answered : (params : Params) (h : History) → Answers s k source source sink sink NoMemory params h
   nothing_answered params h = record {
     fine = λ e. cc;
     part = λ told tells still. writes_nothing (k.written sink) (text params h (s.left source));
-    whole_lines = λ why. elim why [ inl e ↦ absurd cc | inr w ↦ absurd (let e = w.1 in cc) ];
+    whole_lines = λ why. absurd (no_input_here why);
     undamaged = λ area page e. cc;
     complete = λ told short calm quiet other limit. inr refl;
   }
@@ -59,7 +68,7 @@ module _ {S K : Type 0} (s : SourceGhosts S) (k : SinkGhosts K) (source : S) (si
   nothing_caused = record { read_fault = λ e. cc; write_fault = λ e. cc; input_limit = λ taken e. cc }
 
   pub from_no_history : (params : Params) → AnswersFromNothing s k source source sink sink NoMemory params
-  from_no_history params = record { answers = nothing_answered params []; at_end = nothing_ends; served = λ told. nothing_served NoMemory params [] }
+  from_no_history params = record { answers = nothing_answered params []; at_end = nothing_ends; served = λ told. nothing_served NoMemory params [] (λ e. cc) no_input_here }
 
 module _ {D K X : Type 0} (d : DiskGhosts D) (k : SinkGhosts K) (i : IndexGhosts X) (disk : D) (sink : K) where
   pub no_sample : (start count : ℕ) → Samples d k i disk sink sink (record { status = NoMemory; disk = disk }) start count
@@ -105,18 +114,20 @@ module _ {D S K X : Type 0} (d : DiskGhosts D) (s : SourceGhosts S) (k : SinkGho
   nothing_run silent goes_on = record {
     empty = λ told none. ((refl, refl), stays_read d disk, inr (inr refl));
     empty_only = λ e. cc;
-    refused = λ told none. ((refl, refl), record { cause = tt; stands = λ other pages settled. settled; left = λ other x now. inl now });
+    refused = λ told none. ((refl, refl), record { cause = tt; moments = λ pages settles. nothing_left _ (d.moments disk); stands = λ other pages settled. settled; left = λ other x now. inl now });
     answers = λ params h b. nothing_answered s k source sink params h;
     at_end = nothing_ends s k source sink;
     history = λ params h held. record {
       kept = λ e. cc;
-      whole_kept = λ taken why. elim why [ inl e ↦ absurd cc | inr w ↦ absurd (let e = w.1 in cc) ];
+      whole_kept = λ taken why. absurd (no_input_here why);
       served = λ told. record {
-        served = nothing_served s k source sink NoMemory params h;
+        lines = nothing_served s k source sink NoMemory params h (λ e. cc) no_input_here;
         sure = h;
         which = inl refl;
         holds = λ other. held;
-        left = λ x now. inl now;
+        surely = λ other x now. inl (inr refl, refl, now);
+        left = λ x now. inl (inr refl, refl, now);
+        moments = nothing_left _ (d.moments disk);
       };
       stays = λ told other. between_here i params h (after params h (s.left source)) (d.image disk) (goes_on params h (s.left source)) held.1;
       acknowledged = λ first told tells still r other.
@@ -131,7 +142,7 @@ module _ {D S K X : Type 0} (d : DiskGhosts D) (s : SourceGhosts S) (k : SinkGho
       goes_on = nothing_left _ (d.moments disk);
     };
     reads = λ params h held told may. record {
-      reads = record { served = nothing_served s k source sink NoMemory params h; most = omega arith };
+      reads = record { lines = nothing_served s k source sink NoMemory params h (λ e. cc) no_input_here; most = omega arith };
       stays = λ pages settles other. settles;
       moments = λ pages settles. nothing_left _ (d.moments disk);
       untouched = λ calm. stays_read d disk;

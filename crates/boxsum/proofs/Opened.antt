@@ -7,11 +7,12 @@ use Rattle.bw_types.specs.declared.row.Row.{Row}
 use Rattle.line_reader.specs.Lines.{lines}
 use Rattle.csv_rows.specs.Input.{input as input_of}
 use Rattle.csv_rows.specs.Machine.{State, begun, replies, step}
-use Rattle.page_disk.specs.Image.{Image}
+use Rattle.page_disk.specs.Image.{Image, PageList}
 use Rattle.page_disk.specs.Moment.{Moment, MayBeLeftNow, MayBeLeftSince, clock_of}
 use Rattle.page_disk.specs.Since.{LeavesNow, LeavesOnly}
 use Rattle.page_disk.specs.declared.disk.Disk.{Ghosts}
 use Rattle.redo_journal.specs.Gates.{is_empty}
+use Rattle.redo_journal.specs.Settled.{SettlesTo}
 use Rattle.page_space.specs.Faults.{AtBadJournal, AtDamaged, AtEmpty}
 use Rattle.page_space.specs.Opening.{StandsAlike}
 use Rattle.page_space.specs.Settling.{IsBadAt}
@@ -65,11 +66,13 @@ refusal dims x told t (fault.BadJournal page) empty bad damaged = bad t
 pub refuses : {D : Type 0} (g : Ghosts D) (dims : ℕ) (old : D) (f : OpenFault) (ran : Ran D) → IsTrue (g.tells old) → ran.status ≡ status_of_fault f
     → AtEmpty f (IsTrue (g.tells old) → is_empty (g.image old) ≡ true) → AtBadJournal f (λ page. IsTrue (g.tells old) → IsBadAt (g.image old) page)
     → AtDamaged f (λ page. IsTrue (g.tells old) → IsDamagedToOpen dims (g.image old) page)
+    → ((pages : PageList) → SettlesTo (g.image old) pages → LeavesOnly (λ x. SettlesTo x pages) (g.moments old) (g.moments ran.disk))
     → (f ≢ fault.Disk → IsTrue (g.tells old) → StandsAlike (g.image old) (g.image ran.disk))
     → (f ≢ fault.Disk → IsTrue (g.tells old) → LeavesNow (g.moments ran.disk) (g.image ran.disk))
     → Refuses g dims old ran
-refuses g dims old f ran told is empty bad damaged stands left = record {
+refuses g dims old f ran told is empty bad damaged moments stands left = record {
   cause = subst (λ (s : Status). IsRefusal dims (g.image old) s) (sym is) (refusal dims (g.image old) (IsTrue (g.tells old)) told f empty bad damaged);
+  moments = moments;
   stands = λ other. stands (λ e. other (is ∙ ap status_of_fault e)) told;
   left = λ other x now. inr (left (λ e. other (is ∙ ap status_of_fault e)) told x now);
 }

@@ -19,9 +19,9 @@ use Rattle.page_layout.specs.Meta.{IsMeta, IsTyped, meta_in}
 use Rattle.page_layout.specs.MetaLaws.{meta_in-page}
 use Rattle.page_layout.specs.TreeValue.{IsTreeTyped, tree_fits}
 use Rattle.page_warehouse.specs.Created.{IsNew, new_meta}
-use Rattle.page_warehouse.specs.Needs.{meta_charge}
+use Rattle.page_warehouse.specs.Needs.{meta_charge, pages_charge}
 use Rattle.sample_rows.specs.Summary.{WritesSummary, sample_params, summary_with}
-use Rattle.boxsum.specs.Held.{HoldsBetween, IsEmptyOrPart, charge_in}
+use Rattle.boxsum.specs.Held.{HoldsBetween, IsEmptyOrPart}
 use Rattle.boxsum.specs.Statuses.{status_amid}
 use Rattle.boxsum.specs.declared.status.Status.{Status}
 use Rattle.boxsum.specs.declared.status.Status.TheVariants.{Fine, Usage, NoWarehouse, AlreadyThere, ReadFault, WriteFault, DiskFault, NoMemory, Damaged, InputLimit, PageLimit}
@@ -197,12 +197,12 @@ new_meta_typed = record {
   roots = all_empty 4 IsTreeTyped empty_typed;
 }
 
-pub new_charge : (x : Image) (pages : PageList) → IsNew sample_params x → SettlesTo x pages → charge_in pages ≡ 3
+pub new_charge : (x : Image) (pages : PageList) → IsNew sample_params x → SettlesTo x pages → pages_charge pages ≡ 3
 new_charge x pages new settles =
-    let here : charge_in x.pages ≡ 3 =
+    let here : pages_charge x.pages ≡ 3 =
     ap (λ (bytes : List ℕ). meta_charge (meta_in bytes)) new.meta_is ∙ ap meta_charge (meta_in-page (new_meta sample_params) new_meta_typed new_meta_rules) in
     elim settles.settled [
-      | inl w ↦ ap charge_in w.1 ∙ here
+      | inl w ↦ ap pages_charge w.1 ∙ here
       | inr w ↦ absurd (let no : true ≡ false = sym w.0 ∙ new.closed in cc)
     ]
 

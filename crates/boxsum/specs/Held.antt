@@ -14,9 +14,9 @@ use Rattle.page_space.specs.Opening.{StandsAlike}
 use Rattle.page_space.specs.Settling.{IsBadAt}
 use Rattle.page_space.specs.Space.{HoldsSpace}
 use Rattle.redo_journal.specs.Gates.{is_empty}
+use Rattle.redo_journal.specs.Settled.{SettlesTo}
 use Rattle.dom_index.specs.declared.index.DomIndex.{Ghosts as IndexGhosts}
 use Rattle.page_warehouse.specs.Holds.{Holds}
-use Rattle.page_warehouse.specs.Needs.{charge_of}
 use Rattle.page_warehouse.specs.Opened.{GoTogether, IsDamagedToOpen}
 use Rattle.page_warehouse.specs.Shown.{HoldsHistory}
 use Rattle.row_machine.specs.Housed.{GoesOnFrom}
@@ -32,10 +32,6 @@ CommitsNothing params input = MayServe false params (lines input)
 -- each image that a crash now may leave has P
 abbrev pub LeavesEach : (Image → Type 0) → List Moment → Type 0
 LeavesEach P moments = (x : Image) → MayBeLeftNow moments x → P x
-
--- what counts against the limit of pages, in these pages
-abbrev pub charge_in : PageList → ℕ
-charge_in pages = charge_of (record { pages = pages; journal = [] })
 
 -- There is no warehouse in the image over so many dimensions at most: it is no space, or the numbers of its meta page do not go together.
 abbrev pub IsNoWarehouse : ℕ → Image → Type 0
@@ -92,15 +88,11 @@ module _ {X : Type 0} (i : IndexGhosts X) where
   MakesAndLoads params whole old new = LeavesOnly (IsEmptyOrHolds params []) old new ⊎ Loads params whole old new
 
 module _ {D : Type 0} (g : Ghosts D) where
-  -- Nothing was written: the disk reads as before, and a crash leaves no more than what it might have left, or that.
-  pub record StaysAsRead (old new : D) : Type 0 where
-    pub image : g.image new ≡ g.image old
-    pub moments : LeavesOnly (λ x. x ≡ g.image old) (g.moments old) (g.moments new)
-
-  -- The run was refused with its cause, and unless the device failed the disk stands for the pages that it stood for, and a crash now
-  -- leaves no more than it might have left before, or that.
+  -- The run was refused with its cause. A crash at any moment left what it might have left before, or a disk that stands for the same pages.
+  -- Unless the device failed the disk stands for them too, and a crash now leaves no more than it might have left before, or that disk.
   pub record Refuses (dims : ℕ) (old : D) (ran : Ran D) : Type 0 where
     pub cause : IsRefusal dims (g.image old) ran.status
+    pub moments : (pages : PageList) → SettlesTo (g.image old) pages → LeavesOnly (λ x. SettlesTo x pages) (g.moments old) (g.moments ran.disk)
     pub stands : ran.status ≢ DiskFault → StandsAlike (g.image old) (g.image ran.disk)
     pub left : ran.status ≢ DiskFault → (x : Image) → MayBeLeftNow (g.moments ran.disk) x → MayBeLeftNow (g.moments old) x ⊎ (x ≡ g.image ran.disk)
 

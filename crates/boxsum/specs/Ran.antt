@@ -1,5 +1,5 @@
 -- What a run of the program leaves behind, command by command.
-use Rattle.std.specs.Prelude.{◌≡◌, ◌≢◌, ◌⊎◌, ℕ, ◌+◌, ◌<◌, ◌≤◌, ◌^◌, ◌++◌, List, [], true, false, IsTrue, length}
+use Rattle.std.specs.Prelude.{◌≡◌, ◌≢◌, ◌⊎◌, ℕ, ◌+◌, ◌<◌, ◌≤◌, ◌^◌, ◌++◌, List, [], Some, None, true, false, IsTrue, length}
 use Rattle.counts.specs.Count.{Rose}
 use Rattle.bw_types.specs.History.{History}
 use Rattle.bw_types.specs.declared.params.Params.{Params}
@@ -7,6 +7,7 @@ use Rattle.byte_ports.specs.declared.Source.{Ghosts as SourceGhosts}
 use Rattle.byte_ports.specs.declared.Sink.{Ghosts as SinkGhosts}
 use Rattle.line_reader.specs.Lines.{lines, whole_part}
 use Rattle.csv_rows.specs.Machine.{after, begun, text}
+use Rattle.command_words.specs.declared.command.Command.TheVariants as command
 use Rattle.page_disk.specs.Image.{Image, PageList}
 use Rattle.page_disk.specs.Moment.{MayBeLeftNow}
 use Rattle.page_disk.specs.Since.{LeavesOnly}
@@ -14,21 +15,26 @@ use Rattle.page_disk.specs.declared.disk.Area.{Area}
 use Rattle.page_disk.specs.declared.disk.Disk.{Ghosts as DiskGhosts}
 use Rattle.page_layout.specs.declared.meta.Meta.{Meta}
 use Rattle.page_ports.specs.Pages.{PageMap}
+use Rattle.page_space.specs.Opened.{StaysAsRead}
 use Rattle.page_space.specs.Settling.{HasNoReplay, replay_reads}
 use Rattle.page_space.specs.Space.{HoldsSpace}
 use Rattle.redo_journal.specs.Gates.{is_empty}
 use Rattle.redo_journal.specs.Settled.{SettlesTo}
 use Rattle.dom_index.specs.declared.index.DomIndex.{Ghosts as IndexGhosts}
 use Rattle.page_warehouse.specs.Costs.{query_cost}
-use Rattle.page_warehouse.specs.Needs.{batch_need}
+use Rattle.page_warehouse.specs.Holds.{Holds}
+use Rattle.page_warehouse.specs.Needs.{batch_need, pages_charge}
 use Rattle.page_warehouse.specs.Shown.{HoldsHistory}
 use Rattle.row_machine.specs.Runs.{WritesPart}
 use Rattle.row_machine.specs.Serving.{lines_need}
 use Rattle.sample_rows.specs.Generator.{rows}
 use Rattle.sample_rows.specs.Summary.{WritesSummary, sample_history, sample_params, summary}
-use Rattle.boxsum.specs.Held.{BeginsWith, CommitsNothing, HoldsBetween, HoldsFrom, HoldsSurely, IsEmptyOrHolds, IsEmptyOrPart, IsNoWarehouse, LeavesEach, MakesAndLoads, Refuses, StaysAsRead, charge_in}
+use Rattle.boxsum.specs.Built.{built_command}
+use Rattle.boxsum.specs.Ends as ends
+use Rattle.boxsum.specs.Held.{BeginsWith, CommitsNothing, HoldsBetween, HoldsFrom, HoldsSurely, IsEmptyOrHolds, IsEmptyOrPart, IsNoWarehouse, LeavesEach, MakesAndLoads, Refuses}
 use Rattle.boxsum.specs.Runs.{AreReplied, IsInputStatus, LacksPagesAmid, LacksPagesNext, ReadsForLines, ServesLines, WritesWholeLines, history_by}
 use Rattle.boxsum.specs.declared.status.Ran.{Ran}
+use Rattle.boxsum.specs.declared.status.RanTwo.{RanTwo}
 use Rattle.boxsum.specs.declared.status.Status.{Status}
 use Rattle.boxsum.specs.declared.status.Status.TheVariants as status
 
@@ -145,16 +151,25 @@ module _ {D S K X : Type 0} (d : DiskGhosts D) (s : SourceGhosts S) (k : SinkGho
     pub source_stays : source' ≡ source
     pub samples : Samples d k i disk sink sink' ran start count
 
+  -- The disk failed, or there was no memory: the warehouse may not have been opened.
+  abbrev pub MayNotHaveOpened : Type 0
+  MayNotHaveOpened = (ran.status ≡ status.DiskFault) ⊎ (ran.status ≡ status.NoMemory)
+
   -- Of the input some lines were served, and at most one more was begun. The disk, unless it failed, holds the history after the first
-  -- or after both, and no batch of a later line. A crash now leaves what might have been left before, or no less than the one, and no more
-  -- than the other, also where the disk failed.
+  -- or after both, and no batch of a later line, and a crash now leaves that history. A crash at any moment left what might have been left
+  -- before, or no more than that with the line that was begun. Where the disk failed, a crash now leaves no less than the lines that were
+  -- served have made sure. What might have been left before may be left only where nothing was begun, since the warehouse was not opened.
   pub record KeepsServed (params : Params) (h : History) : Type 0 where
-    pub served : ServesInput s k source source' sink sink' ran.status params h
+    pub lines : ServesInput s k source source' sink sink' ran.status params h
     pub sure : History
-    pub which : (sure ≡ history_by params h served.replied) ⊎ (sure ≡ history_by params h (served.replied ++ served.begins))
+    pub which : (sure ≡ history_by params h lines.served) ⊎ (sure ≡ history_by params h (lines.served ++ lines.cut_off))
     pub holds : ran.status ≢ status.DiskFault → HoldsHistory d i true ran.disk params sure
+    pub surely : ran.status ≢ status.DiskFault → (x : Image) → MayBeLeftNow (d.moments ran.disk) x
+        → (MayNotHaveOpened × (lines.served ++ lines.cut_off ≡ []) × MayBeLeftNow (d.moments disk) x) ⊎ Holds i x params sure
     pub left : (x : Image) → MayBeLeftNow (d.moments ran.disk) x
-        → MayBeLeftNow (d.moments disk) x ⊎ HoldsBetween i params sure (history_by params h (served.replied ++ served.begins)) x
+        → (MayNotHaveOpened × (lines.served ++ lines.cut_off ≡ []) × MayBeLeftNow (d.moments disk) x)
+        ⊎ HoldsBetween i params sure (history_by params h (lines.served ++ lines.cut_off)) x
+    pub moments : LeavesOnly (HoldsBetween i params h (history_by params h (lines.served ++ lines.cut_off))) (d.moments disk) (d.moments ran.disk)
 
   -- The history that the disk is left with, where it held this one.
   pub record LeavesHistory (params : Params) (h : History) : Type 0 where
@@ -162,7 +177,7 @@ module _ {D S K X : Type 0} (d : DiskGhosts D) (s : SourceGhosts S) (k : SinkGho
     pub kept : ran.status ≡ status.Fine → IsTrue (s.tells source) → HoldsSurely d i params (after params h (s.left source)) ran.disk
     pub whole_kept : (taken : List ℕ) → IsInputStatus ran.status → IsTrue (s.tells source) → IsTrue (s.tells source') → s.left source ≡ taken ++ s.left source'
         → HoldsHistory d i true ran.disk params (after params h (whole_part taken))
-    -- However it ends: those of the lines that were served, and at most of the one that was begun.
+    -- However it ends: those of the lines that were served, and at most of the one that was cut off.
     pub served : IsTrue (s.tells source) → KeepsServed params h
     -- That is a first part of what the input gives, in which what is acknowledged stays.
     pub stays : IsTrue (s.tells source) → ran.status ≢ status.DiskFault → HoldsBetween i params h (after params h (s.left source)) (d.image ran.disk)
@@ -172,14 +187,15 @@ module _ {D S K X : Type 0} (d : DiskGhosts D) (s : SourceGhosts S) (k : SinkGho
     -- Whatever the source gives, the history only goes on.
     pub goes_on : ran.status ≢ status.DiskFault → IsTrue (d.tells ran.disk) × HoldsFrom i params h (d.image ran.disk)
 
-  -- What a stop at any moment of the run leaves of such a disk, beside what might have been left before.
+  -- What a stop at any moment of the run leaves of such a disk, beside what might have been left before; what is acknowledged speaks of the
+  -- moment at which the run ends. (A stop is a disk whose later calls all fail.)
   pub record CrashesLeave (params : Params) (h : History) : Type 0 where
     -- A first part of what the input gives.
     pub between : IsTrue (s.tells source) → LeavesOnly (HoldsBetween i params h (after params h (s.left source))) (d.moments disk) (d.moments ran.disk)
     -- What is acknowledged is in it.
     pub acknowledged : (first : List (List ℕ)) → IsTrue (s.tells source) → IsTrue (k.tells sink) → IsTrue (k.tells sink')
         → AreReplied params h (s.left source) (k.written sink) (k.written sink') first
-        → ((ran.status ≡ status.DiskFault) ⊎ (ran.status ≡ status.NoMemory) → history_by params h first ≢ h)
+        → (MayNotHaveOpened → history_by params h first ≢ h)
         → LeavesEach (HoldsBetween i params (history_by params h first) (after params h (s.left source))) (d.moments ran.disk)
     -- Whatever the source gives, a history that goes on from this one.
     pub goes_on : LeavesOnly (HoldsFrom i params h) (d.moments disk) (d.moments ran.disk)
@@ -201,7 +217,7 @@ module _ {D S K X : Type 0} (d : DiskGhosts D) (s : SourceGhosts S) (k : SinkGho
     pub lacks : (allotted : ℕ) → ran.status ≡ status.PageLimit allotted → IsTrue (s.tells source)
         → LacksPagesNext i params h (s.left source) (d.image ran.disk) (k.tells sink) (k.tells sink') (k.written sink) (k.written sink') allotted
     pub enough_pages : (pages : PageList) (allotted : ℕ) → IsTrue (s.tells source) → SettlesTo (d.image disk) pages
-        → charge_in pages + lines_need batch_need params 1 (begun h) (lines (s.left source)) ≤ params.pages → ran.status ≢ status.PageLimit allotted
+        → pages_charge pages + lines_need batch_need params 1 (begun h) (lines (s.left source)) ≤ params.pages → ran.status ≢ status.PageLimit allotted
 
   -- `run`: the warehouse on the disk was opened, and the rows of the source were answered and put into it.
   pub record RunRan : Type 0 where
@@ -223,3 +239,25 @@ module _ {D S K X : Type 0} (d : DiskGhosts D) (s : SourceGhosts S) (k : SinkGho
     pub pages : (params : Params) (h : History) → HoldsHistory d i true disk params h → LimitsPages params h
     pub at_limit : (params : Params) (meta : Meta) (pages : PageMap) (allotted : ℕ) → IsTrue (d.tells disk) → HoldsSpace (d.image disk) params meta pages ⊥
         → ran.status ≡ status.PageLimit allotted → allotted ≡ params.pages
+
+  -- What these words ask for was carried out.
+  pub record Carried (words : List (List ℕ)) : Type 0 where
+    -- Words that are no command, or none that is built, are refused, and nothing is called.
+    pub usage : built_command words ≡ None → Untouched source source' sink sink' × (ran.disk ≡ disk)
+        × ((ran.status ≡ status.Usage) ⊎ (ran.status ≡ status.NoMemory))
+    pub usage_only : ran.status ≡ status.Usage → built_command words ≡ None
+    -- What each command leaves.
+    pub scratch : (params : Params) → built_command words ≡ Some (command.Scratch params) → ScratchRan params
+    pub create : (params : Params) → built_command words ≡ Some (command.Create params) → CreateRan params
+    pub run : built_command words ≡ Some command.Run → RunRan
+    pub sample : (start count : ℕ) → built_command words ≡ Some (command.Sample start count) → SampleRan start count
+    -- With which statuses each may end, and what they come from.
+    pub may_end : IsTrue (ends.may_end (built_command words) ran.status)
+    pub causes : HasCause
+    -- However it ends, the disk tells what it told, and no failure of it is forgotten.
+    pub tells : d.tells ran.disk ≡ d.tells disk
+    pub faults : d.faults disk ≤ d.faults ran.disk
+
+-- what became of the first of two disks
+abbrev pub first_of : {D E : Type 0} → RanTwo D E → Ran D
+first_of ran = record { status = ran.status; disk = ran.disk }

@@ -1,5 +1,5 @@
 -- What a run of the program has read, written and kept when it ends.
-use Rattle.std.specs.Prelude.{◌≡◌, ◌≢◌, ◌⊎◌, ℕ, ◌+◌, ◌≤◌, Bool, IsTrue, List, ◌∷◌, ◌++◌, length}
+use Rattle.std.specs.Prelude.{◌≡◌, ◌≢◌, ◌⊎◌, ℕ, ◌+◌, ◌≤◌, Bool, IsTrue, List, [], ◌∷◌, ◌++◌, length}
 use Rattle.bw_types.specs.History.{History}
 use Rattle.bw_types.specs.declared.params.Params.{Params}
 use Rattle.bw_types.specs.declared.query.Query.{Query}
@@ -11,9 +11,10 @@ use Rattle.dom_index.specs.declared.index.DomIndex.{Ghosts as IndexGhosts}
 use Rattle.page_warehouse.specs.Holds.{Holds}
 use Rattle.page_warehouse.specs.Needs.{LacksPages}
 use Rattle.row_machine.specs.Housed.{IsVersion, rows_committed}
-use Rattle.row_machine.specs.Serving.{PutsAllButOne, TakesLines, lines_cost}
+use Rattle.row_machine.specs.Runs.{WritesPart}
+use Rattle.row_machine.specs.Serving.{PutsAllButOne, TakesLines, TakesWhole, lines_cost}
 use Rattle.boxsum.specs.declared.status.Status.{Status}
-use Rattle.boxsum.specs.declared.status.Status.TheVariants.{WriteFault, DiskFault, ReadFault, InputLimit}
+use Rattle.boxsum.specs.declared.status.Status.TheVariants.{Fine, WriteFault, DiskFault, ReadFault, InputLimit}
 
 -- the input ended the run within a line
 abbrev pub IsInputStatus : Status → Type 0
@@ -41,23 +42,28 @@ pub record AreReplied (params : Params) (h : History) (input before after : List
   pub cut : lines input ≡ first ++ later
   pub wrote : after ≡ before ++ (replies params 1 (begun h) first ++ more)
 
--- Which lines of the input were carried out when a run ends so: some were replied, at most one was begun then, all of them lines that were
--- taken from the source, and none of the rest was. Their replies are written, unless the sink or the disk failed; and at most one batch is
--- put into the history whose reply is not written whole.
+-- Which lines of the input were carried out when a run ends so: some were served, at most one was cut off by the end, all of them lines
+-- that were taken from the source, and none of the rest was begun. Where the run is fine or the input ends it, none was cut off: these are
+-- all lines, or all whole ones that were taken. What was written is a part of their replies, from its beginning; all of them, unless the
+-- sink or the disk failed. And at most one batch is put into the history whose reply is not written whole, that of the last of these lines.
 pub record ServesLines (params : Params) (h : History) (input left : List ℕ) (still : Bool) (status : Status) (told told' : Bool) (before after : List ℕ) : Type 0 where
-  pub replied : List (List ℕ)
-  pub begins : List (List ℕ)
+  pub served : List (List ℕ)
+  pub cut_off : List (List ℕ)
   pub rest : List (List ℕ)
-  pub cut : lines input ≡ replied ++ (begins ++ rest)
-  pub one : length begins ≤ 1
-  pub read : IsTrue still → TakesLines input left (replied ++ begins)
-  pub wrote : status ≢ WriteFault → status ≢ DiskFault → IsTrue told → IsTrue told' → after ≡ before ++ replies params 1 (begun h) replied
-  pub put : IsTrue told → IsTrue told' → PutsAllButOne params (begun h) replied begins before after
+  pub cut : lines input ≡ served ++ (cut_off ++ rest)
+  pub one : length cut_off ≤ 1
+  pub none_cut_off : (status ≡ Fine) ⊎ IsInputStatus status → cut_off ≡ []
+  pub all : status ≡ Fine → rest ≡ []
+  pub whole_lines : IsInputStatus status → IsTrue still → TakesWhole input left served
+  pub read : IsTrue still → TakesLines input left (served ++ cut_off)
+  pub part : IsTrue told → IsTrue told' → WritesPart before after (replies params 1 (begun h) served)
+  pub wrote : status ≢ WriteFault → status ≢ DiskFault → IsTrue told → IsTrue told' × (after ≡ before ++ replies params 1 (begun h) served)
+  pub put : IsTrue told → IsTrue told' → PutsAllButOne params (begun h) served cut_off before after
 
 -- So many reads at most, from so many on: a query among those lines may read what it costs.
 pub record ReadsForLines (cost : Params → History → Query → ℕ) (params : Params) (h : History) (still : Bool) (input left : List ℕ) (status : Status) (told told' : Bool) (before after : List ℕ) (first last : ℕ) : Type 0 where
-  pub served : ServesLines params h input left still status told told' before after
-  pub most : last ≤ first + lines_cost cost params 1 (begun h) (served.replied ++ served.begins)
+  pub lines : ServesLines params h input left still status told told' before after
+  pub most : last ≤ first + lines_cost cost params 1 (begun h) (lines.served ++ lines.cut_off)
 
 module _ {X : Type 0} (i : IndexGhosts X) where
   -- A commit of the input that no rule refuses lacks pages on this disk, which still holds the history before it.

@@ -26,5 +26,5 @@ mod status;
 mod tests;
 
 pub use index::Index;
-pub use running::run;
-pub use status::{Ran, Status};
+pub use running::{run, run_two};
+pub use status::{Ran, RanTwo, Status};

@@ -1,21 +1,20 @@
 //! The top call.
-ghost use Rattle.std.specs.Prelude.{◌≡◌, ◌≤◌, ◌⊎◌, ℕ, IsTrue, Some, None, map, string_bytes};
+ghost use Rattle.std.specs.Prelude.{◌≡◌, ◌≤◌, ◌⊎◌, IsTrue, map, string_bytes};
 ghost use Rattle.counts.specs.Count.{Rose};
 ghost use Rattle.bw_types.specs.declared.params.Params.{Params};
 ghost use Rattle.bw_types.specs.Fits.{IsInRange};
 ghost use Rattle.page_warehouse.specs.Created.{IsNew};
-ghost use Rattle.boxsum.specs.Built.{built_command};
-ghost use Rattle.boxsum.specs.Ends.{ends_run, ends_scratch, may_end};
-ghost use Rattle.boxsum.specs.Ran.{AnswersFromNothing, CreateRan, HasCause, HasPortCause, MakesEmpty, RunRan, SampleRan, ScratchRan, Untouched};
+ghost use Rattle.boxsum.specs.Ends.{ends_run, ends_scratch};
+ghost use Rattle.boxsum.specs.Ran.{AnswersFromNothing, Carried, HasCause, HasPortCause, MakesEmpty, RunRan, first_of};
 
 use crate::index::Index;
 use crate::sample::sample_on;
-use crate::status::{Ran, Status};
+use crate::status::{Ran, RanTwo, Status};
 use bw_types::Params;
 use byte_ports::{Sink, Source};
 use command_words::{Command, WordsFault, read_words};
 use dom_index::DomIndex;
-use page_disk::Disk;
+use page_disk::{Disk, PlainDisk};
 use page_space::holds_one;
 use page_warehouse::{Created, Warehouse, create, created_holds, holding_laws};
 use redo_journal::settling_laws;
@@ -31,7 +30,7 @@ use warehouse::ListHouse;
 /// source has left, cut in whatever pieces; where the run ends early it is a part of that text, from its beginning. The disk goes in
 /// by value, and comes back at every end.
 ///
-/// What each command leaves is a record of its own, in specs/Ran.antt.
+/// What the words ask for, what each command leaves, and with which statuses it may end, is the record `Carried` of specs/Ran.antt.
 pub fn run<D: Disk + Drop, S: Source, K: Sink>(
     alloc: Global,
     words: &[String],
@@ -39,22 +38,49 @@ pub fn run<D: Disk + Drop, S: Source, K: Sink>(
     source: &mut S,
     sink: &mut K,
 ) -> Ran<D>
-    // Words that are no command, or none that is built, are refused, and nothing is called.
-    ensures usage { built_command (map string_bytes words.now) ≡ None → Untouched source.old source.new sink.old sink.new
-        × (result.disk ≡ disk) × ((result.status ≡ Status.Usage) ⊎ (result.status ≡ Status.NoMemory)) }
-    ensures usage_only { result.status ≡ Status.Usage → built_command (map string_bytes words.now) ≡ None }
-    // What each command leaves.
-    ensures scratch { (params : Params) → built_command (map string_bytes words.now) ≡ Some (Command.Scratch params)
-        → ScratchRan D.Disk S.Source K.Sink ⟦<Index as DomIndex>⟧ disk source.old source.new sink.old sink.new result params }
-    ensures create { (params : Params) → built_command (map string_bytes words.now) ≡ Some (Command.Create params)
-        → CreateRan D.Disk S.Source K.Sink ⟦<Index as DomIndex>⟧ disk source.old source.new sink.old sink.new result params }
-    ensures run { built_command (map string_bytes words.now) ≡ Some Command.Run
-        → RunRan D.Disk S.Source K.Sink ⟦<Index as DomIndex>⟧ disk source.old source.new sink.old sink.new result }
-    ensures sample { (start count : ℕ) → built_command (map string_bytes words.now) ≡ Some (Command.Sample start count)
-        → SampleRan D.Disk S.Source K.Sink ⟦<Index as DomIndex>⟧ disk source.old source.new sink.old sink.new result start count }
-    // With which statuses each may end, and what they come from.
-    ensures may_end { IsTrue (may_end (built_command (map string_bytes words.now)) result.status) }
-    ensures causes { HasCause D.Disk S.Source K.Sink ⟦<Index as DomIndex>⟧ disk source.old source.new sink.old sink.new result }
+    ensures carried { Carried D.Disk S.Source K.Sink ⟦<Index as DomIndex>⟧ disk source.old source.new sink.old sink.new result (map string_bytes words.now) }
+{
+    // No command that is built calls a second disk: a blank one in memory will do.
+    let second = PlainDisk::blank(alloc);
+    let RanTwo {
+        status,
+        disk,
+        second: _,
+    } = run_two(alloc, words, disk, second, source, sink);
+    Ran { status, disk }
+}
+
+/// Carries out the command that the words ask for where there are two disks.
+///
+/// The commands are those of [`run`], and work on the first disk. None of them calls the second, which comes back as it was.
+pub fn run_two<D: Disk + Drop, E: Disk, S: Source, K: Sink>(
+    alloc: Global,
+    words: &[String],
+    disk: D,
+    second: E,
+    source: &mut S,
+    sink: &mut K,
+) -> RanTwo<D, E>
+    ensures carried { Carried D.Disk S.Source K.Sink ⟦<Index as DomIndex>⟧ disk source.old source.new sink.old sink.new (first_of result) (map string_bytes words.now) }
+    ensures second { result.second ≡ second }
+{
+    let Ran { status, disk } = carry_out(alloc, words, disk, source, sink);
+    RanTwo {
+        status,
+        disk,
+        second,
+    }
+}
+
+// Carries out a command that works on one disk.
+fn carry_out<D: Disk + Drop, S: Source, K: Sink>(
+    alloc: Global,
+    words: &[String],
+    disk: D,
+    source: &mut S,
+    sink: &mut K,
+) -> Ran<D>
+    ensures carried { Carried D.Disk S.Source K.Sink ⟦<Index as DomIndex>⟧ disk source.old source.new sink.old sink.new result (map string_bytes words.now) }
 {
     machine_laws();
     match read_words(alloc, words) {
@@ -116,6 +142,8 @@ pub(crate) fn run_on<X: DomIndex + Drop, D: Disk + Drop, S: Source, K: Sink>(
     ensures ran { RunRan D.Disk S.Source K.Sink X.DomIndex disk source.old source.new sink.old sink.new result }
     ensures may_end { IsTrue (ends_run result.status) }
     ensures causes { HasCause D.Disk S.Source K.Sink X.DomIndex disk source.old source.new sink.old sink.new result }
+    ensures tells { D.tells result.disk ≡ D.tells disk }
+    ensures faults { D.faults disk ≤ D.faults result.disk }
 {
     ends_laws::<Warehouse<D, X>>();
     machine_laws();

@@ -1,22 +1,21 @@
 //! `sample`: a warehouse that is loaded with rows that are drawn, and the summary of what they are answered.
-ghost use Rattle.std.specs.Prelude.{◌≡◌, ◌≢◌, ℕ, ◌+◌, ◌≤◌, ◌++◌, ◌⊎◌, [], true, false, IsTrue};
+ghost use Rattle.std.specs.Prelude.{◌≡◌, ◌≢◌, ℕ, ◌+◌, ◌≤◌, ◌++◌, ◌⊎◌, [], true, IsTrue};
 ghost use Rattle.std.specs.Int.{int_wrap, w128};
 ghost use Rattle.counts.specs.Count.{Rose};
 ghost use Rattle.line_reader.specs.Lines.{lines};
 ghost use Rattle.csv_rows.specs.Machine.{after, begun, text as text_of};
 ghost use Rattle.page_disk.specs.Since.{LeavesOnly};
 ghost use Rattle.page_disk.specs.declared.disk.Area.{Area as AreaName};
-ghost use Rattle.redo_journal.specs.Gates.{is_empty};
 ghost use Rattle.redo_journal.specs.Settled.{SettlesTo};
 ghost use Rattle.page_disk.specs.Image.{PageList};
-ghost use Rattle.page_warehouse.specs.Needs.{batch_need};
+ghost use Rattle.page_warehouse.specs.Needs.{batch_need, pages_charge};
 ghost use Rattle.row_machine.specs.Serving.{lines_need};
 ghost use Rattle.page_warehouse.specs.Shown.{HoldsHistory};
 ghost use Rattle.row_machine.specs.Runs.{WritesPart};
 ghost use Rattle.sample_rows.specs.Generator.{rows};
-ghost use Rattle.sample_rows.specs.Summary.{WritesSummary, answers_in as answers_of, sample_history, sample_params as params_of_sample, summary, summary_with};
+ghost use Rattle.sample_rows.specs.Summary.{WritesSummary, answers_in as answers_of, sample_params as params_of_sample, summary, summary_with};
 ghost use Rattle.boxsum.specs.Ends.{ends_sample};
-ghost use Rattle.boxsum.specs.Held.{HoldsBetween, HoldsSurely, IsEmptyOrPart, MakesAndLoads, StaysAsRead, charge_in};
+ghost use Rattle.boxsum.specs.Held.{HoldsBetween, HoldsSurely};
 ghost use Rattle.boxsum.specs.Ran.{Samples};
 ghost use Rattle.boxsum.specs.Runs.{LacksPagesAmid};
 ghost use Rattle.boxsum.specs.Statuses.{status_amid};
@@ -45,6 +44,8 @@ pub(crate) fn sample_on<X: DomIndex + Drop, D: Disk + Drop, K: Sink>(
     ensures may_end { IsTrue (ends_sample result.status) }
     ensures write_fault { result.status ≡ Status.WriteFault → Rose (K.faults sink.old) (K.faults sink.new) }
     ensures disk_fault { result.status ≡ Status.DiskFault → Rose (D.faults disk) (D.faults result.disk) }
+    ensures tells { D.tells result.disk ≡ D.tells disk }
+    ensures faults { D.faults disk ≤ D.faults result.disk }
 {
     let Ok(text) = sample_text(alloc, start, count) else {
         return Ran {
@@ -85,12 +86,14 @@ fn load<X: DomIndex + Drop, D: Disk + Drop, K: Sink>(
     ensures limit { (allotted : ℕ) → HoldsHistory D.Disk X.DomIndex true disk params_of_sample [] → result.status ≡ Status.PageLimit allotted →
         LacksPagesAmid X.DomIndex params_of_sample [] text.items (D.image result.disk) allotted }
     ensures enough { (pages : PageList) (allotted : ℕ) → HoldsHistory D.Disk X.DomIndex true disk params_of_sample [] → SettlesTo (D.image disk) pages →
-        charge_in pages + lines_need batch_need params_of_sample 1 (begun []) (lines text.items) ≤ params_of_sample.pages → result.status ≢ Status.PageLimit allotted }
+        pages_charge pages + lines_need batch_need params_of_sample 1 (begun []) (lines text.items) ≤ params_of_sample.pages → result.status ≢ Status.PageLimit allotted }
     ensures complete { HoldsHistory D.Disk X.DomIndex true disk params_of_sample [] → (Rose (K.faults sink.old) (K.faults sink.new) → ⊥) →
         result.status ≢ Status.DiskFault → ((allotted : ℕ) → result.status ≢ Status.PageLimit allotted) →
         (result.status ≡ Status.Fine) ⊎ (result.status ≡ Status.NoMemory) }
     ensures write_fault { result.status ≡ Status.WriteFault → Rose (K.faults sink.old) (K.faults sink.new) }
     ensures disk_fault { result.status ≡ Status.DiskFault → Rose (D.faults disk) (D.faults result.disk) }
+    ensures tells { D.tells result.disk ≡ D.tells disk }
+    ensures faults { D.faults disk ≤ D.faults result.disk }
 {
     let mut source = MemSource::new(text, PIECE, Vec::new(alloc));
     let mut replies = MemSink::new(alloc, Vec::new(alloc));

@@ -43,6 +43,14 @@ pub struct Ran<D> {
     pub disk: D,
 }
 
+/// How a command ended, and the two disks that it was given.
+#[derive(Drop)]
+pub struct RanTwo<D, E> {
+    pub status: Status,
+    pub disk: D,
+    pub second: E,
+}
+
 impl Status {
     /// The number of the status.
     pub fn code(self) -> u8

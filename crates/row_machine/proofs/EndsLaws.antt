@@ -13,7 +13,7 @@ use Rattle.row_machine.specs.declared.desk.Desk.{Desk}
 use Rattle.row_machine.specs.declared.ending.Ran.{Ran}
 use Rattle.row_machine.specs.declared.ending.Ending.{Ending}
 use Rattle.row_machine.specs.declared.ending.Ending.TheVariants.{Fine, DiskFault, Damaged, PageLimit}
-use Rattle.row_machine.specs.Housed.{GoesOnFrom, IsHouseEnding, IsVersion, KeepsDevice, MayTake, rows_committed, SettledBetween, OnlyBetween, version_need}
+use Rattle.row_machine.specs.Housed.{GoesOnFrom, IsHouseEnding, IsVersion, KeepsDevice, MayTake, rows_committed, Settled, SettledBetween, OnlyBetween, version_need}
 use Rattle.row_machine.specs.Runs.{WritesPart}
 use Rattle.row_machine.specs.Serving.{state_at, Breaks, BreaksOff, Ends, IsBetweenLines, IsFlushed, IsInputEnding, MayServe, NextIsVersion, PutsAllButOne, TakesLines, TakesWhole, line_cost, line_need, lines_cost, next_rows}
 use Rattle.csv_rows.specs.declared.reply.Reply.{Reply}
@@ -89,6 +89,7 @@ module _ {H D : Type 0} (g : Ghosts H D) (laws : LineLaws) (whole tells tells' s
             (subst (λ (d : D). OnlyBetween g params h r.state.history (g.device first.house) d) (sym disk) (r.any_moment e));
         settled = λ e s. subst (λ (k : History). SettledBetween g params r.state.history k ran.device) same
             (subst (λ (d : D). SettledBetween g params r.state.history r.state.history d) (sym disk) (settled_between g params _ _ _ _ (goes_on_same _) (goes_on_same _) (r.settled e s)));
+        surely = λ e s other. subst (λ (d : D). Settled g params r.state.history d) (sym disk) (r.settled e s);
       }
 
   -- the run ends in a line, or in the output after it
@@ -162,4 +163,5 @@ module _ {H D : Type 0} (g : Ghosts H D) (laws : LineLaws) (whole tells tells' s
             (only_twice g params _ _ _ _ _ _ r.goes goes (r.any_moment e) (breaks.any_moment e)));
         settled = λ e s. subst (λ (k : History). SettledBetween g params breaks.sure k ran.device) after
             (subst (λ (d : D). SettledBetween g params breaks.sure (step params n r.state line).state.history d) (sym disk) (breaks.settled e (r.settled e s)));
+        surely = λ e s other. subst (λ (d : D). Settled g params breaks.sure d) (sym disk) (breaks.surely e (r.settled e s) (λ f. other (fault f)));
       }

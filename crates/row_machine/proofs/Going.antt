@@ -54,6 +54,7 @@ pub record Going {H D : Type 0} (g : Ghosts H D) (first now : Desk H D g) (sourc
   pub source_calm : Calm source source'
   pub sink_calm : Calm sink sink'
   pub more : IsTrue sink.tells → WritesMore sink.bytes sink'.bytes
+  pub device_tells : g.tells (g.device now.house) ≡ g.tells (g.device first.house)
   pub faults : g.faults (g.device first.house) ≤ g.faults (g.device now.house)
   pub counts : IsTrue source.tells → reader.taken + length source'.bytes ≡ length source.bytes
   pub lasts : (h : History) → g.stands true (g.device first.house) first.params h → LastsSoFar g first.params h (g.device first.house) (g.device now.house)
@@ -119,6 +120,7 @@ going_put g first now source source' sink sink' sink'' gathered gathered' calm r
   source_calm = o.source_calm;
   sink_calm = calm_twice sink sink' sink'' o.sink_calm still;
   more = λ told. more_twice sink.bytes sink'.bytes sink''.bytes (o.more told) (more (o.sink_calm.tells told));
+  device_tells = o.device_tells;
   faults = o.faults;
   counts = o.counts;
   lasts = o.lasts;
@@ -162,7 +164,7 @@ put_so written old new gathered calm told due = elim due [ inl kept ↦ inl (ap 
 pub going_on : {H D : Type 0} (g : Ghosts H D) (laws : LineLaws) (first now now' : Desk H D g) (source source' source'' sink sink' : Port) (gathered gathered' : List ℕ) (is_urgent : Bool) (reader reader' : ReaderState) (number : ℕ)
     → Going g first now source source' sink sink' gathered ⊤ reader number
     → now'.params ≡ now.params → reader'.limit ≡ reader.limit → GoesOn reader reader' → Calm source' source''
-    → g.faults (g.device now.house) ≤ g.faults (g.device now'.house)
+    → g.tells (g.device now'.house) ≡ g.tells (g.device now.house) → g.faults (g.device now.house) ≤ g.faults (g.device now'.house)
     → (reader.stopped ≡ None → SeenEnd reader' source'.tells source''.bytes)
     → (reader.stopped ≡ Some End → (reader' ≡ reader) × (source''.bytes ≡ source'.bytes))
     → (IsTrue source'.tells → IsTrue source''.tells → reader'.taken + length source''.bytes ≡ reader.taken + length source'.bytes)
@@ -170,7 +172,7 @@ pub going_on : {H D : Type 0} (g : Ghosts H D) (laws : LineLaws) (first now now'
     → (IsTrue source'.tells → (whole : Bool) (h : History) → MayServe whole now.params (lines (to_come reader source'.bytes)) → g.stands whole (g.device now.house) now.params h
     → ServesLine g whole now.params number (to_come reader source'.bytes) (to_come reader' source''.bytes) reader'.stopped h now now' gathered gathered' is_urgent)
     → Going g first now' source source'' sink sink' gathered' (is_urgent ≡ false) reader' (number + 1)
-going_on g laws first now now' source source' source'' sink sink' gathered gathered' is_urgent reader reader' number o params limit goes calm faults seen stays counts lasts serves = record {
+going_on g laws first now now' source source' source'' sink sink' gathered gathered' is_urgent reader reader' number o params limit goes calm tells faults seen stays counts lasts serves = record {
   params = params ∙ o.params;
   range = o.range;
   limit = limit ∙ o.limit;
@@ -181,6 +183,7 @@ going_on g laws first now now' source source' source'' sink sink' gathered gathe
   source_calm = calm_twice source source' source'' o.source_calm calm;
   sink_calm = o.sink_calm;
   more = o.more;
+  device_tells = tells ∙ o.device_tells;
   faults = omega (arith, o.faults, faults);
   counts = λ told. counts (o.source_calm.tells told) (calm.tells (o.source_calm.tells told)) ∙ o.counts told;
   lasts = λ h stands.
@@ -220,6 +223,7 @@ going_first g first source sink gathered calm reader range e none = subst (λ (r
   source_calm = record { faults = refl; tells = λ t. t };
   sink_calm = record { faults = refl; tells = λ t. t };
   more = λ told. nothing_more sink.bytes sink.bytes refl;
+  device_tells = refl;
   faults = omega arith;
   counts = λ told. omega arith;
   lasts = λ h stands. lasts_at_first g first.params h (g.device first.house) stands;
@@ -344,7 +348,7 @@ going_ends g laws first now source source' source'' sink sink' gathered reader r
           closes.device (λ e. disk_stays ended ran closes e)
           (λ b. between_both ended ran closes w b)
           (λ page e. closes_same ended ran closes (Damaged page) (λ f. cc) e) (λ allotted e. closes_same ended ran closes (PageLimit allotted) (λ f. cc) e) written
-          (λ tells still. puts_within sink.tells first.params (state_at g h first) r.state number (lines r.served.given) broke.line sink.bytes sink'.bytes written' gathered held.1 r.served.number r.served.state tells
+          (λ tells still. puts_within sink.tells first.params (state_at g h first) (lines r.served.given) broke.line sink.bytes sink'.bytes written' gathered held.1 tells
           (part (o.sink_calm.tells tells) still))
     ]
 

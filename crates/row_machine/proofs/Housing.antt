@@ -17,7 +17,8 @@ use Rattle.warehouse.specs.Crashes.{OnlyLeaves}
 use Rattle.warehouse.specs.declared.house.House.{Ghosts}
 use Rattle.row_machine.specs.declared.desk.Taken.{Taken}
 use Rattle.row_machine.specs.declared.ending.Ran.{Ran}
-use Rattle.row_machine.specs.Housed.{GoesOnFrom, KeepsBetween, KeepsDevice, Settled, SettledAfter, SettledBetween, OnlyBetween, Leaves, device_left}
+use Rattle.row_machine.specs.declared.ending.Ending.TheVariants.{DiskFault}
+use Rattle.row_machine.specs.Housed.{GoesOnFrom, KeepsBetween, KeepsDevice, Settled, SettledAfter, SettledBetween, SettledStill, OnlyBetween, Leaves, device_left}
 
 pub goes_on_same : (h : History) → GoesOnFrom h h
 goes_on_same h = record { later = []; goes_on = sym (append-nil h) }
@@ -94,11 +95,13 @@ module _ {H D : Type 0} (g : Ghosts H D) where
   leaves_same params h h' before (Ok taken) same e = subst (λ (k : History). Leaves g params h k before (Ok taken)) (sym same) (record {
     any_moment = only_same params h h before _ e;
     settled = λ s. settled_same params h before _ e s;
+    kept = λ s. tt;
     lost = λ s. settled_between params h h h _ (goes_on_same h) (goes_on_same h) (settled_same params h before _ e s);
   })
   leaves_same params h h' before (Err ran) same e = subst (λ (k : History). Leaves g params h k before (Err ran)) (sym same) (record {
     any_moment = only_same params h h before _ e;
     settled = λ s. tt;
+    kept = λ s other. settled_same params h before _ e s;
     lost = λ s. settled_between params h h h _ (goes_on_same h) (goes_on_same h) (settled_same params h before _ e s);
   })
 
@@ -107,13 +110,15 @@ module _ {H D : Type 0} (g : Ghosts H D) where
       → OnlyLeaves g.clock g.since (λ x. g.keeps x params h ⊎ g.keeps x params h') (g.moments before) (g.moments (device_left g result))
       → (Settled g params h before → (x : g.Image) → g.now (g.moments (device_left g result)) x → g.keeps x params h ⊎ g.keeps x params h')
       → (Settled g params h before → SettledAfter g params h' result)
+      → (Settled g params h before → SettledStill g params h result)
       → Leaves g params h h' before result
-  leaves_either params h h' before result goes any lost settled = record {
+  leaves_either params h h' before result goes any lost settled kept = record {
     any_moment = record {
       later = any.later;
       each = λ t x le left. elim (any.each t x le left) [ inl old ↦ inl old | inr has ↦ inr (either x has) ];
     };
     settled = settled;
+    kept = kept;
     lost = λ s x left. either x (lost s x left);
   }
     where
@@ -128,6 +133,7 @@ module _ {H D : Type 0} (g : Ghosts H D) where
   leaves_kept params h h' before ran goes e = record {
     any_moment = only_same params h h' before _ e;
     settled = λ s. tt;
+    kept = λ s other. settled_same params h before _ e s;
     lost = λ s. settled_between params h h h' _ (goes_on_same h) goes (settled_same params h before _ e s);
   }
 
@@ -136,11 +142,11 @@ module _ {H D : Type 0} (g : Ghosts H D) where
     any : OnlyLeaves g.clock g.since (λ x. g.keeps x params h ⊎ g.keeps x params (after_commit (first_refusal params h rows) h rows)) (g.moments before) (g.moments d)
     lost : Settled g params h before → (x : g.Image) → g.now (g.moments d) x → g.keeps x params h ⊎ g.keeps x params (after_commit (first_refusal params h rows) h rows)
 
-  pub leaves_lost : (params params' : Params) (s : State) (session : ℕ) (rows : List Row) (before : D) (ran : Ran D) → params' ≡ params → rows ≡ rows_of s session
+  pub leaves_lost : (params params' : Params) (s : State) (session : ℕ) (rows : List Row) (before : D) (ran : Ran D) → ran.ending ≡ DiskFault → params' ≡ params → rows ≡ rows_of s session
       → OnlyLeaves g.clock g.since (λ x. g.keeps x params' s.history ⊎ g.keeps x params' (after_commit (first_refusal params' s.history rows) s.history rows)) (g.moments before) (g.moments ran.device)
       → (Settled g params' s.history before → (x : g.Image) → g.now (g.moments ran.device) x → g.keeps x params' s.history ⊎ g.keeps x params' (after_commit (first_refusal params' s.history rows) s.history rows))
       → Leaves g params s.history (commit_step s session (first_refusal params s.history (rows_of s session))).state.history before (Err ran)
-  leaves_lost params params' s session rows before ran same staged any lost =
+  leaves_lost params params' s session rows before ran failed same staged any lost =
       let made : CommitLeaves before ran.device s.history params' rows = record { any = any; lost = lost } in
       let moved : CommitLeaves before ran.device s.history params (rows_of s session) =
       subst (λ (p : Params). CommitLeaves before ran.device s.history p (rows_of s session)) same
@@ -148,7 +154,7 @@ module _ {H D : Type 0} (g : Ghosts H D) where
       subst (λ (k : History). Leaves g params s.history k before (Err ran)) (sym (commit_history s session (first_refusal params s.history (rows_of s session))))
       (leaves_either params s.history _ before (Err ran)
       (subst (λ (k : History). GoesOnFrom s.history k) (commit_history s session (first_refusal params s.history (rows_of s session))) (commit_goes_on s session (first_refusal params s.history (rows_of s session))))
-      moved.any moved.lost (λ settled. tt))
+      moved.any moved.lost (λ settled. tt) (λ settled other. absurd (other failed)))
 
   -- two stretches of calls, one after the other
   pub only_twice : (params : Params) (a b c : History) (first second third : D) → GoesOnFrom a b → GoesOnFrom b c

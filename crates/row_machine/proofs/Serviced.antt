@@ -48,6 +48,7 @@ module _ {H D : Type 0} (g : Ghosts H D) (whole : Bool) (params : Params) (h : H
     any_moment = λ e. subst (λ (d : D). OnlyBetween g params h t.state.history before d) (sym ended.0) (leaves e).any_moment;
     settled = λ e s. subst (λ (d : D). SettledBetween g params t.state.history t.state.history d) (sym ended.0)
         (settled_between g params t.state.history t.state.history t.state.history _ (goes_on_same t.state.history) (goes_on_same t.state.history) ((leaves e).settled s));
+    surely = λ e s other. subst (λ (d : D). Settled g params t.state.history d) (sym ended.0) ((leaves e).settled s);
   }
 
   -- the same of a desk that stays where it is
@@ -100,6 +101,7 @@ module _ {H D : Type 0} (g : Ghosts H D) (whole : Bool) (params : Params) (h : H
     quiet = quiet;
     any_moment = λ e. (leaves e).any_moment;
     settled = λ e. (leaves e).lost;
+    surely = λ e. (leaves e).kept;
   }
 
 -- what follows of a line that is served, or in which the run ends

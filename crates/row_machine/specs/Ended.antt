@@ -73,6 +73,10 @@ AllMayBeServed = (params : Params) (ls : List (List ℕ)) → MayServe true para
 abbrev pub AfterGoesOn : Type 0
 AfterGoesOn = (params : Params) (h : History) (bytes : List ℕ) → GoesOnFrom h (after params h bytes)
 
+-- So does the history after any lines.
+abbrev pub LinesGoOn : Type 0
+LinesGoOn = (params : Params) (h : History) (ls : List (List ℕ)) → GoesOnFrom h (state_after params 1 (begun h) ls).history
+
 -- Lines without a reply leave the history.
 abbrev pub SilentLinesKeep : Type 0
 SilentLinesKeep = (params : Params) (n : ℕ) (s : State) (ls : List (List ℕ)) → replies params n s ls ≡ [] → (state_after params n s ls).history ≡ s.history

@@ -140,10 +140,16 @@ module _ {H D : Type 0} (g : Ghosts H D) where
   SettledAfter params h (Ok taken) = Settled params h (g.device taken.desk.house)
   SettledAfter params h (Err ran) = ⊤
 
+  -- Where a line ends the run and the device did not fail, a crash leaves this history.
+  abbrev pub SettledStill : Params → History → Result (Taken H D g) (Ran D) → Type 0
+  SettledStill params h (Ok taken) = ⊤
+  SettledStill params h (Err ran) = (ran.ending ≡ DiskFault → ⊥) → Settled params h ran.device
+
   -- What a line that brings the history h to h' does to what a crash may leave.
   pub record Leaves (params : Params) (h h' : History) (before : D) (result : Result (Taken H D g) (Ran D)) : Type 0 where
     pub any_moment : OnlyBetween params h h' before (device_left result)
     pub settled : Settled params h before → SettledAfter params h' result
+    pub kept : Settled params h before → SettledStill params h result
     pub lost : Settled params h before → SettledBetween params h h' (device_left result)
 
   -- a line that is taken needs no more pages than its step does, and one that ends the run needs none
@@ -187,6 +193,7 @@ module _ {H D : Type 0} (g : Ghosts H D) where
     pub quiet : may false → KeepsDevice before (device_left result)
     pub leaves : (h : History) → g.stands true before ps h → Leaves ps h (t h).state.history before result
     pub charge : (h : History) → g.stands true before ps h → Charges ps h before (t h) (rows h) result
+    pub tells : g.tells (device_left result) ≡ g.tells before
     pub faults : g.faults before ≤ g.faults (device_left result)
     pub own : IfErr result (λ ran. IsHouseEnding ran.ending)
     pub limit : IfErr result (λ ran. (allotted : ℕ) → ran.ending ≡ PageLimit allotted → allotted ≡ ps.pages)

@@ -121,15 +121,26 @@ pub record LeavesLine (params : Params) (before after : List ℕ) (stopped : Opt
   pub takes : TakesLine before line after stopped
   pub spells : input params line ≡ Some (Commit session)
 
--- All replies were written whole but those of some last lines, which with the line that was begun put at most one batch into the
--- history.
+-- The later of these lines put no batch into the history.
+abbrev pub PutNothing : Params → State → List (List ℕ) → List (List ℕ) → Type 0
+PutNothing params begin first later = length (state_after params 1 begin (first ++ later)).history ≤ length (state_after params 1 begin first).history
+
+-- Of the later lines none but the last put a batch into the history.
+pub record LastMayPut (params : Params) (begin : State) (first later : List (List ℕ)) : Type 0 where
+  pub before : List (List ℕ)
+  pub line : List ℕ
+  pub cut : later ≡ before ++ line ∷ []
+  pub nothing : PutNothing params begin first before
+
+-- All replies were written whole but those of some last lines. These put no batch into the history, or the last of them did, and then no
+-- line was begun after it.
 pub record PutsAllButOne (params : Params) (begin : State) (served begun : List (List ℕ)) (written written' : List ℕ) : Type 0 where
   pub first : List (List ℕ)
   pub later : List (List ℕ)
   pub more : List ℕ
   pub cut : served ≡ first ++ later
   pub wrote : written' ≡ written ++ (replies params 1 begin first ++ more)
-  pub one : length (state_after params 1 begin (served ++ begun)).history ≤ length (state_after params 1 begin first).history + 1
+  pub last : PutNothing params begin first later ⊎ ((begun ≡ []) × LastMayPut params begin first later)
 
 module _ {H D : Type 0} (g : Ghosts H D) where
   abbrev pub state_at : History → Desk H D g → State
@@ -159,7 +170,8 @@ module _ {H D : Type 0} (g : Ghosts H D) where
     pub settled : whole ≡ true → Settled g params h before → Settled g params t.state.history (g.device new.house)
 
   -- From the history h the machine was to make this step, which commits these rows, and the run ended in it. The history that is sure is that
-  -- before the step or that after it, and what a crash may leave lies between the sure one and that after it.
+  -- before the step or that after it, and what a crash may leave lies between the sure one and that after it; where the device did not
+  -- fail, it is the sure one.
   pub record Breaks (whole : Bool) (params : Params) (h : History) (t : Step) (rows : List Row) (reading : Type 0) (cost : ℕ) (before : D) (ran : Ran D) : Type 0 where
     pub sure : History
     pub which : (sure ≡ h) ⊎ (sure ≡ t.state.history)
@@ -172,6 +184,7 @@ module _ {H D : Type 0} (g : Ghosts H D) where
     pub quiet : reading → KeepsDevice g before ran.device
     pub any_moment : whole ≡ true → OnlyBetween g params h t.state.history before ran.device
     pub settled : whole ≡ true → Settled g params h before → SettledBetween g params sure t.state.history ran.device
+    pub surely : whole ≡ true → Settled g params h before → (ran.ending ≡ DiskFault → ⊥) → Settled g params sure ran.device
 
   -- The line is served, or the run ends in it.
   abbrev pub ServesText : Bool → Params → History → Step → List Row → Type 0 → ℕ → D → List ℕ → List ℕ → Bool → Result (Desk H D g) (Ran D) → Type 0
@@ -194,7 +207,7 @@ module _ {H D : Type 0} (g : Ghosts H D) where
   -- What is left when a run over an input ends. Some of its lines were served whole, at most one was begun then, and the rest
   -- was not begun. What was written are replies to the lines that were served, from the first on; at most one batch is in the
   -- history whose reply was not written whole. The history that is sure has all that these lines have committed, or the line
-  -- that was begun too; the device stands for it, unless it failed, and what a crash may leave now goes on from it. Where no
+  -- that was begun too; the device stands for it, unless it failed, and so does what a crash may leave now, which else goes on from it. Where no
   -- line commits, nothing of the device is changed.
   pub record Ends (whole tells tells' still : Bool) (params : Params) (begin : State) (input left : List ℕ) (before : D) (ran : Ran D) (written written' : List ℕ) : Type 0 where
     pub served : List (List ℕ)
@@ -221,6 +234,7 @@ module _ {H D : Type 0} (g : Ghosts H D) where
     pub quiet : MayServe false params (lines input) → KeepsDevice g before ran.device
     pub any_moment : whole ≡ true → OnlyBetween g params begin.history (state_after params 1 begin (served ++ begun)).history before ran.device
     pub settled : whole ≡ true → Settled g params begin.history before → SettledBetween g params sure (state_after params 1 begin (served ++ begun)).history ran.device
+    pub surely : whole ≡ true → Settled g params begin.history before → (ran.ending ≡ DiskFault → ⊥) → Settled g params sure ran.device
 
   -- What lasts when a run ends, over whatever input: the device stands for a history that goes on from the first, unless it failed,
   -- and what a crash may leave goes on from that.

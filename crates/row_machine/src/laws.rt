@@ -1,5 +1,5 @@
 //! What follows from how a run ended, and the laws of what is written and kept.
-ghost use Rattle.row_machine.specs.Ended.{AfterGoesOn, AfterJoins, AllMayBeServed, EndsInPart, EndsWithinAll, FineServesAll, FineSettles, HoldsAcknowledged, InputServesWhole, SilentLinesKeep, TextJoins};
+ghost use Rattle.row_machine.specs.Ended.{AfterGoesOn, AfterJoins, AllMayBeServed, EndsInPart, EndsWithinAll, FineServesAll, FineSettles, HoldsAcknowledged, InputServesWhole, LinesGoOn, SilentLinesKeep, TextJoins};
 
 use line_reader::lines_join;
 use warehouse::House;
@@ -18,6 +18,7 @@ pub fn ends_laws<H: House>()
 pub fn machine_laws()
     ensures may { AllMayBeServed }
     ensures goes_on { AfterGoesOn }
+    ensures lines_go_on { LinesGoOn }
     ensures silent { SilentLinesKeep }
     ensures text { TextJoins }
     ensures after { AfterJoins }

@@ -64,6 +64,7 @@ fn serve_text<H: House>(
     ensures within { IfErr result (λ ending. IsHouseEnding ending) }
     ensures at_limit { IfErr result (λ ending. (allotted : ℕ) → ending ≡ Ending.PageLimit allotted → allotted ≡ desk.old.params.pages) }
     ensures unsaid { OnErr result (gathered outbox.new ≡ gathered outbox.old) }
+    ensures device_tells { H.tells (H.device desk.new.house) ≡ H.tells (H.device desk.old.house) }
     ensures faults { H.faults (H.device desk.old.house) ≤ H.faults (H.device desk.new.house) }
     ensures disk_fault { IfErr result (λ ending. ending ≡ Ending.DiskFault → Rose (H.faults (H.device desk.old.house)) (H.faults (H.device desk.new.house))) }
 {
@@ -93,6 +94,7 @@ fn serve_line<H: House, S: Source>(
     ensures stays { reader.old.stopped ≡ Some answered.End → (reader.new ≡ reader.old) × (source.new ≡ source.old) }
     ensures counts { IsTrue (S.tells source.old) → IsTrue (S.tells source.new) →
         reader.new.taken + length (S.left source.new) ≡ reader.old.taken + length (S.left source.old) }
+    ensures device_tells { H.tells (H.device desk.new.house) ≡ H.tells (H.device desk.old.house) }
     ensures faults { H.faults (H.device desk.old.house) ≤ H.faults (H.device desk.new.house) }
 
     // A line is served, or is to be a commit.
@@ -190,6 +192,7 @@ fn serve_commit<H: House>(
     ensures within { IfErr result (λ ran. IsHouseEnding ran.ending) }
     ensures at_limit { IfErr result (λ ran. (allotted : ℕ) → ran.ending ≡ Ending.PageLimit allotted → allotted ≡ desk.params.pages) }
     ensures unsaid { OnErr result (gathered outbox.new ≡ gathered outbox.old) }
+    ensures device_tells { H.tells (device_after ⟦<H as House>⟧ result) ≡ H.tells (H.device desk.house) }
     ensures faults { H.faults (H.device desk.house) ≤ H.faults (device_after ⟦<H as House>⟧ result) }
     ensures disk_fault { IfErr result (λ ran. ran.ending ≡ Ending.DiskFault → Rose (H.faults (H.device desk.house)) (H.faults ran.device)) }
 {
@@ -271,6 +274,8 @@ pub fn serve<H: House, S: Source, K: Sink>(
         × (IsTrue (S.tells source.old) → length (S.left source.old) ≡ 2 ^ 40 + length (S.left source.new)) }
     // The limit of pages is that of the params, whatever the device holds and whatever the source gives.
     ensures at_limit { (allotted : ℕ) → result.ending ≡ Ending.PageLimit allotted → allotted ≡ desk.params.pages }
+    // However it ends, the device tells what it told, and no failure is forgotten.
+    ensures device_tells { H.tells result.device ≡ H.tells (H.device desk.house) }
     ensures faults { H.faults (H.device desk.house) ≤ H.faults result.device }
 {
     // The laws that the invariant of the loop rests on.

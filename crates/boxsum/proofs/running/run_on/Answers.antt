@@ -1,4 +1,4 @@
-use Rattle.std.proofs.Common.{◌≡◌, ◌≢◌, ◌∙◌, ℕ, true, false, List, inl, inr, refl, sym, ap, subst, arith, rules, ◌+◌, length}
+use Rattle.std.proofs.Common.{◌≡◌, ◌≢◌, ◌∙◌, ◌≤◌, ◌++◌, ℕ, true, false, List, inl, inr, refl, sym, ap, subst, arith, rules, ◌+◌, length}
 use Rattle.bw_types.specs.History.{History}
 use Rattle.line_reader.specs.Lines.{lines, whole_part}
 use Rattle.csv_rows.specs.Machine.{after, begun, text}
@@ -10,16 +10,17 @@ use Rattle.page_disk.specs.Since.{LeavesOnly}
 use Rattle.redo_journal.specs.Settled.{SettlesTo}
 use Rattle.page_space.specs.declared.refusal.OpenFault.TheVariants as fault
 use Rattle.page_warehouse.specs.Holds.{Holds}
-use Rattle.page_warehouse.specs.Needs.{batch_need, charge_of}
+use Rattle.page_warehouse.specs.Needs.{batch_need, charge_of, pages_charge}
 use Rattle.page_warehouse.specs.Shown.{HoldsHistory, disk_in, meta_in, params_in}
+use Rattle.page_warehouse.specs.declared.state.Warehouse.{Warehouse}
 use Rattle.row_machine.specs.Serving.{IsFlushed}
 use Rattle.row_machine.specs.declared.ending.Ending.{Ending}
 use Rattle.row_machine.specs.declared.ending.Ending.TheVariants as ending
-use Rattle.boxsum.specs.Held.{BeginsWith, HoldsBetween, HoldsFrom, charge_in}
+use Rattle.boxsum.specs.Held.{BeginsWith, HoldsBetween, HoldsFrom}
 use Rattle.boxsum.specs.Runs.{history_by, state_by}
 use Rattle.boxsum.specs.Statuses.{status_of, status_of_fault}
 use Rattle.boxsum.specs.declared.status.Status.TheVariants as status
-use Rattle.boxsum.proofs.Endings.{ending_of, fault_of, flushes, input_ending, input_flushes, no_ending, no_fault, no_input, only_fine, rises, run_ends}
+use Rattle.boxsum.proofs.Endings.{ending_of, ends_between, fault_of, flushes, input_ending, input_flushes, never_falls, no_ending, no_fault, no_input, only_fine, rises, run_ends}
 use Rattle.boxsum.proofs.Nothing.{nothing_served}
 use Rattle.boxsum.proofs.Opened.{between_here, for_queries, from_here, goes_on_same, goes_on_twice, goes_with, lacks_next, left_only, need_within, not_damaged, nothing_replied, only_memory, opened, refused_status, refuses, settled_holds, some_way, stretched, wider, writes_nothing}
 use Rattle.boxsum.proofs.Reading.{may_within, no_version_next}
@@ -34,7 +35,7 @@ returns-in-Err-clause-ran g c =
       refused = λ told none. (
         (refl, refl),
         refuses g.D.Disk g.X.DomIndex.DIMS c.args.disk c.in-Err.refused.fault (record { status = c.from.result; disk = c.in-Err.refused.disk }) told c.from.ensures
-            c.in-Err.ensures.refused.empty c.in-Err.ensures.refused.bad_journal c.in-Err.ensures.refused.damaged c.in-Err.ensures.refused.stands c.in-Err.ensures.refused.settled,
+            c.in-Err.ensures.refused.empty c.in-Err.ensures.refused.bad_journal c.in-Err.ensures.refused.damaged (c.in-Err.ensures.stands_on told) c.in-Err.ensures.refused.stands c.in-Err.ensures.refused.settled,
       );
       answers = λ params h b. record {
         fine = λ fine told tells. absurd (no_fault c.in-Err.refused.fault c.from.result status.Fine c.from.ensures fine refl);
@@ -56,17 +57,29 @@ returns-in-Err-clause-ran g c =
         kept = λ fine told. absurd (no_fault c.in-Err.refused.fault c.from.result status.Fine c.from.ensures fine refl);
         whole_kept = λ taken why told left_told cut. absurd (no_input c.in-Err.refused.fault c.from.result c.from.ensures why);
         served = λ told. record {
-          served = nothing_served g.S.Source g.K.Sink c.args.source.now c.args.sink.now c.from.result params h;
+          lines = nothing_served g.S.Source g.K.Sink c.args.source.now c.args.sink.now c.from.result params h
+              (λ fine. no_fault c.in-Err.refused.fault c.from.result status.Fine c.from.ensures fine refl) (λ why. no_input c.in-Err.refused.fault c.from.result c.from.ensures why);
           sure = h;
           which = inl refl;
           holds = λ other. (
             c.in-Err.ensures.writes.tells ∙ held.0,
             c.in-Err.ensures.refused.kept (λ so. other (c.from.ensures ∙ ap status_of_fault so)) held.0 params h held.1,
           );
-          left = λ x now. elim (left_only (λ y. Holds g.X.DomIndex y params h) (g.D.Disk.moments c.args.disk) (g.D.Disk.moments c.in-Err.refused.disk) x (c.in-Err.ensures.any_moment held.0 params h held.1) now) [
-            | inl before ↦ inl before
-            | inr holds ↦ inr (between_here g.X.DomIndex params h h x (goes_on_same h) holds)
-          ];
+          left = λ x now.
+              let known = for_queries g.D.Disk g.X.DomIndex c.holding_laws.ensures.queries true c.args.disk params h held in
+              let stopped = refused_status g.D.Disk g.X.DomIndex c.in-Err.refused.fault c.from.result c.from.ensures (c.in-Err.ensures.refused.sound known.0 params h known.1) in
+              elim (left_only (λ y. Holds g.X.DomIndex y params h) (g.D.Disk.moments c.args.disk) (g.D.Disk.moments c.in-Err.refused.disk) x (c.in-Err.ensures.any_moment held.0 params h held.1) now) [
+                | inl before ↦ inl (stopped, refl, before)
+                | inr holds ↦ inr (between_here g.X.DomIndex params h h x (goes_on_same h) holds)
+              ];
+          surely = λ other x now.
+              let known = for_queries g.D.Disk g.X.DomIndex c.holding_laws.ensures.queries true c.args.disk params h held in
+              let stopped = refused_status g.D.Disk g.X.DomIndex c.in-Err.refused.fault c.from.result c.from.ensures (c.in-Err.ensures.refused.sound known.0 params h known.1) in
+              elim (left_only (λ y. Holds g.X.DomIndex y params h) (g.D.Disk.moments c.args.disk) (g.D.Disk.moments c.in-Err.refused.disk) x (c.in-Err.ensures.any_moment held.0 params h held.1) now) [
+                | inl before ↦ inl (stopped, refl, before)
+                | inr holds ↦ inr holds
+              ];
+          moments = wider _ _ _ _ (λ x holds. between_here g.X.DomIndex params h h x (goes_on_same h) holds) (c.in-Err.ensures.any_moment held.0 params h held.1);
         };
         stays = λ told other.
             between_here g.X.DomIndex params h (after params h (g.S.Source.left c.args.source.now)) (g.D.Disk.image c.in-Err.refused.disk) (c.machine_laws.ensures.goes_on params h (g.S.Source.left c.args.source.now)) (c.in-Err.ensures.refused.kept (λ so. other (c.from.ensures ∙ ap status_of_fault so)) held.0 params h held.1);
@@ -90,7 +103,11 @@ returns-in-Err-clause-ran g c =
             wider _ _ _ _ (λ x holds. from_here g.X.DomIndex params h x holds) (c.in-Err.ensures.any_moment held.0 params h held.1);
       };
       reads = λ params h held told may. record {
-        reads = record { served = nothing_served g.S.Source g.K.Sink c.args.source.now c.args.sink.now c.from.result params h; most = let most = c.in-Err.ensures.writes.at_most held.0 in omega arith };
+        reads = record {
+          lines = nothing_served g.S.Source g.K.Sink c.args.source.now c.args.sink.now c.from.result params h
+              (λ fine. no_fault c.in-Err.refused.fault c.from.result status.Fine c.from.ensures fine refl) (λ why. no_input c.in-Err.refused.fault c.from.result c.from.ensures why);
+          most = let most = c.in-Err.ensures.writes.at_most held.0 in omega arith;
+        };
         stays = λ pages settles other. c.in-Err.ensures.refused.stands (λ so. other (c.from.ensures ∙ ap status_of_fault so)) held.0 pages settles;
         moments = λ pages settles. c.in-Err.ensures.stands_on held.0 pages settles;
         untouched = λ calm. let u = c.in-Err.ensures.untouched held.0 calm in record { image = u.image; moments = u.moments };
@@ -200,22 +217,34 @@ returns-clause-ran g c =
             (c.new-desk.ensures.params ∙ o.0) c.new-desk.ensures.house c.new-desk.ensures.sessions (c.serve-ran.ensures.ends told true h) (c.machine_laws.ensures.may params (lines (g.S.Source.left c.args.source.now))) o.1 in
             let before = settled_holds g.X.DomIndex params h (g.D.Disk.moments (disk_in c.in-Ok.house)) (g.D.Disk.image (disk_in c.in-Ok.house)) c.in-Ok.ensures.opened.settled o.1.1 in
             record {
-              served = record {
-                replied = e.served;
-                begins = e.begun;
+              lines = record {
+                served = e.served;
+                cut_off = e.begun;
                 rest = e.rest;
                 cut = e.cut;
                 one = e.one;
+                none_cut_off = λ ends. e.between (ends_between c.serve-ran.result.ending c.from-2.result c.from-2.ensures ends);
+                all = λ fine. e.fine (ending_of c.serve-ran.result.ending ending.Fine c.from-2.result status.Fine c.from-2.ensures fine refl);
+                whole_lines = λ why. e.taken (input_ending c.serve-ran.result.ending c.from-2.result c.from-2.ensures why);
                 read = e.read;
-                wrote = λ sink disk tells still. e.flushed (flushes c.serve-ran.result.ending c.from-2.result c.from-2.ensures sink disk) tells still;
+                part = e.wrote;
+                wrote = λ sink disk tells.
+                    let flushed = flushes c.serve-ran.result.ending c.from-2.result c.from-2.ensures sink disk in
+                    let still = c.serve-ran.ensures.tells flushed tells in (still, e.flushed flushed tells still);
                 put = e.put;
               };
               sure = e.sure;
               which = e.which;
               holds = λ other. e.stands (λ so. other (c.from-2.ensures ∙ ap status_of so));
+              surely = λ other x now. inr (e.surely refl before (λ so. other (c.from-2.ensures ∙ ap status_of so)) x now);
               left = λ x now.
                   let k = e.settled refl before x now in
                   inr (record { kept = k.between; holds = k.keeps; begins = k.begins; within = k.within });
+              moments =
+                  stretched (λ x. Holds g.X.DomIndex x params h) _ (HoldsBetween g.X.DomIndex params h (history_by params h (e.served ++ e.begun))) (g.D.Disk.moments c.args.disk) (g.D.Disk.moments (disk_in c.in-Ok.house)) (g.D.Disk.moments c.serve-ran.result.device)
+                  (λ x holds. between_here g.X.DomIndex params h (history_by params h (e.served ++ e.begun)) x (c.machine_laws.ensures.lines_go_on params h (e.served ++ e.begun)) holds)
+                  (λ x k. record { kept = k.between; holds = k.keeps; begins = k.begins; within = k.within })
+                  (c.in-Ok.ensures.any_moment held.0 params h held.1) (e.any_moment refl);
             };
         stays = λ told other.
             let o = opened g.D.Disk g.X.DomIndex true c.args.disk (disk_in c.in-Ok.house) (params_in c.in-Ok.house) params h c.in-Ok.ensures.opened.holds c.in-Ok.ensures.opened.holds_trees c.in-Ok.ensures.writes.tells held in
@@ -277,14 +306,20 @@ returns-clause-ran g c =
             c.serve-ran.result (g.K.Sink.written c.args.sink.now) (g.K.Sink.written c.serve-ran.new.sink) h c.new-desk.result.params params c.new-desk.result.house c.in-Ok.house c.new-desk.result.sessions
             (c.new-desk.ensures.params ∙ o.0) c.new-desk.ensures.house c.new-desk.ensures.sessions (c.serve-ran.ensures.ends told false h) may o.1 in
             record {
-              served = record {
-                replied = e.served;
-                begins = e.begun;
+              lines = record {
+                served = e.served;
+                cut_off = e.begun;
                 rest = e.rest;
                 cut = e.cut;
                 one = e.one;
+                none_cut_off = λ ends. e.between (ends_between c.serve-ran.result.ending c.from-2.result c.from-2.ensures ends);
+                all = λ fine. e.fine (ending_of c.serve-ran.result.ending ending.Fine c.from-2.result status.Fine c.from-2.ensures fine refl);
+                whole_lines = λ why. e.taken (input_ending c.serve-ran.result.ending c.from-2.result c.from-2.ensures why);
                 read = e.read;
-                wrote = λ sink disk tells still. e.flushed (flushes c.serve-ran.result.ending c.from-2.result c.from-2.ensures sink disk) tells still;
+                part = e.wrote;
+                wrote = λ sink disk tells.
+                    let flushed = flushes c.serve-ran.result.ending c.from-2.result c.from-2.ensures sink disk in
+                    let still = c.serve-ran.ensures.tells flushed tells in (still, e.flushed flushed tells still);
                 put = e.put;
               };
               most = let opening = c.in-Ok.ensures.writes.at_most held.0 in
@@ -339,8 +374,8 @@ returns-clause-ran g c =
             (c.new-desk.ensures.params ∙ o.0) c.new-desk.ensures.house c.new-desk.ensures.sessions (c.serve-ran.ensures.ends told true h) (c.machine_laws.ensures.may params (lines (g.S.Source.left c.args.source.now))) o.1 in
             λ so. let ended = ending_of c.serve-ran.result.ending (ending.PageLimit allotted) c.from-2.result (status.PageLimit allotted) c.from-2.ensures so refl in
             let p = (e.page_limit allotted ended).4 refl in
-            let charge : charge_of (g.D.Disk.image (disk_in c.in-Ok.house)) ≡ charge_in pages =
-            ap charge_in (c.settling_laws.ensures.one (g.D.Disk.image c.args.disk) (g.D.Disk.image (disk_in c.in-Ok.house)).pages pages (c.in-Ok.ensures.opened.settles held.0) settles) in
+            let charge : charge_of (g.D.Disk.image (disk_in c.in-Ok.house)) ≡ pages_charge pages =
+            ap pages_charge (c.settling_laws.ensures.one (g.D.Disk.image c.args.disk) (g.D.Disk.image (disk_in c.in-Ok.house)).pages pages (c.in-Ok.ensures.opened.settles held.0) settles) in
             let need = need_within batch_need params (begun h) (lines (g.S.Source.left c.args.source.now)) e.served e.begun e.rest e.cut in
             omega (arith, p, need, charge, fits);
       };
@@ -370,3 +405,18 @@ returns-clause-causes g c = record {
   };
   disk_fault = search rules;
 }
+
+pub returns-clause-tells : goal.returns-clause-tells
+returns-clause-tells g c = c.serve-ran.ensures.device_tells
+    ∙ (ap (λ (house : Warehouse g.row.D.Denot g.row.X.Denot g.D.Disk g.X.DomIndex). g.D.Disk.tells (disk_in house)) c.new-desk.ensures.house ∙ c.in-Ok.ensures.writes.tells)
+
+pub returns-in-Err-clause-faults : goal.returns-in-Err-clause-faults
+returns-in-Err-clause-faults g c = never_falls c.in-Err.refused.fault (g.D.Disk.faults c.args.disk) (g.D.Disk.faults c.in-Err.refused.disk) c.in-Err.ensures.writes.faults
+
+pub returns-clause-faults : goal.returns-clause-faults
+returns-clause-faults g c =
+    let same : g.D.Disk.faults (disk_in c.new-desk.result.house) ≡ g.D.Disk.faults (disk_in c.in-Ok.house) =
+    ap (λ (house : Warehouse g.row.D.Denot g.row.X.Denot g.D.Disk g.X.DomIndex). g.D.Disk.faults (disk_in house)) c.new-desk.ensures.house in
+    let opened : g.D.Disk.faults (disk_in c.in-Ok.house) ≡ g.D.Disk.faults c.args.disk = c.in-Ok.ensures.writes.faults in
+    let served : g.D.Disk.faults (disk_in c.new-desk.result.house) ≤ g.D.Disk.faults c.serve-ran.result.device = c.serve-ran.ensures.faults in
+    omega (arith, same, opened, served)

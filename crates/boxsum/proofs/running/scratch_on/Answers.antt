@@ -5,7 +5,7 @@ use Rattle.row_machine.specs.declared.ending.Ending.{Ending}
 use Rattle.row_machine.specs.declared.ending.Ending.TheVariants as ending
 use Rattle.row_machine.specs.Serving.{IsFlushed}
 use Rattle.boxsum.specs.declared.status.Status.TheVariants as status
-use Rattle.boxsum.proofs.Endings.{ending_of, flushes, input_ending, input_flushes, no_ending, only_fine, run_ends, scratch_ends}
+use Rattle.boxsum.proofs.Endings.{ending_of, ends_between, flushes, input_ending, input_flushes, no_ending, only_fine, run_ends, scratch_ends}
 use Rattle.boxsum.proofs.Scratch.{ends_at, whole_text}
 use Rattle.boxsum.proofs.running.scratch_on.Goals as goal
 
@@ -74,13 +74,19 @@ returns-clause-answers g c =
           (c.new-desk.ensures.params ∙ ap (λ x. x.params) c.new.ensures) c.new-desk.ensures.house c.new-desk.ensures.sessions
           (c.serve.ensures.ends told true []) (c.machine_laws.ensures.may c.args.params.now (lines (g.S.Source.left c.args.source.now))) (ap (λ x. x.history) c.new.ensures)) in
           record {
-            replied = e.served;
-            begins = e.begun;
+            served = e.served;
+            cut_off = e.begun;
             rest = e.rest;
             cut = e.cut;
             one = e.one;
+            none_cut_off = λ ends. e.between (ends_between c.serve.result.ending c.from.result c.from.ensures ends);
+            all = λ fine. e.fine (ending_of c.serve.result.ending ending.Fine c.from.result status.Fine c.from.ensures fine refl);
+            whole_lines = λ why. e.taken (input_ending c.serve.result.ending c.from.result c.from.ensures why);
             read = e.read;
-            wrote = λ sink disk tells still. e.flushed (flushes c.serve.result.ending c.from.result c.from.ensures sink disk) tells still;
+            part = e.wrote;
+            wrote = λ sink disk tells.
+                let flushed = flushes c.serve.result.ending c.from.result c.from.ensures sink disk in
+                let still = c.serve.ensures.tells flushed tells in (still, e.flushed flushed tells still);
             put = e.put;
           };
     }

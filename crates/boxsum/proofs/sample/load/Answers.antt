@@ -4,12 +4,12 @@ use Rattle.byte_ports.specs.Memory.{SinkState, SourceState}
 use Rattle.page_disk.specs.Since.{LeavesOnly}
 use Rattle.csv_rows.specs.Machine.{after, begun, text}
 use Rattle.line_reader.specs.Lines.{lines}
-use Rattle.page_warehouse.specs.Needs.{batch_need}
+use Rattle.page_warehouse.specs.Needs.{batch_need, pages_charge}
 use Rattle.row_machine.specs.Runs.{WritesPart}
 use Rattle.row_machine.specs.Serving.{lines_need}
 use Rattle.sample_rows.specs.Summary.{answers_in, sample_params, summary_with}
 use Rattle.boxsum.specs.Ends.{ends_sample}
-use Rattle.boxsum.specs.Held.{HoldsBetween, HoldsSurely, charge_in}
+use Rattle.boxsum.specs.Held.{HoldsBetween, HoldsSurely}
 use Rattle.boxsum.specs.Runs.{LacksPagesAmid}
 use Rattle.boxsum.specs.Statuses.{status_amid}
 use Rattle.boxsum.specs.declared.status.Status.{Status}
@@ -84,11 +84,13 @@ returns g c =
           ((c.run_on-ran.ensures.ran.pages sample_params [] held).lacks allotted (amid_limit s allotted (sym is ∙ e)) refl).amid;
       enough = λ pages allotted held settles few e.
           (c.run_on-ran.ensures.ran.pages sample_params [] held).enough_pages pages allotted refl settles
-          (subst (λ (input : List ℕ). charge_in pages + lines_need batch_need sample_params 1 (begun []) (lines input) ≤ sample_params.pages) (sym left) few) (amid_limit s allotted (sym is ∙ e));
+          (subst (λ (input : List ℕ). pages_charge pages + lines_need batch_need sample_params 1 (begun []) (lines input) ≤ sample_params.pages) (sym left) few) (amid_limit s allotted (sym is ∙ e));
       complete = λ held calm other limit.
           let ends = amid_complete s (λ e. held_not_empty g.X.DomIndex (g.D.Disk.image c.args.disk) sample_params [] held.1 (c.run_on-ran.ensures.ran.empty_only e held.0))
           (λ e. other (is ∙ ap status_amid e)) (λ area page. (c.run_on-ran.ensures.ran.answers sample_params [] (inl held)).undamaged area page) (λ allotted e. limit allotted (is ∙ ap status_amid e)) in
           elim ends [ inl fine ↦ inl (is ∙ fine) | inr memory ↦ inr (is ∙ memory) ];
       write_fault = λ e. absurd (amid_write s (sym is ∙ e));
       disk_fault = λ e. c.run_on-ran.ensures.causes.disk_fault (amid_disk s (sym is ∙ e));
+      tells = c.run_on-ran.ensures.tells;
+      faults = c.run_on-ran.ensures.faults;
     }

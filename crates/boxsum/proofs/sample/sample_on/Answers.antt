@@ -6,13 +6,13 @@ use Rattle.redo_journal.specs.Gates.{is_empty}
 use Rattle.csv_rows.specs.Machine.{after, begun, text}
 use Rattle.line_reader.specs.Lines.{lines}
 use Rattle.page_warehouse.specs.Created.{IsNew}
-use Rattle.page_warehouse.specs.Needs.{batch_need}
+use Rattle.page_warehouse.specs.Needs.{batch_need, pages_charge}
 use Rattle.row_machine.specs.Serving.{lines_need}
 use Rattle.row_machine.specs.Runs.{WritesPart}
 use Rattle.sample_rows.specs.Generator.{rows}
 use Rattle.sample_rows.specs.Summary.{answers_in, sample_params, summary, summary_with}
 use Rattle.boxsum.specs.Runs.{LacksPagesAmid}
-use Rattle.boxsum.specs.Held.{HoldsBetween, HoldsSurely, IsEmptyOrHolds, charge_in}
+use Rattle.boxsum.specs.Held.{HoldsBetween, HoldsSurely, IsEmptyOrHolds}
 use Rattle.boxsum.specs.declared.status.Status.TheVariants.{Damaged, PageLimit, WriteFault}
 use Rattle.boxsum.proofs.Nothing.{no_sample}
 use Rattle.boxsum.proofs.Opened.{writes_nothing}
@@ -57,7 +57,7 @@ returns-in-Fine-clause-samples g c =
       enough_pages = λ allotted told few e.
           let new = subst (λ (p : Params). IsNew p (g.D.Disk.image c.create_on-made.result.disk)) c.sample_params.ensures (c.create_on-made.ensures.fresh c.in-Fine.is told) in
           let space = (surely told).1.holds.1.space in
-          let charge : charge_in space.pages ≡ 3 = new_charge (g.D.Disk.image c.create_on-made.result.disk) space.pages new space.settled in
+          let charge : pages_charge space.pages ≡ 3 = new_charge (g.D.Disk.image c.create_on-made.result.disk) space.pages new space.settled in
           let need : lines_need batch_need sample_params 1 (begun []) (lines c.in-Ok.text.items) ≡ lines_need batch_need sample_params 1 (begun []) (lines (rows c.args.start c.args.count)) =
           ap (λ (input : List ℕ). lines_need batch_need sample_params 1 (begun []) (lines input)) c.in-Ok.ensures in
           c.load.ensures.enough space.pages allotted (surely told).1.holds space.settled (omega (arith, charge, need, few)) e;
@@ -93,4 +93,6 @@ returns-in_default-status g c =
       };
       write_fault = λ e. absurd (not_made s WriteFault ends e (λ x. cc) (λ x. cc) (λ x. cc));
       disk_fault = c.create_on-made.ensures.disk_fault;
+      tells = c.create_on-made.ensures.tells;
+      faults = c.create_on-made.ensures.faults;
     }

@@ -18,6 +18,9 @@ returns-clause-may c = may_all
 pub returns-clause-goes_on : goal.returns-clause-goes_on
 returns-clause-goes_on c = λ params h bytes. after_goes_on params 1 (begun h) (lines bytes)
 
+pub returns-clause-lines_go_on : goal.returns-clause-lines_go_on
+returns-clause-lines_go_on c = λ params h ls. after_goes_on params 1 (begun h) ls
+
 pub returns-clause-silent : goal.returns-clause-silent
 returns-clause-silent c = silent_lines
 

@@ -28,7 +28,7 @@ lines-preserved-in-Ok-None g c =
     (c.put_due.ensures.more put) (c.put_due.ensures.same put))
     c.serve_line.ensures.params c.serve_line.ensures.limit c.in-Ok-None.ensures.goes_on
     (record { faults = c.in-Ok-None.ensures.source.0; tells = c.in-Ok-None.ensures.source.1 })
-    c.serve_line.ensures.faults
+    c.serve_line.ensures.device_tells c.serve_line.ensures.faults
     c.serve_line.ensures.seen_end
     (λ e. ((c.serve_line.ensures.stays e).0, ap g.S.Source.left (c.serve_line.ensures.stays e).1))
     c.serve_line.ensures.counts
@@ -48,6 +48,7 @@ lines-preserved g c =
     (c.put_due.ensures.more put) (c.put_due.ensures.same put))
     (c.in-Ok.ensures.params ∙ c.serve_line.ensures.params) c.serve_line.ensures.limit c.in-Ok-Some.ensures.goes_on
     (record { faults = c.in-Ok-Some.ensures.source.0; tells = c.in-Ok-Some.ensures.source.1 })
+    (c.in-Ok.ensures.device_tells ∙ c.serve_line.ensures.device_tells)
     (let a = c.serve_line.ensures.faults in let b = c.in-Ok.ensures.faults in omega (arith, a, b))
     c.serve_line.ensures.seen_end
     (λ e. ((c.serve_line.ensures.stays e).0, ap g.S.Source.left (c.serve_line.ensures.stays e).1))

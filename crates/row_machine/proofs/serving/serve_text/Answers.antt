@@ -1,4 +1,4 @@
-use Rattle.std.proofs.Common.{ℕ, ◌≤◌, Bool, true, false, List, [], Err, refl, sym, subst, arith}
+use Rattle.std.proofs.Common.{ℕ, ◌≤◌, Bool, true, false, List, [], Err, refl, sym, subst, arith, ap}
 use Rattle.bw_types.specs.declared.row.Row.{Row}
 use Rattle.csv_rows.specs.Input.{input}
 use Rattle.csv_rows.specs.Machine.{Step, step}
@@ -48,6 +48,9 @@ returns-in-Ok-Done-clause-commits g c = none_left _ c.done.result c.done.ensures
 pub returns-in-Ok-Done-clause-within : goal.returns-in-Ok-Done-clause-within
 returns-in-Ok-Done-clause-within g c = done_within c.done.result c.done.ensures.ended
 
+pub returns-in-Ok-Done-clause-device_tells : goal.returns-in-Ok-Done-clause-device_tells
+returns-in-Ok-Done-clause-device_tells g c = let does = rw c.in-Ok-Done.field-0-is at c.in-Ok-Done.ensures.does in does.tells
+
 pub returns-in-Ok-Done-clause-faults : goal.returns-in-Ok-Done-clause-faults
 returns-in-Ok-Done-clause-faults g c = let does = rw c.in-Ok-Done.field-0-is at c.in-Ok-Done.ensures.does in does.faults
 
@@ -56,6 +59,11 @@ returns-in-Ok-Done-clause-disk_fault g c = done_no_fault _ c.done.result c.done.
 
 pub returns-in-Ok-Commits-clause-commits : goal.returns-in-Ok-Commits-clause-commits
 returns-in-Ok-Commits-clause-commits g c = (rw c.in-Ok-Commits.field-0-is at c.in-Ok-Commits.ensures.does, refl)
+
+pub returns-in-Ok-Commits-clause-device_tells : goal.returns-in-Ok-Commits-clause-device_tells
+returns-in-Ok-Commits-clause-device_tells g c =
+    let does = rw c.in-Ok-Commits.field-0-is at c.in-Ok-Commits.ensures.does in
+    ap (λ (d : Desk g.row.H.Denot g.row.H-Device.Denot g.H.House). g.H.House.tells (g.H.House.device d.house)) does.same
 
 pub returns-in-Ok-Commits-clause-faults : goal.returns-in-Ok-Commits-clause-faults
 returns-in-Ok-Commits-clause-faults g c =
@@ -81,6 +89,9 @@ returns-in-Err-clause-lasts g c = λ h stands.
 
 pub returns-in-Err-clause-within : goal.returns-in-Err-clause-within
 returns-in-Err-clause-within g c = c.in-Err.ensures.does.own
+
+pub returns-in-Err-clause-device_tells : goal.returns-in-Err-clause-device_tells
+returns-in-Err-clause-device_tells g c = c.in-Err.ensures.does.tells
 
 pub returns-in-Err-clause-faults : goal.returns-in-Err-clause-faults
 returns-in-Err-clause-faults g c = c.in-Err.ensures.does.faults

@@ -21,8 +21,9 @@ returns-in-Disk g c = record {
   leaves = λ h stands.
       let crash = c.in-Disk.ensures.crash h (subst (λ (p : Params). g.H.House.stands true (g.H.House.device c.args.self.house) p h) (sym c.args.self.same) stands) in
       leaves_lost g.H.House c.args.self.params (g.H.House.params c.args.self.house) (record { history = h; staged = c.args.self.sessions }) c.args.session c.rows.result.now
-      (g.H.House.device c.args.self.house) (record { ending = DiskFault; device = c.in-Disk.device }) c.args.self.same c.rows.ensures.rows crash.any_moment crash.lost;
+      (g.H.House.device c.args.self.house) (record { ending = DiskFault; device = c.in-Disk.device }) refl c.args.self.same c.rows.ensures.rows crash.any_moment crash.lost;
   charge = λ h stands other. absurd (other refl);
+  tells = search rules;
   faults = search rules;
   own = search rules;
   limit = search rules;

@@ -12,6 +12,7 @@ returns-in-Err-clause-does g c = record {
   quiet = λ may. (refl, refl);
   leaves = λ h stands. leaves_kept g.H.House c.args.self.now.params h _ _ (record { ending = NoMemory; device = g.H.House.device c.args.self.now.house }) (step_goes_on c.args.self.now.params c.args.number (record { history = h; staged = c.args.self.now.sessions }) c.args.line.now) refl;
   charge = λ h stands other. refl;
+  tells = search rules;
   faults = search rules;
   own = search rules;
   limit = search rules;

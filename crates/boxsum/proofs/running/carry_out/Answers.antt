@@ -1,0 +1,90 @@
+use Rattle.std.proofs.Common.{map, string_bytes, refl, rules, arith}
+use Rattle.boxsum.proofs.Asked.{created_by, same_create, same_sample, same_scratch, sampled_by, scratched_by}
+use Rattle.boxsum.proofs.Nothing.{nothing_caused, nothing_created, nothing_run, nothing_sampled, nothing_scratched}
+use Rattle.boxsum.proofs.running.carry_out.Goals as goal
+
+pub returns-in-Ok-Create : goal.returns-in-Ok-Create
+returns-in-Ok-Create g c = record {
+  carried = record {
+    usage = search rules;
+    usage_only = search rules;
+    scratch = search rules;
+    create = λ params asked.
+        let same = same_create (map string_bytes c.args.words.now) c.in-Ok-Create.field-0 c.in-Ok-Create.params params c.in-Ok-Create.ensures.read c.in-Ok-Create.field-0-is asked in
+        record { untouched = (refl, refl); makes = created_by _ _ _ _ c.in-Ok-Create.params params same c.create_on.ensures.makes };
+    run = search rules;
+    sample = search rules;
+    may_end = search rules;
+    causes = search rules;
+    tells = c.create_on.ensures.tells;
+    faults = c.create_on.ensures.faults;
+  };
+}
+
+pub returns-in-Ok-Run : goal.returns-in-Ok-Run
+returns-in-Ok-Run g c = record {
+  carried = record {
+    usage = search rules;
+    usage_only = search rules;
+    scratch = search rules;
+    create = search rules;
+    run = λ asked. c.run_on.ensures.ran;
+    sample = search rules;
+    may_end = search rules;
+    causes = c.run_on.ensures.causes;
+    tells = c.run_on.ensures.tells;
+    faults = c.run_on.ensures.faults;
+  };
+}
+
+pub returns-in-Ok-Scratch : goal.returns-in-Ok-Scratch
+returns-in-Ok-Scratch g c = record {
+  carried = record {
+    usage = search rules;
+    usage_only = search rules;
+    scratch = λ params asked.
+        let same = same_scratch (map string_bytes c.args.words.now) c.in-Ok-Scratch.field-0 c.in-Ok-Scratch.params params c.in-Ok-Scratch.ensures.read c.in-Ok-Scratch.field-0-is asked in
+        record { disk_stays = refl; answers = scratched_by _ _ _ _ _ _ _ c.in-Ok-Scratch.params params same c.scratch_on.ensures.answers };
+    create = search rules;
+    run = search rules;
+    sample = search rules;
+    may_end = search rules;
+    causes = search rules;
+    tells = refl;
+    faults = omega arith;
+  };
+}
+
+pub returns-in-Ok-Sample : goal.returns-in-Ok-Sample
+returns-in-Ok-Sample g c = record {
+  carried = record {
+    usage = search rules;
+    usage_only = search rules;
+    scratch = search rules;
+    create = search rules;
+    run = search rules;
+    sample = λ start count asked.
+        let same = same_sample (map string_bytes c.args.words.now) c.in-Ok-Sample.field-0 c.in-Ok-Sample.start c.in-Ok-Sample.count start count c.in-Ok-Sample.ensures.read c.in-Ok-Sample.field-0-is asked in
+        record { source_stays = refl; samples = sampled_by _ _ _ _ _ _ _ c.in-Ok-Sample.start c.in-Ok-Sample.count start count same c.sample_on.ensures.samples };
+    may_end = search rules;
+    causes = search rules;
+    tells = c.sample_on.ensures.tells;
+    faults = c.sample_on.ensures.faults;
+  };
+}
+
+pub returns-in-Err-NoMemory : goal.returns-in-Err-NoMemory
+returns-in-Err-NoMemory g c = record {
+  carried = record {
+    usage = search rules;
+    usage_only = search rules;
+    scratch = λ params asked. nothing_scratched g.D.Disk g.S.Source g.K.Sink _ c.args.disk c.args.source.now c.args.sink.now params;
+    create = λ params asked. nothing_created g.D.Disk g.S.Source g.K.Sink _ c.args.disk c.args.source.now c.args.sink.now params;
+    run = λ asked. nothing_run g.D.Disk g.S.Source g.K.Sink _ c.args.disk c.args.source.now c.args.sink.now c.machine_laws.ensures.silent c.machine_laws.ensures.goes_on;
+    sample = λ start count asked. nothing_sampled g.D.Disk g.S.Source g.K.Sink _ c.args.disk c.args.source.now c.args.sink.now start count;
+    may_end = search rules;
+    causes = record { ports = nothing_caused g.S.Source g.K.Sink c.args.source.now c.args.sink.now; disk_fault = λ e. cc };
+    tells = refl;
+    faults = omega arith;
+  };
+}
