@@ -13,11 +13,11 @@ ghost use Rattle.cut_build.specs.Collected.{IsCollected, IsDamagedForPoints, Rea
 
 use crate::sides::{after_part, laws_of_borders};
 use bw_types::{Point, Tree};
-use cut_pages::{read_cuts, read_leaf};
+use cut_pages::{no_cuts, read_cuts, read_leaf};
 use cut_parts::{BorderTree, is_sound};
 use cut_points::may_be_built;
 use page_layout::CutNode;
-use page_ports::{PageFault, Pages, StageFault};
+use page_ports::{PageFault, Pages, StageFault, blank_page};
 use std::alloc::Global;
 
 /// The points of a tree, of which a tree may be built again.
@@ -91,10 +91,12 @@ fn collect_page<B: BorderTree, P: Pages>(
     if count <= 64 {
         return collect_leaf(pages, page, count, points);
     }
-    match read_cuts(pages, page) {
+    let mut bytes = blank_page();
+    let mut cuts = no_cuts();
+    match read_cuts(pages, page, &mut bytes, &mut cuts) {
         Err(PageFault::Disk) => Err(StageFault::Disk),
         Err(PageFault::Damaged(damaged)) => Err(StageFault::Damaged(damaged)),
-        Ok(cuts) => match collect_cut::<B, P>(pages, page, cuts.nodes.as_slice(), count, points) {
+        Ok(()) => match collect_cut::<B, P>(pages, page, cuts.nodes.as_slice(), count, points) {
             Err(fault) => Err(fault),
             Ok(()) => Ok(()),
         },

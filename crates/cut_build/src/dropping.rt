@@ -1,5 +1,5 @@
 //! The pages of a tree of cuts, and of a part of one, freed.
-ghost use Rattle.std.specs.Prelude.{◌≡◌, ◌≢◌, ◌++◌, ◌∷◌, ◌<◌, ◌≤◌, ℕ, List, [], None, Some, Err, IsTrue, IfOk, OnOk, length};
+ghost use Rattle.std.specs.Prelude.{◌≡◌, ◌≢◌, ◌++◌, ◌∷◌, ◌<◌, ◌≤◌, ℕ, List, [], None, Some, Err, IsTrue, OnOk, length};
 ghost use Rattle.bw_types.specs.Empty.{empty_tree};
 ghost use Rattle.bw_types.specs.declared.point.Point.{Point};
 ghost use Rattle.page_ports.specs.Calls.{Changes};
@@ -17,10 +17,10 @@ ghost use Rattle.cut_pages.specs.Nodes.{AreNodes};
 
 use crate::sides::{after_part, laws_of_borders};
 use bw_types::Tree;
-use cut_pages::{read_cuts, read_leaf};
+use cut_pages::{no_cuts, read_cuts, read_leaf};
 use cut_parts::{BorderTree, is_sound};
 use page_layout::{CutNode, CutPage};
-use page_ports::{PageFault, Stage, StageFault};
+use page_ports::{PageFault, Stage, StageFault, blank_page};
 
 /// Frees the pages of a tree and of its borders, and no other. Each page is read before it is freed, since it names others.
 ///
@@ -81,9 +81,10 @@ fn drop_page<B: BorderTree, S: Stage>(
             Ok(()) => Ok(()),
         };
     }
-    match free_cuts(stage, page) {
+    let mut cuts = no_cuts();
+    match free_cuts(stage, page, &mut cuts) {
         Err(fault) => Err(fault),
-        Ok(cuts) => match drop_cut::<B, S>(stage, page, cuts.nodes.as_slice(), count) {
+        Ok(()) => match drop_cut::<B, S>(stage, page, cuts.nodes.as_slice(), count) {
             Err(fault) => Err(fault),
             Ok(()) => Ok(()),
         },
@@ -111,23 +112,24 @@ fn free_leaf<S: Stage>(stage: &mut S, page: u64, count: u32) -> Result<(), Stage
     }
 }
 
-// Frees a page of cuts, and answers its nodes.
-fn free_cuts<S: Stage>(stage: &mut S, page: u64) -> Result<CutPage, StageFault>
-    ensures freed { IfOk result (λ cuts. IsTrue (S.tells stage.old)
-        → HoldsCuts (S.map stage.old) page cuts.nodes.items × (S.map stage.new ≡ remove_page (S.map stage.old) page)) }
-    ensures nodes { IfOk result (λ cuts. AreNodes cuts.nodes.items × (3 ≤ length cuts.nodes.items)) }
+// Frees a page of cuts, and makes `cuts` its nodes.
+fn free_cuts<S: Stage>(stage: &mut S, page: u64, cuts: &mut CutPage) -> Result<(), StageFault>
+    ensures freed { OnOk result (IsTrue (S.tells stage.old)
+        → HoldsCuts (S.map stage.old) page cuts.new.nodes.items × (S.map stage.new ≡ remove_page (S.map stage.old) page)) }
+    ensures nodes { OnOk result (AreNodes cuts.new.nodes.items × (3 ≤ length cuts.new.nodes.items)) }
     ensures damaged { (damaged : ℕ) → result ≡ Err (StageFault.Damaged damaged)
         → (damaged ≡ page) × (IsTrue (S.tells stage.old) → (nodes : List CutNode) → HoldsCuts (S.map stage.old) page nodes → ⊥) }
     ensures sound { (nodes : List CutNode) (damaged : ℕ) → IsTrue (S.tells stage.old) → HoldsCuts (S.map stage.old) page nodes
         → result ≢ Err (StageFault.Damaged damaged) }
     ensures changes { Changes S.Pages 0 stage.old stage.new result }
 {
-    match read_cuts(stage, page) {
+    let mut bytes = blank_page();
+    match read_cuts(stage, page, &mut bytes, cuts) {
         Err(PageFault::Disk) => Err(StageFault::Disk),
         Err(PageFault::Damaged(damaged)) => Err(StageFault::Damaged(damaged)),
-        Ok(cuts) => match stage.free(page) {
+        Ok(()) => match stage.free(page) {
             Err(fault) => Err(fault),
-            Ok(()) => Ok(cuts),
+            Ok(()) => Ok(()),
         },
     }
 }

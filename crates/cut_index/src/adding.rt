@@ -26,13 +26,14 @@ use crate::sound::{entry_at, high_place, node_at};
 use crate::splitting::store;
 use crate::storing::stage_cuts;
 use bw_types::{Point, Tree};
-use cut_pages::{replace_by_cut, replace_part, set_cut};
+use cut_pages::{no_cuts, replace_by_cut, replace_part, set_cut};
 use cut_parts::{BorderTree, is_balanced, is_sound};
 use page_layout::{CutNode, CutPage};
-use page_ports::{Stage, StageFault};
+use page_ports::{Page, Stage, StageFault};
 use std::alloc::Global;
 
-/// Adds a point to the part of so many points that begins with this page.
+/// Adds a point to the part of so many points that begins with this page. What `bytes` held does not matter; the pages on the way are
+/// read and written by way of them.
 #[cycle(adds)]
 pub fn page_add<B: BorderTree, S: Stage>(
     alloc: Global,
@@ -40,6 +41,7 @@ pub fn page_add<B: BorderTree, S: Stage>(
     page: u64,
     count: u32,
     point: &Point,
+    bytes: &mut Page,
 ) -> Result<Change, StageFault>
     requires page { 3 ≤ page }
     requires count { count < 2 ^ 31 }
@@ -73,11 +75,12 @@ pub fn page_add<B: BorderTree, S: Stage>(
             Ok(cut) => Ok(raised(page, &cut)),
         };
     }
-    match stage_cuts::<S>(stage, page) {
+    let mut cuts = no_cuts();
+    match stage_cuts::<S>(stage, page, bytes, &mut cuts) {
         Err(fault) => Err(fault),
-        Ok(mut cuts) => match cut_add::<B, S>(alloc, stage, page, &mut cuts, 0, count, point) {
+        Ok(()) => match cut_add::<B, S>(alloc, stage, page, &mut cuts, 0, count, point, bytes) {
             Err(fault) => Err(fault),
-            Ok(()) => match store::<B, S>(stage, page, &cuts) {
+            Ok(()) => match store::<B, S>(stage, page, &cuts, bytes) {
                 Err(fault) => Err(fault),
                 Ok(change) => Ok(change),
             },
@@ -117,6 +120,7 @@ fn part_add<B: BorderTree, S: Stage>(
     place: usize,
     count: u32,
     point: &Point,
+    bytes: &mut Page,
 ) -> Result<(), StageFault>
     requires count { count < 2 ^ 31 }
     requires keys { AreKeysBelow (suc B.DIMS) point.now.keys }
@@ -150,13 +154,13 @@ fn part_add<B: BorderTree, S: Stage>(
                 border: _,
             },
         ) => {
-            match cut_add::<B, S>(alloc, stage, page, cuts, place, count, point) {
+            match cut_add::<B, S>(alloc, stage, page, cuts, place, count, point, bytes) {
                 Err(fault) => Err(fault),
                 Ok(()) => Ok(()),
             }
         }
         Some(CutNode::Entry { child }) => {
-            match page_add::<B, S>(alloc, stage, child, count, point) {
+            match page_add::<B, S>(alloc, stage, child, count, point, bytes) {
                 Err(fault) => Err(fault),
                 Ok(change) => {
                     take_change(cuts, place, &change);
@@ -192,6 +196,7 @@ fn cut_add<B: BorderTree, S: Stage>(
     place: usize,
     count: u32,
     point: &Point,
+    bytes: &mut Page,
 ) -> Result<(), StageFault>
     requires count { count < 2 ^ 31 }
     requires keys { AreKeysBelow (suc B.DIMS) point.now.keys }
@@ -241,7 +246,7 @@ fn cut_add<B: BorderTree, S: Stage>(
     }
     if !goes_low {
         let high = high_place(cuts, place);
-        return match part_add::<B, S>(alloc, stage, page, cuts, high, count - low, point) {
+        return match part_add::<B, S>(alloc, stage, page, cuts, high, count - low, point, bytes) {
             Err(fault) => Err(fault),
             Ok(()) => Ok(()),
         };
@@ -260,7 +265,7 @@ fn cut_add<B: BorderTree, S: Stage>(
                     border,
                 },
             );
-            match part_add::<B, S>(alloc, stage, page, cuts, place + 1, low, point) {
+            match part_add::<B, S>(alloc, stage, page, cuts, place + 1, low, point, bytes) {
                 Err(fault) => Err(fault),
                 Ok(()) => Ok(()),
             }

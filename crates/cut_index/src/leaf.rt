@@ -15,7 +15,7 @@ use bw_types::Point;
 use cut_pages::{make_leaf, put_leaf};
 use cut_parts::BorderTree;
 use cut_points::{may_be_built, median_cut};
-use page_ports::{Stage, StageFault};
+use page_ports::{Stage, StageFault, blank_page};
 
 /// Puts a point behind those of a leaf of so many.
 pub(crate) fn leaf_add<S: Stage>(
@@ -142,7 +142,8 @@ fn put_halves<S: Stage>(stage: &mut S, page: u64, points: &[Point]) -> Result<u6
     ensures well { IsTrue (S.tells stage.old) → IsSome (S.map stage.old page) → GoesWell S.Pages 1 stage.old stage.new result }
     ensures grows { Grows S.Pages 1 stage.old stage.new result }
 {
-    match look_again(stage, page) {
+    let mut bytes = blank_page();
+    match look_again(stage, page, &mut bytes) {
         Err(fault) => Err(fault),
         Ok(()) => {
             let (lows, highs) = points.split_at(32);

@@ -19,7 +19,7 @@ use crate::storing::{free_again, put_again};
 use cut_pages::{Sides, make_cuts, split_first_cut};
 use cut_parts::BorderTree;
 use page_layout::{CutNode, CutPage};
-use page_ports::{Stage, StageFault};
+use page_ports::{Page, Stage, StageFault};
 
 // The page with which the part begins that these nodes spell.
 fn page_of(cuts: &CutPage) -> Option<u64>
@@ -36,11 +36,12 @@ fn page_of(cuts: &CutPage) -> Option<u64>
 }
 
 /// Stores what a page of cuts has become: nodes of at most 64 entries are put; a page of more is split at its first cut; and where
-/// an entry alone is left, the page is freed.
+/// an entry alone is left, the page is freed. What `bytes` held does not matter.
 pub(crate) fn store<B: BorderTree, S: Stage>(
     stage: &mut S,
     page: u64,
     cuts: &CutPage,
+    bytes: &mut Page,
 ) -> Result<Change, StageFault>
     requires { AreNodes cuts.now.nodes.items }
     ensures stored { IfOk result (λ change. IsTrue (S.tells stage.old) → (n : ℕ) (part : Part) → cuts.now.nodes.items ≡ nodes_of part
@@ -58,18 +59,18 @@ pub(crate) fn store<B: BorderTree, S: Stage>(
 {
     B::border_laws();
     if let Some(child) = page_of(cuts) {
-        return match free_again(stage, page) {
+        return match free_again(stage, page, bytes) {
             Err(fault) => Err(fault),
             Ok(()) => Ok(Change::Moved { page: child }),
         };
     }
     if cuts.nodes.len() > 127 {
-        return match page_split::<B, S>(stage, page, cuts) {
+        return match page_split::<B, S>(stage, page, cuts, bytes) {
             Err(fault) => Err(fault),
             Ok(change) => Ok(change),
         };
     }
-    match put_again(stage, page, cuts) {
+    match put_again(stage, page, cuts, bytes) {
         Err(fault) => Err(fault),
         Ok(()) => Ok(Change::Same),
     }
@@ -81,6 +82,7 @@ fn page_split<B: BorderTree, S: Stage>(
     stage: &mut S,
     page: u64,
     cuts: &CutPage,
+    bytes: &mut Page,
 ) -> Result<Change, StageFault>
     requires nodes { AreNodes cuts.now.nodes.items }
     requires many { 127 < length cuts.now.nodes.items }
@@ -108,7 +110,7 @@ fn page_split<B: BorderTree, S: Stage>(
         return Err(StageFault::Damaged(page));
     };
     match page_of(&lows) {
-        Some(low) => match put_again(stage, page, &highs) {
+        Some(low) => match put_again(stage, page, &highs, bytes) {
             Err(fault) => Err(fault),
             Ok(()) => Ok(Change::Raised {
                 cut,
@@ -117,7 +119,7 @@ fn page_split<B: BorderTree, S: Stage>(
             }),
         },
         None => match page_of(&highs) {
-            Some(high) => match put_again(stage, page, &lows) {
+            Some(high) => match put_again(stage, page, &lows, bytes) {
                 Err(fault) => Err(fault),
                 Ok(()) => Ok(Change::Raised {
                     cut,
@@ -125,7 +127,7 @@ fn page_split<B: BorderTree, S: Stage>(
                     high,
                 }),
             },
-            None => match put_both(stage, page, &lows, &highs) {
+            None => match put_both(stage, page, &lows, &highs, bytes) {
                 Err(fault) => Err(fault),
                 Ok(high) => Ok(Change::Raised {
                     cut,
@@ -143,6 +145,7 @@ fn put_both<S: Stage>(
     page: u64,
     lows: &CutPage,
     highs: &CutPage,
+    bytes: &mut Page,
 ) -> Result<u64, StageFault>
     requires lows { AreNodes lows.now.nodes.items × (3 ≤ length lows.now.nodes.items) × (length lows.now.nodes.items ≤ 127) }
     requires highs { AreNodes highs.now.nodes.items × (3 ≤ length highs.now.nodes.items) × (length highs.now.nodes.items ≤ 127) }
@@ -155,7 +158,7 @@ fn put_both<S: Stage>(
     ensures well { IsTrue (S.tells stage.old) → IsSome (S.map stage.old page) → GoesWell S.Pages 1 stage.old stage.new result }
     ensures grows { Grows S.Pages 1 stage.old stage.new result }
 {
-    match put_again(stage, page, lows) {
+    match put_again(stage, page, lows, bytes) {
         Err(fault) => Err(fault),
         Ok(()) => match make_cuts(stage, highs) {
             Err(fault) => Err(fault),

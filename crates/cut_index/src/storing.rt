@@ -12,23 +12,29 @@ use arrayvec::ArrayVec;
 use bw_types::Point;
 use cut_pages::{put_cuts, read_cuts, read_leaf};
 use page_layout::CutPage;
-use page_ports::{PageFault, Stage, StageFault, blank_page};
+use page_ports::{Page, PageFault, Stage, StageFault};
 
-/// The nodes that a page holds. `Damaged` carries the page, where it holds none.
-pub(crate) fn stage_cuts<S: Stage>(stage: &mut S, page: u64) -> Result<CutPage, StageFault>
-    ensures found { IfOk result (λ cuts. IsTrue (S.tells stage.old) → HoldsCuts (S.map stage.old) page cuts.nodes.items) }
-    ensures nodes { IfOk result (λ cuts. AreNodes cuts.nodes.items) }
-    ensures many { IfOk result (λ cuts. (3 ≤ length cuts.nodes.items) × (length cuts.nodes.items ≤ 127)) }
+/// Makes `cuts` the nodes that a page holds, whatever they were. Its bytes are put into `bytes`. `Damaged` carries the page, where
+/// it holds none.
+pub(crate) fn stage_cuts<S: Stage>(
+    stage: &mut S,
+    page: u64,
+    bytes: &mut Page,
+    cuts: &mut CutPage,
+) -> Result<(), StageFault>
+    ensures found { OnOk result (IsTrue (S.tells stage.old) → HoldsCuts (S.map stage.old) page cuts.new.nodes.items) }
+    ensures nodes { OnOk result (AreNodes cuts.new.nodes.items) }
+    ensures many { OnOk result ((3 ≤ length cuts.new.nodes.items) × (length cuts.new.nodes.items ≤ 127)) }
     ensures map { S.map stage.new ≡ S.map stage.old }
     ensures damaged { (damaged : ℕ) → result ≡ Err (StageFault.Damaged damaged)
         → (damaged ≡ page) × (IsTrue (S.tells stage.old) → (nodes : List CutNode) → HoldsCuts (S.map stage.old) page nodes → ⊥) }
     ensures well { IsTrue (S.tells stage.old) → (nodes : List CutNode) → HoldsCuts (S.map stage.old) page nodes → GoesWell S.Pages 0 stage.old stage.new result }
     ensures grows { Grows S.Pages 0 stage.old stage.new result }
 {
-    match read_cuts(stage, page) {
+    match read_cuts(stage, page, bytes, cuts) {
         Err(PageFault::Disk) => Err(StageFault::Disk),
         Err(PageFault::Damaged(damaged)) => Err(StageFault::Damaged(damaged)),
-        Ok(cuts) => Ok(cuts),
+        Ok(()) => Ok(()),
     }
 }
 
@@ -54,8 +60,12 @@ pub(crate) fn stage_leaf<S: Stage>(
     }
 }
 
-// Gets a page, so that it is known to be there: a page may be gone that was read before others were freed.
-pub(crate) fn look_again<S: Stage>(stage: &mut S, page: u64) -> Result<(), StageFault>
+// Gets a page, so that it is known to be there: a page may be gone that was read before others were freed. It is put into `bytes`.
+pub(crate) fn look_again<S: Stage>(
+    stage: &mut S,
+    page: u64,
+    bytes: &mut Page,
+) -> Result<(), StageFault>
     ensures there { OnOk result (IsTrue (S.tells stage.old) → IsSome (S.map stage.new page)) }
     ensures map { S.map stage.new ≡ S.map stage.old }
     ensures damaged { (damaged : ℕ) → result ≡ Err (StageFault.Damaged damaged) → IsTrue (S.tells stage.old)
@@ -63,19 +73,19 @@ pub(crate) fn look_again<S: Stage>(stage: &mut S, page: u64) -> Result<(), Stage
     ensures well { IsTrue (S.tells stage.old) → IsSome (S.map stage.old page) → GoesWell S.Pages 0 stage.old stage.new result }
     ensures grows { Grows S.Pages 0 stage.old stage.new result }
 {
-    let mut bytes = blank_page();
-    match stage.get(page, &mut bytes) {
+    match stage.get(page, bytes) {
         Err(PageFault::Disk) => Err(StageFault::Disk),
         Err(PageFault::Damaged(damaged)) => Err(StageFault::Damaged(damaged)),
         Ok(()) => Ok(()),
     }
 }
 
-/// Overwrites a page, which is got again before.
+/// Overwrites a page, which is got again before. What `bytes` held does not matter.
 pub(crate) fn put_again<S: Stage>(
     stage: &mut S,
     page: u64,
     cuts: &CutPage,
+    bytes: &mut Page,
 ) -> Result<(), StageFault>
     requires nodes { AreNodes cuts.now.nodes.items }
     requires many { (3 ≤ length cuts.now.nodes.items) × (length cuts.now.nodes.items ≤ 127) }
@@ -86,24 +96,28 @@ pub(crate) fn put_again<S: Stage>(
     ensures well { IsTrue (S.tells stage.old) → IsSome (S.map stage.old page) → GoesWell S.Pages 0 stage.old stage.new result }
     ensures grows { Grows S.Pages 0 stage.old stage.new result }
 {
-    match look_again(stage, page) {
+    match look_again(stage, page, bytes) {
         Err(fault) => Err(fault),
-        Ok(()) => match put_cuts(stage, page, cuts) {
+        Ok(()) => match put_cuts(stage, page, cuts, bytes) {
             Err(fault) => Err(fault),
             Ok(()) => Ok(()),
         },
     }
 }
 
-/// Frees a page, which is got again before.
-pub(crate) fn free_again<S: Stage>(stage: &mut S, page: u64) -> Result<(), StageFault>
+/// Frees a page, which is got again before. What `bytes` held does not matter.
+pub(crate) fn free_again<S: Stage>(
+    stage: &mut S,
+    page: u64,
+    bytes: &mut Page,
+) -> Result<(), StageFault>
     ensures freed { OnOk result (IsTrue (S.tells stage.old) → Replaces (page ∷ []) [] (S.map stage.old) (S.map stage.new)) }
     ensures damaged { (damaged : ℕ) → result ≡ Err (StageFault.Damaged damaged) → IsTrue (S.tells stage.old)
         → (damaged ≡ page) × (S.map stage.old page ≡ None) }
     ensures well { IsTrue (S.tells stage.old) → IsSome (S.map stage.old page) → GoesWell S.Pages 0 stage.old stage.new result }
     ensures changes { Changes S.Pages 0 stage.old stage.new result }
 {
-    match look_again(stage, page) {
+    match look_again(stage, page, bytes) {
         Err(fault) => Err(fault),
         Ok(()) => match stage.free(page) {
             Err(fault) => Err(fault),

@@ -25,7 +25,7 @@ use bw_types::{Point, Tree};
 use cut_pages::{make_cuts, make_leaf};
 use cut_parts::BorderTree;
 use page_layout::{CutNode, CutPage};
-use page_ports::{Stage, StageFault};
+use page_ports::{Stage, StageFault, blank_page};
 use std::alloc::Global;
 
 const MOST_POINTS: u32 = 0x8000_0000;
@@ -168,7 +168,8 @@ fn root_add<B: BorderTree, S: Stage>(
     ensures changes { Changes S.Pages (S.allotted stage.new + 1) stage.old stage.new result }
 {
     B::border_laws();
-    match page_add::<B, S>(alloc, stage, root, count, point) {
+    let mut bytes = blank_page();
+    match page_add::<B, S>(alloc, stage, root, count, point, &mut bytes) {
         Err(fault) => Err(fault),
         Ok(Change::Same) => Ok(root),
         Ok(Change::Moved { page }) => Ok(page),

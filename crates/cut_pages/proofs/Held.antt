@@ -32,7 +32,10 @@ no_cuts_held pages page nodes none held = none (cut_page_in held.bytes) held.byt
 pub cuts_are_nodes : (cuts : CutPage) → IsCutPage cuts → IsTyped cuts → AreNodes cuts.nodes.items
 cuts_are_nodes cuts rules typed = record { filled = rules.filled; fit = rules.nodes; typed = typed }
 
-pub so_many_nodes : (cuts : CutPage) → IsCutPage cuts → (3 ≤ length cuts.nodes.items) × (length cuts.nodes.items ≤ 127)
+abbrev pub AreSoMany : List CutNode → Type 0
+AreSoMany nodes = (3 ≤ length nodes) × (length nodes ≤ 127)
+
+pub so_many_nodes : (cuts : CutPage) → IsCutPage cuts → AreSoMany cuts.nodes.items
 so_many_nodes cuts rules =
     let sized = entries-filled 1 cuts.nodes.items rules.filled in
     (omega (arith, sized, rules.some), omega (arith, sized, rules.few))

@@ -20,6 +20,6 @@ pub use laws::{cuts_divide_regions, pages_hold_one, parts_fill_places};
 pub use nodes::Nodes;
 pub use parts::{after_part, part_length};
 pub use putting::{make_cuts, make_leaf, put_cuts, put_leaf};
-pub use reading::{leaf_sum, read_cuts, read_leaf, view_cuts};
+pub use reading::{leaf_sum, no_cuts, read_cuts, read_leaf, view_cuts};
 pub use searching::{find, region_of};
 pub use splitting::{Sides, split_first_cut};

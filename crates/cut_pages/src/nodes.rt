@@ -1,5 +1,5 @@
 //! The nodes of a page of cuts, walked where they stand.
-ghost use Rattle.std.specs.Prelude.{◌≡◌, ◌∷◌, ◌<◌, [], IfSome, List, length, drop};
+ghost use Rattle.std.specs.Prelude.{◌≡◌, ◌+◌, ◌∷◌, ◌<◌, [], IfSome, List, length, drop};
 ghost use Rattle.page_layout.specs.declared.cut_page.CutNode.{CutNode};
 ghost use Rattle.cut_parts.specs.Damage.{after_parts};
 ghost use Rattle.cut_pages.specs.Places.{IsPlace};
@@ -33,11 +33,13 @@ impl<'a> Model for Nodes<'a> {
 }
 
 // The node at a place, and the place behind it.
+#[inline]
 fn node_at(cuts: &View<CutPage>, at: Place) -> (CutNode, Place)
     requires place { IsPlace cuts.now.nodes.items at.place at.before }
     requires within { at.place < length cuts.now.nodes.items }
     ensures node { drop at.place cuts.now.nodes.items ≡ result.0 ∷ drop result.1.place cuts.now.nodes.items }
     ensures place { IsPlace cuts.now.nodes.items result.1.place result.1.before }
+    ensures next { result.1.place ≡ at.place + 1 }
 {
     cuts.keeps_rules();
     let next = at.place + 1;
@@ -65,6 +67,20 @@ fn node_at(cuts: &View<CutPage>, at: Place) -> (CutNode, Place)
                 before: at.before + 1,
             },
         ),
+    }
+}
+
+/// Makes the page's nodes those that the view shows, whatever they were.
+pub(crate) fn fill(page: &mut CutPage, cuts: &View<CutPage>)
+    ensures { page.new.nodes.items ≡ cuts.now.nodes.items }
+{
+    cuts.keeps_rules();
+    page.nodes.clear();
+    let mut before: usize = 0;
+    for place in 0..cuts.node_count() {
+        let (node, next) = node_at(cuts, Place { place, before });
+        page.nodes.push(node);
+        before = next.before;
     }
 }
 

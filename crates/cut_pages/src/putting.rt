@@ -2,20 +2,44 @@
 ghost use Rattle.std.specs.Prelude.{◌≡◌, ◌≢◌, ◌≤◌, ◌∷◌, [], ℕ, length, Err, IsTrue, IsSome, IfOk, OnOk};
 ghost use Rattle.page_ports.specs.Calls.{Grows};
 ghost use Rattle.page_ports.specs.Frame.{Replaces};
+ghost use Rattle.page_ports.specs.Pages.{put_page};
 ghost use Rattle.cut_parts.specs.Spelling.{HoldsCuts, HoldsLeaf};
+ghost use Rattle.page_layout.specs.CutPage.{IsCutPage, cut_page_page};
 ghost use Rattle.page_layout.specs.PointLeaf.{IsPointTyped, IsTyped};
 ghost use Rattle.cut_pages.specs.Nodes.{AreNodes};
 
 use arrayvec::ArrayVec;
 use bw_types::Point;
 use page_access::{make_page, put_page};
-use page_layout::{CutPage, PointLeaf};
-use page_ports::{Stage, StageFault};
+use page_layout::{CutPage, PointLeaf, Spelled};
+use page_ports::{Page, Stage, StageFault};
 
-/// Overwrites a page with nodes.
+// Overwrites a page with nodes that keep their rules.
+fn put_written<S: Stage>(
+    stage: &mut S,
+    page: u64,
+    cuts: &CutPage,
+    bytes: &mut Page,
+) -> Result<(), StageFault>
+    requires rules { IsCutPage cuts.now }
+    requires in_map { IsTrue (S.tells stage.old) → IsSome (S.map stage.old page) }
+    ensures ok { OnOk result (IsTrue (S.tells stage.old) → S.map stage.new ≡ put_page (S.map stage.old) page (cut_page_page cuts.now)) }
+    ensures damaged { (p : ℕ) → IsTrue (S.tells stage.old) → result ≢ Err (StageFault.Damaged p) }
+    ensures grows { Grows S.Pages 0 stage.old stage.new result }
+{
+    cuts.write(bytes);
+    stage.put(page, bytes)
+}
+
+/// Overwrites a page with nodes, which are first written to `bytes`; what they held does not matter.
 ///
 /// `Damaged` and `PageLimit` never come where the map is told.
-pub fn put_cuts<S: Stage>(stage: &mut S, page: u64, cuts: &CutPage) -> Result<(), StageFault>
+pub fn put_cuts<S: Stage>(
+    stage: &mut S,
+    page: u64,
+    cuts: &CutPage,
+    bytes: &mut Page,
+) -> Result<(), StageFault>
     requires nodes { AreNodes cuts.now.nodes.items }
     requires many { (3 ≤ length cuts.now.nodes.items) × (length cuts.now.nodes.items ≤ 127) }
     requires in_map { IsTrue (S.tells stage.old) → IsSome (S.map stage.old page) }
@@ -24,7 +48,7 @@ pub fn put_cuts<S: Stage>(stage: &mut S, page: u64, cuts: &CutPage) -> Result<()
     ensures damaged { (p : ℕ) → IsTrue (S.tells stage.old) → result ≢ Err (StageFault.Damaged p) }
     ensures grows { Grows S.Pages 0 stage.old stage.new result }
 {
-    put_page(stage, page, cuts)
+    put_written(stage, page, cuts, bytes)
 }
 
 /// A new page that holds nodes.

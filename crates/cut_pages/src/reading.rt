@@ -1,5 +1,5 @@
 //! Reading what a page holds.
-ghost use Rattle.std.specs.Prelude.{◌≡◌, ◌≤◌, ℕ, List, length, Err, IsTrue, IfOk};
+ghost use Rattle.std.specs.Prelude.{◌≡◌, ◌≤◌, [], ℕ, List, length, Err, IsTrue, IfOk, OnOk, OnErr};
 ghost use Rattle.bw_types.specs.Dominance.{dominance_sum};
 ghost use Rattle.bw_types.specs.declared.point.Point.{Point};
 ghost use Rattle.page_ports.specs.Calls.{OnlyReads};
@@ -8,8 +8,10 @@ ghost use Rattle.page_layout.specs.declared.cut_page.CutNode.{CutNode};
 ghost use Rattle.cut_parts.specs.Spelling.{HoldsCuts, HoldsLeaf};
 ghost use Rattle.cut_pages.specs.Nodes.{AreNodes};
 
+use crate::nodes::fill;
+use arrayvec::ArrayVec;
 use dom_index::sum_on;
-use page_access::{read_page, view_page};
+use page_access::view_page;
 use page_layout::{CutPage, PointLeaf, View};
 use page_ports::{Page, PageFault, Pages, blank_page};
 
@@ -32,20 +34,42 @@ pub fn view_cuts<'a, P: Pages>(
     }
 }
 
-/// The nodes that a page holds.
+/// A page without nodes, which spells none: room for one that is read.
+#[inline(always)]
+pub fn no_cuts() -> CutPage
+    ensures { result.nodes.items ≡ [] }
+{
+    CutPage {
+        nodes: ArrayVec::new(),
+    }
+}
+
+/// Makes `cuts` the nodes that a page holds, whatever they were. After a refusal they are as they were. The page's bytes are put into
+/// `bytes`.
+///
+/// Nodes are larger than a page. So they are put where they are to stand, and not handed back.
 ///
 /// `Damaged` carries this page. It comes exactly where the page holds no cuts, save where the device failed first.
-pub fn read_cuts<P: Pages>(pages: &mut P, page: u64) -> Result<CutPage, PageFault>
-    ensures found { IfOk result (λ cuts. IsTrue (P.tells pages.old) → HoldsCuts (P.map pages.old) page cuts.nodes.items) }
-    ensures nodes { IfOk result (λ cuts. AreNodes cuts.nodes.items) }
-    ensures many { IfOk result (λ cuts. (3 ≤ length cuts.nodes.items) × (length cuts.nodes.items ≤ 127)) }
+pub fn read_cuts<P: Pages>(
+    pages: &mut P,
+    page: u64,
+    bytes: &mut Page,
+    cuts: &mut CutPage,
+) -> Result<(), PageFault>
+    ensures found { OnOk result (IsTrue (P.tells pages.old) → HoldsCuts (P.map pages.old) page cuts.new.nodes.items) }
+    ensures nodes { OnOk result (AreNodes cuts.new.nodes.items) }
+    ensures many { OnOk result ((3 ≤ length cuts.new.nodes.items) × (length cuts.new.nodes.items ≤ 127)) }
+    ensures unchanged { OnErr result (cuts.new ≡ cuts.old) }
     ensures damaged { (p : ℕ) → result ≡ Err (PageFault.Damaged p)
         → (p ≡ page) × (IsTrue (P.tells pages.old) → (nodes : List CutNode) → HoldsCuts (P.map pages.old) page nodes → ⊥) }
     ensures reads { OnlyReads P.Pages 1 pages.old pages.new result }
 {
-    match read_page::<CutPage, P>(pages, page) {
+    match view_page::<CutPage, P>(pages, page, bytes) {
         Err(fault) => Err(fault),
-        Ok(cuts) => Ok(cuts),
+        Ok(view) => {
+            fill(cuts, &view);
+            Ok(())
+        }
     }
 }
 

@@ -3,9 +3,11 @@ use crate::PlaneTree;
 use bw_types::{Point, Tree, point_key};
 use cut_build::{build, collect, drop_tree};
 use cut_index::tree_add;
+use cut_pages::no_cuts;
 use cut_points::may_be_built;
 use cut_query::tree_sum;
 use key_trees::KeyTree;
+use page_layout::CutPage;
 use page_ports::{MemStage, PageFault, Pages, Stage, StageFault, blank_page};
 use std::alloc::{AllocError, Global};
 
@@ -130,6 +132,13 @@ pub(crate) fn drop_all(stage: &mut MemStage, three: bool, tree: &Tree) -> Result
     } else {
         drop_tree::<KeyTree, MemStage>(stage, tree)
     }
+}
+
+/// The nodes that a page holds.
+pub(crate) fn read_cuts<P: Pages>(pages: &mut P, page: u64) -> Result<CutPage, PageFault> {
+    let mut cuts = no_cuts();
+    cut_pages::read_cuts(pages, page, &mut blank_page(), &mut cuts)?;
+    Ok(cuts)
 }
 
 /// How many pages of the stage are in use.

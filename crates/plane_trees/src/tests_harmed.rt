@@ -1,7 +1,8 @@
 //! Trees of which a page is broken: each call returns, and what it refuses is damage.
-use crate::samples::{GREATEST, add, built, collected, draw, drop_all, point_at, row, sum, total};
+use crate::samples::{
+    GREATEST, add, built, collected, draw, drop_all, point_at, read_cuts, row, sum, total,
+};
 use bw_types::Tree;
-use cut_pages::read_cuts;
 use page_layout::{CutNode, CutPage, Spelled};
 use page_ports::{FREE_PAGE, MemStage, Page, PageFault, Pages, Stage, StageFault, blank_page};
 use std::alloc::Global;

@@ -1,9 +1,11 @@
 //! Points in rows, and of two places by turns: the shapes that trees come to have.
 use crate::PlaneTree;
-use crate::samples::{add, built, collected, drop_all, pages_in_use, point_at, row, total};
+use crate::samples::{
+    add, built, collected, drop_all, pages_in_use, point_at, read_cuts, row, total,
+};
 use crate::walker::cuts_of;
 use bw_types::Tree;
-use cut_pages::{read_cuts, read_leaf};
+use cut_pages::read_leaf;
 use cut_parts::BorderTree;
 use page_layout::{CutNode, CutPage};
 use page_ports::{MemStage, PageFault, StageFault};

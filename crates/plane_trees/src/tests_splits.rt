@@ -1,9 +1,8 @@
 //! A part of a page that is made anew, and pages of cuts that are split. All points are at 0 in the second dimension, so that each
 //! cut is in the first.
 use crate::beside::is_right;
-use crate::samples::{add, built, pages_in_use};
+use crate::samples::{add, built, pages_in_use, read_cuts};
 use bw_types::{Point, Tree, point_key};
-use cut_pages::read_cuts;
 use cut_parts::BorderTree;
 use key_trees::KeyTree;
 use page_layout::{CutNode, CutPage};

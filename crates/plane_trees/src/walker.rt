@@ -1,6 +1,7 @@
 //! A walker through the pages of a tree, which tells whether its cuts and leaves are as they have to be.
+use crate::samples::read_cuts;
 use bw_types::{Point, Region, Tree};
-use cut_pages::{read_cuts, read_leaf};
+use cut_pages::read_leaf;
 use page_layout::{CutNode, CutPage};
 use page_ports::{PageFault, Pages, StageFault};
 use std::alloc::{AllocError, Global};

@@ -45,7 +45,7 @@ collect_page-returns-in-Err-clause-sound g t c = λ part damaged tells begins st
     let b = g.B.BorderTree in
     let m : PageMap = g.P.Pages.map c.args.pages.now in
     let read = c.in-Ok.ensures.reads.read in
-    let at = in_page b m c.args.count c.args.page c.in-Ok.cuts.nodes.items part begins c.if-count-le64.false (c.in-Ok.ensures.found tells) stands in
+    let at = in_page b m c.args.count c.args.page c.read_cuts.new.cuts.nodes.items part begins c.if-count-le64.false (c.in-Ok.ensures.found tells) stands in
     c.collect_cut.ensures.sound at.cut [] damaged (read.tells ∙ tells) (c.as_slice.ensures.value ∙ at.nodes_are) at.inside
     (subst (λ (n : PageMap). PartStands b n c.args.count at.cut) (sym read.map) at.stands) (c.in-Err.is ∙ e)
 
@@ -54,7 +54,7 @@ collect_page-returns-in-Ok-collect_cut-clause-points g t c = λ tells part begin
     let b = g.B.BorderTree in
     let m : PageMap = g.P.Pages.map c.args.pages.now in
     let read = c.in-Ok.ensures.reads.read in
-    let at = in_page b m c.args.count c.args.page c.in-Ok.cuts.nodes.items part begins c.if-count-le64.false (c.in-Ok.ensures.found tells) stands in
+    let at = in_page b m c.args.count c.args.page c.read_cuts.new.cuts.nodes.items part begins c.if-count-le64.false (c.in-Ok.ensures.found tells) stands in
     c.in-Ok-collect_cut.ensures.points (read.tells ∙ tells) at.cut [] (c.as_slice.ensures.value ∙ at.nodes_are)
     (subst (λ (n : PageMap). PartStands b n c.args.count at.cut) (sym read.map) at.stands)
     ∙ ap (λ (ps : List Point). c.args.points.now.items ++ ps) at.points
@@ -175,7 +175,7 @@ collect_page-returns-in-Err-clause-damaged g t c = λ damaged e tells.
     let dims : ℕ = suc g.B.BorderTree.DIMS in
     let m : PageMap = g.P.Pages.map c.args.pages.now in
     let read = c.in-Ok.ensures.reads.read in
-    let nodes : List CutNode = c.in-Ok.cuts.nodes.items in
+    let nodes : List CutNode = c.read_cuts.new.cuts.nodes.items in
     walks_in dims (IsNotAsTold dims damaged m) m c.args.count c.args.page nodes (omega (arith, c.if-count-le64.false)) (c.in-Ok.ensures.found tells)
     (subst (λ (ns : List CutNode). IsDamagedForCollect dims m c.args.count (BeforeCut c.args.page ns) damaged) c.as_slice.ensures.value
     (subst (λ (a : PageMap). IsDamagedForCollect dims a c.args.count (BeforeCut c.args.page c.as_slice.result.now) damaged) read.map
@@ -186,7 +186,7 @@ collect_page-returns-in-Ok-collect_cut-clause-there g t c = λ tells.
     let m : PageMap = g.P.Pages.map c.args.pages.now in
     let n : ℕ = c.args.count in
     let read = c.in-Ok.ensures.reads.read in
-    let nodes : List CutNode = c.in-Ok.cuts.nodes.items in
+    let nodes : List CutNode = c.read_cuts.new.cuts.nodes.items in
     let old : List Point = c.args.points.now.items in
     let last : List Point = c.collect_cut.new.points.items in
     let found : IsCollected (g.P.Pages.map c.read_cuts.new.pages) n c.as_slice.result.now old last = c.in-Ok-collect_cut.ensures.there (read.tells ∙ tells) in
