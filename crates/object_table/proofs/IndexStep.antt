@@ -34,7 +34,7 @@ use Rattle.object_table.proofs.LastLives.{step_path, step_leads}
 use Rattle.object_table.proofs.Nodes.{node_on-fits}
 use Rattle.object_table.proofs.Order.{first_low-later}
 use Rattle.object_table.proofs.Ordered.{proper_take, proper_drop}
-use Rattle.object_table.proofs.Reading.{begun_in}
+use Rattle.object_table.proofs.Reading.{begun_at, index_is}
 use Rattle.object_table.proofs.Rules.{ProperEntries, index_proper, index_rules, fits_index}
 use Rattle.object_table.proofs.Standing.{pages_on, list_pages}
 use Rattle.object_table.proofs.Stepping.{second_between, first_typed}
@@ -332,16 +332,17 @@ index_others (suc (suc l)) m0 m1 m2 m3 page place bytes entries shown k step sam
     others_then (pages_below ByLives (suc (suc l)) m0 page) (pages_below ByLives (suc l) m0 step.child) (page ∷ []) m0 m2 m3
     (outside_both l m0 page place bytes entries k step there r.fits (step_parts (suc (suc l)) place bytes entries shown k step r)) below2 stored
 
-pub read_index : (level : ℕ) (place : Place) (node : LifeNode) (bytes : List ℕ) (l : ℕ) (entries shown : List LifeEntry) (k : ℕ) (step : Step) → FitsPlace ByLives level place node bytes → node ≡ index_of l entries
-    → shown ≡ entries → IsCut shown k place.sought → ((d : LifeEntry) → IsStepTo step (get_or shown (k - 1) d) (drop (k - 1 + 1) shown) place.high place.sought) → place.sought < place.high
-    → ReadIndex level place bytes entries shown k step
-read_index level place node bytes l entries shown k step f is same cut steps below =
+pub index_seen : (level : ℕ) (place : Place) (node : LifeNode) (bytes : List ℕ) (entries : List LifeEntry) (k : ℕ) (step : Step) → 2 ≤ level → FitsPlace ByLives level place node bytes
+    → entries ≡ entries_in node → IsCut (entries_in node) k place.sought
+    → ((d : LifeEntry) → IsStepTo step (get_or (entries_in node) (k - 1) d) (drop (k - 1 + 1) (entries_in node)) place.high place.sought) → place.sought < place.high
+    → ReadIndex level place bytes entries (entries_in node) k step
+index_seen level place node bytes entries k step high f same cut steps below =
     record {
-      fits = index_read level place node bytes l entries f is;
-      same = same;
+      fits = index_read level place node bytes level entries f (index_is level node bytes high f.fits ∙ ap (index_of level) (sym same));
+      same = sym same;
       cut = cut;
       steps = steps;
-      some = begun_in ByLives level place node bytes shown k l (record { items = entries }) f is (same ∙ ap entries_in (sym is)) cut;
+      some = begun_at ByLives level place node bytes k high f cut;
       below = below;
     }
 

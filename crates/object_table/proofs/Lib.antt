@@ -29,5 +29,6 @@ pub mod Sound
 pub mod SoundAsked
 pub mod Standing
 pub mod Stepping
+pub mod Views
 pub mod Withdrawals
 pub mod Within

@@ -65,7 +65,7 @@ index_objects ByIds level node bytes f = ap objects_in f.2 ∙ told_index f.0 f.
   told_index (table_node.Index l entries) at = refl
 
 -- an entry of the earlier form
-life_entry-at : (es : List TableEntry) (k : ℕ) (d : LifeEntry) (d0 : TableEntry) → k < length es → get_or (map life_entry es) k d ≡ life_entry (get_or es k d0)
+pub life_entry-at : (es : List TableEntry) (k : ℕ) (d : LifeEntry) (d0 : TableEntry) → k < length es → get_or (map life_entry es) k d ≡ life_entry (get_or es k d0)
 life_entry-at es k d d0 h = get_or_default (map life_entry es) k d (life_entry d0) (omega (arith, h, length-map es life_entry)) ∙ get_or-map life_entry es k d0
 
 ids_adjacent : (es : List TableEntry) → AllAdjacentBelow (λ e next. e.low < next.low) es (length es)

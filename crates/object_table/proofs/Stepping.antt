@@ -27,6 +27,7 @@ use Rattle.object_table.proofs.Nodes.{node_on-fits, same_spelled}
 use Rattle.object_table.proofs.Order.{All-left, All-right}
 use Rattle.object_table.proofs.Ordered.{proper_take, proper_drop, asc_before}
 use Rattle.object_table.proofs.PuttingIn.{all_put, length_put}
+use Rattle.object_table.proofs.Reading.{leaf_is}
 use Rattle.object_table.proofs.Rules.{leaf_proper, fits_leaf}
 use Rattle.object_table.proofs.Standing.{split_stands}
 
@@ -42,6 +43,11 @@ pub read_leaf : (level : ℕ) (place : Place) (node : LifeNode) (bytes : List �
 read_leaf level place node bytes objects f is =
     let f1 = subst (λ (n : LifeNode). FitsPlace ByLives level place n bytes) is f in
     record { one = sym f1.fits.at_level; spelled = f1.fits.spelled; rules = f1.fits.rules; typed = f1.fits.typed; fits = f1 }
+
+pub leaf_seen : (level : ℕ) (place : Place) (node : LifeNode) (bytes : List ℕ) (objects : List Dated) → level ≡ 1 → FitsPlace ByLives level place node bytes → objects ≡ objects_in node
+    → ReadLeaf level place bytes objects
+leaf_seen level place node bytes objects one f same =
+    read_leaf level place node bytes objects f (leaf_is level node bytes one f.fits ∙ ap leaf_of (sym same))
 
 -- An object goes into the leaf.
 pub record IntoLeaf (place : Place) (d : Dated) (objects new : List Dated) : Type 0 where

@@ -9,3 +9,4 @@ pub mod Nodes
 pub mod Stands
 pub mod Steps
 pub mod Stored
+pub mod Views

@@ -21,16 +21,16 @@ ghost use Rattle.object_table.specs.Stored.{IsPutInLeaf, IsSecondOf, IsStored, O
 use crate::copying::copied_dated;
 use crate::form::Form;
 use crate::key::key;
-use crate::node::read_node;
 use crate::path::{begun_count, step_to};
 use crate::place::{Place, root_place};
+use crate::placed::view_node;
 use crate::storing::{store_index, store_leaf};
 use crate::taking::take_in;
 use arrayvec::ArrayVec;
 use bw_types::{Dated, Tree};
 use page_access::make_page;
 use page_layout::{LifeEntry, LifeNode};
-use page_ports::{Stage, StageFault};
+use page_ports::{Stage, StageFault, blank_page};
 
 /// Enters an object in a table by lives, at its place by id and life.
 ///
@@ -128,17 +128,16 @@ fn enter_below<S: Stage>(
         → IsDamagedBelow (FitsAsked (HaveNot (spec_key dated.now)) ByLives) LeadsTo NothingBeside (S.map stage.old) level place page damaged ⊎ (¬ S.free_in_order stage.old) }
     ensures grows { Grows S.Pages level stage.old stage.new result }
 {
-    match read_node(stage, Form::ByLives, page, level, place)? {
-        LifeNode::Leaf { objects } => enter_leaf(stage, page, objects, dated),
-        LifeNode::Index { level: _, entries } => {
-            let shown = entries.as_slice();
-            let begun = begun_count(shown, place.sought);
-            let step = step_to(shown, begun - 1, place, place.sought);
-            match enter_below(stage, step.child, level - 1, step.place, dated)? {
-                None => Ok(None),
-                Some(second) => enter_entry(stage, page, level, entries, begun, second),
-            }
-        }
+    let mut bytes = blank_page();
+    let node = view_node(stage, Form::ByLives, page, level, place, &mut bytes)?;
+    if level == 1 {
+        return enter_leaf(stage, page, node.objects(), dated);
+    }
+    let begun = begun_count(&node, place.sought);
+    let step = step_to(&node, begun - 1, place, place.sought);
+    match enter_below(stage, step.child, level - 1, step.place, dated)? {
+        None => Ok(None),
+        Some(second) => enter_entry(stage, page, level, node.entries(), begun, second),
     }
 }
 

@@ -9,16 +9,17 @@ ghost use Rattle.object_table.specs.declared.form.Form.TheVariants.{ByLives, ByI
 ghost use Rattle.object_table.specs.Damage.{FitsPlace, LeadsTo, IsDamagedOnPath};
 ghost use Rattle.object_table.specs.Keys.{greatest_key};
 ghost use Rattle.object_table.specs.Lives.{last_life, lives_below};
+ghost use Rattle.object_table.specs.Nodes.{objects_in};
 ghost use Rattle.object_table.specs.Stands.{StandsBelow, TableStands};
 
 use crate::form::Form;
 use crate::key::key_of;
-use crate::node::read_node;
 use crate::path::{begun_count, step_to};
 use crate::place::{Place, root_place};
+use crate::placed::view_node;
+use crate::view::NodeView;
 use bw_types::{Dated, Tree};
-use page_layout::LifeNode;
-use page_ports::{PageFault, Pages};
+use page_ports::{Page, PageFault, Pages, blank_page};
 
 /// The last life of the id in a table by lives, or `None` exactly where it has none. It gets at most as
 /// many pages as the table has levels.
@@ -74,11 +75,13 @@ fn find_in<P: Pages>(
         return Ok(None);
     }
     let place = root_place(key_of(id, u32::MAX));
-    let found = find_below(pages, form, table.root, table.levels, place, id)?;
+    let mut bytes = blank_page();
+    let found = find_below(pages, form, table.root, table.levels, place, id, &mut bytes)?;
     Ok(found)
 }
 
-// The last life of the id in the leaves from the page down; the greatest key of the id is sought.
+// The last life of the id in the leaves from the page down; the greatest key of the id is sought. Each page
+// is read in place in these bytes.
 fn find_below<P: Pages>(
     pages: &mut P,
     form: Form,
@@ -86,6 +89,7 @@ fn find_below<P: Pages>(
     level: u8,
     place: Place,
     id: u64,
+    bytes: &mut Page,
 ) -> Result<Option<Dated>, PageFault>
     ensures last { IfOk result (λ found. IsTrue (P.tells pages.old) → (least : ℕ) → place.sought ≡ greatest_key id
         → StandsBelow form level (P.map pages.old) page place.low place.high least
@@ -98,28 +102,26 @@ fn find_below<P: Pages>(
     if level == 0 {
         return Ok(None);
     }
-    match read_node(pages, form, page, level, place)? {
-        LifeNode::Leaf { objects } => Ok(last_of(objects.as_slice(), id)),
-        LifeNode::Index { level: _, entries } => {
-            let entries = entries.as_slice();
-            let begun = begun_count(entries, place.sought);
-            let step = step_to(entries, begun - 1, place, place.sought);
-            let found = find_below(pages, form, step.child, level - 1, step.place, id)?;
-            Ok(found)
-        }
+    let node = view_node(pages, form, page, level, place, bytes)?;
+    if level == 1 {
+        return Ok(last_of(&node, id));
     }
+    let begun = begun_count(&node, place.sought);
+    let step = step_to(&node, begun - 1, place, place.sought);
+    let found = find_below(pages, form, step.child, level - 1, step.place, id, bytes)?;
+    Ok(found)
 }
 
-// The last of the objects that has the id.
-fn last_of(objects: &[Dated], id: u64) -> Option<Dated>
-    requires { All (λ d. IsTrue (by_life_fits d)) objects.now }
-    ensures last { result ≡ last_life id objects.now }
+// The last of the objects of a leaf that has the id.
+fn last_of(node: &NodeView, id: u64) -> Option<Dated>
+    requires { All (λ d. IsTrue (by_life_fits d)) (objects_in node.now) }
+    ensures last { result ≡ last_life id (objects_in node.now) }
     ensures fits { IfSome result (λ d. IsTrue (by_life_fits d)) }
 {
     let mut last = None;
-    for d in objects {
-        if d.object.id == id {
-            last = Some(*d);
+    for index in 0..node.object_count() {
+        if node.object_id(index) == id {
+            last = Some(node.object(index));
         }
     }
     last

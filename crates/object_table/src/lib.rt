@@ -21,10 +21,12 @@ mod marking;
 mod node;
 mod path;
 mod place;
+mod placed;
 mod storing;
 mod taking;
 #[cfg(test)]
 mod tests;
+mod view;
 mod walking;
 
 pub use entering::enter;

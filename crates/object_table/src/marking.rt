@@ -19,15 +19,15 @@ ghost use Rattle.object_table.specs.Stored.{IsMarkedInLeaf, OthersStay};
 
 use crate::form::Form;
 use crate::key::key_of;
-use crate::node::read_node;
 use crate::path::{begun_count, step_to};
 use crate::place::{Place, root_place};
+use crate::placed::view_node;
 use crate::taking::begun_objects;
 use arrayvec::ArrayVec;
 use bw_types::{Dated, Tree};
 use page_access::put_page;
 use page_layout::LifeNode;
-use page_ports::{Stage, StageFault};
+use page_ports::{Page, Stage, StageFault, blank_page};
 
 /// Marks the last life of the id as withdrawn in a version, by the event of this number.
 ///
@@ -60,10 +60,20 @@ pub fn mark_withdrawn<S: Stage>(
         return Err(StageFault::Damaged(table.root));
     }
     let place = root_place(key_of(id, u32::MAX));
-    mark_below(stage, table.root, table.levels, place, id, version, event)
+    let mut bytes = blank_page();
+    mark_below(
+        stage,
+        table.root,
+        table.levels,
+        place,
+        id,
+        version,
+        event,
+        &mut bytes,
+    )
 }
 
-// Marks the last life of the id in the leaves from the page down.
+// Marks the last life of the id in the leaves from the page down. Each page is read in place in these bytes.
 fn mark_below<S: Stage>(
     stage: &mut S,
     page: u64,
@@ -72,6 +82,7 @@ fn mark_below<S: Stage>(
     id: u64,
     version: u32,
     event: u32,
+    bytes: &mut Page,
 ) -> Result<(), StageFault>
     requires level { 1 ≤ level }
     requires place { (place.sought < place.high) × (place.sought ≡ greatest_key id) }
@@ -83,15 +94,22 @@ fn mark_below<S: Stage>(
         → IsDamagedBelow (FitsAsked (CanWithdraw id version) ByLives) LeadsTo NothingBeside (S.map stage.old) level place page damaged }
     ensures grows { Grows S.Pages 0 stage.old stage.new result }
 {
-    match read_node(stage, Form::ByLives, page, level, place)? {
-        LifeNode::Leaf { objects } => mark_leaf(stage, page, objects, id, version, event),
-        LifeNode::Index { level: _, entries } => {
-            let shown = entries.as_slice();
-            let begun = begun_count(shown, place.sought);
-            let step = step_to(shown, begun - 1, place, place.sought);
-            mark_below(stage, step.child, level - 1, step.place, id, version, event)
-        }
+    let node = view_node(stage, Form::ByLives, page, level, place, bytes)?;
+    if level == 1 {
+        return mark_leaf(stage, page, node.objects(), id, version, event);
     }
+    let begun = begun_count(&node, place.sought);
+    let step = step_to(&node, begun - 1, place, place.sought);
+    mark_below(
+        stage,
+        step.child,
+        level - 1,
+        step.place,
+        id,
+        version,
+        event,
+        bytes,
+    )
 }
 
 // Marks the last life of the id in the leaf that the page holds.

@@ -1,47 +1,20 @@
 //! Reading the nodes of a table in either form.
 ghost use Rattle.std.specs.Prelude.{◌≡◌, ◌≤◌, ℕ, List, length, map, Some, Err, IsTrue, IfOk};
-ghost use Rattle.std.specs.List.{All};
-ghost use Rattle.page_layout.specs.Damage.{HoldsNoNode};
-ghost use Rattle.page_layout.specs.Dated.{by_life_fits};
 ghost use Rattle.page_ports.specs.Calls.{OnlyReads};
 ghost use Rattle.page_layout.specs.TableNode.{IsTableNode};
-ghost use Rattle.object_table.specs.Damage.{FitsPlace};
-ghost use Rattle.object_table.specs.Nodes.{FitsLevel, objects_in, life_node as spec_life_node, life_entry as spec_life_entry};
+ghost use Rattle.object_table.specs.Nodes.{FitsLevel, life_node as spec_life_node, life_entry as spec_life_entry};
 
 use crate::form::Form;
-use crate::place::{Place, is_in_place};
 use arrayvec::ArrayVec;
 use bw_types::Dated;
 use page_access::read_level;
 use page_layout::{LifeEntry, LifeNode, TableEntry, TableNode};
 use page_ports::{PageFault, Pages};
 
-/// The node of this level that the page spells, where it keeps to the place by which it is reached.
+/// The node of this level that the page spells.
 ///
 /// `Damaged` carries this page. It comes exactly where the page is not in the map or spells no such
 /// node, save where the device failed first.
-pub fn read_node<P: Pages>(
-    pages: &mut P,
-    form: Form,
-    page: u64,
-    level: u8,
-    place: Place,
-) -> Result<LifeNode, PageFault>
-    ensures fits { IfOk result (λ node. (bytes : List ℕ) × FitsPlace form level place node bytes × (IsTrue (P.tells pages.old) → P.map pages.old page ≡ Some bytes)) }
-    // In either form, a leaf by lives can spell the objects.
-    ensures keep { IfOk result (λ node. All (λ d. IsTrue (by_life_fits d)) (objects_in node)) }
-    ensures damaged { (p : ℕ) → result ≡ Err (PageFault.Damaged p) → (p ≡ page) × (IsTrue (P.tells pages.old)
-        → HoldsNoNode (FitsPlace form) (P.map pages.old) level place page) }
-    ensures reads { OnlyReads P.Pages 1 pages.old pages.new result }
-{
-    let node = read_form(pages, form, page, level)?;
-    if !is_in_place(level, place, &node) {
-        return Err(PageFault::Damaged(page));
-    }
-    Ok(node)
-}
-
-/// The node of this level that the page spells; `Damaged` is as at `read_node`.
 pub fn read_form<P: Pages>(
     pages: &mut P,
     form: Form,
@@ -118,7 +91,8 @@ pub fn copied_entries(entries: &[LifeEntry]) -> ArrayVec<LifeEntry, 201>
     copied
 }
 
-fn as_life_entry(entry: &TableEntry) -> LifeEntry
+/// An entry by ids as one by lives.
+pub fn as_life_entry(entry: &TableEntry) -> LifeEntry
     ensures { result ≡ spec_life_entry entry.now }
 {
     LifeEntry {

@@ -9,16 +9,17 @@ ghost use Rattle.object_table.specs.declared.form.Form.TheVariants.{ByLives, ByI
 ghost use Rattle.object_table.specs.Damage.{FitsPlace, LeadsTo, LeadsOn, IsDamagedOnWalk};
 ghost use Rattle.object_table.specs.Keys.{key as spec_key};
 ghost use Rattle.object_table.specs.Lives.{first_from, lives_below, from_life, from_id};
+ghost use Rattle.object_table.specs.Nodes.{objects_in};
 ghost use Rattle.object_table.specs.Stands.{StandsBelow, TableStands};
 
 use crate::form::Form;
-use crate::key::{key, key_of};
-use crate::node::read_node;
+use crate::key::key_of;
 use crate::path::{begun_count, step_past, step_to};
 use crate::place::{Place, root_place};
+use crate::placed::view_node;
+use crate::view::NodeView;
 use bw_types::{Dated, Tree};
-use page_layout::LifeNode;
-use page_ports::{PageFault, Pages};
+use page_ports::{Page, PageFault, Pages, blank_page};
 
 /// The object after this id and life in a table by lives, or the first of all; `None` exactly where there
 /// is none. It gets at most twice as many pages as the table has levels, less one.
@@ -93,17 +94,20 @@ fn walk_in<P: Pages>(
         return Ok(None);
     }
     let place = root_place(sought);
-    let found = walk_below(pages, form, table.root, table.levels, place)?;
+    let mut bytes = blank_page();
+    let found = walk_below(pages, form, table.root, table.levels, place, &mut bytes)?;
     Ok(found)
 }
 
-// The first object from the key sought on in the leaves from the page down.
+// The first object from the key sought on in the leaves from the page down. Each page is read in place in
+// these bytes.
 fn walk_below<P: Pages>(
     pages: &mut P,
     form: Form,
     page: u64,
     level: u8,
     place: Place,
+    bytes: &mut Page,
 ) -> Result<Option<Dated>, PageFault>
     ensures next { IfOk result (λ found. IsTrue (P.tells pages.old) → (least : ℕ)
         → StandsBelow form level (P.map pages.old) page place.low place.high least
@@ -119,24 +123,22 @@ fn walk_below<P: Pages>(
     if level == 0 {
         return Ok(None);
     }
-    match read_node(pages, form, page, level, place)? {
-        LifeNode::Leaf { objects } => Ok(first_of(objects.as_slice(), place.sought)),
-        LifeNode::Index { level: _, entries } => {
-            let entries = entries.as_slice();
-            let begun = begun_count(entries, place.sought);
-            let step = step_to(entries, begun - 1, place, place.sought);
-            let found = walk_below(pages, form, step.child, level - 1, step.place)?;
-            if found.is_some() {
-                return Ok(found);
-            }
-            if begun >= entries.len() {
-                return Ok(None);
-            }
-            let next = step_past(entries, begun, place);
-            let first = first_below(pages, form, next.child, level - 1, next.place)?;
-            Ok(Some(first))
-        }
+    let node = view_node(pages, form, page, level, place, bytes)?;
+    if level == 1 {
+        return Ok(first_of(&node, place.sought));
     }
+    let begun = begun_count(&node, place.sought);
+    let step = step_to(&node, begun - 1, place, place.sought);
+    let past = step_past(&node, begun, place);
+    let found = walk_below(pages, form, step.child, level - 1, step.place, bytes)?;
+    if found.is_some() {
+        return Ok(found);
+    }
+    let Some(next) = past else {
+        return Ok(None);
+    };
+    let first = first_below(pages, form, next.child, level - 1, next.place, bytes)?;
+    Ok(Some(first))
 }
 
 // The first object in the leaves from the page down, which is reached for the keys from the least on.
@@ -146,6 +148,7 @@ fn first_below<P: Pages>(
     page: u64,
     level: u8,
     place: Place,
+    bytes: &mut Page,
 ) -> Result<Dated, PageFault>
     requires { 1 ≤ level }
     ensures first { IfOk result (λ found. IsTrue (P.tells pages.old) → (least : ℕ) → place.sought ≡ place.low
@@ -157,28 +160,26 @@ fn first_below<P: Pages>(
         → IsDamagedBelow (FitsPlace form) LeadsOn NothingBeside (P.map pages.old) level place page damaged }
     ensures reads { OnlyReads P.Pages level pages.old pages.new result }
 {
-    match read_node(pages, form, page, level, place)? {
-        LifeNode::Leaf { objects } => Ok(objects.as_slice()[0]),
-        LifeNode::Index { level: _, entries } => {
-            let entries = entries.as_slice();
-            let begun = begun_count(entries, place.sought);
-            let step = step_to(entries, begun - 1, place, place.sought);
-            let found = first_below(pages, form, step.child, level - 1, step.place)?;
-            Ok(found)
-        }
+    let node = view_node(pages, form, page, level, place, bytes)?;
+    if level == 1 {
+        return Ok(node.object(0));
     }
+    let begun = begun_count(&node, place.sought);
+    let step = step_to(&node, begun - 1, place, place.sought);
+    let found = first_below(pages, form, step.child, level - 1, step.place, bytes)?;
+    Ok(found)
 }
 
-// The first of the objects from the key sought on.
-fn first_of(objects: &[Dated], sought: u128) -> Option<Dated>
-    requires { All (λ d. IsTrue (by_life_fits d)) objects.now }
-    ensures first { result ≡ first_from sought objects.now }
+// The first of the objects of a leaf from the key sought on.
+fn first_of(node: &NodeView, sought: u128) -> Option<Dated>
+    requires { All (λ d. IsTrue (by_life_fits d)) (objects_in node.now) }
+    ensures first { result ≡ first_from sought (objects_in node.now) }
     ensures above { IfSome result (λ d. sought ≤ spec_key d) }
     ensures fits { IfSome result (λ d. IsTrue (by_life_fits d)) }
 {
-    for d in objects {
-        if key(d) >= sought {
-            return Some(*d);
+    for index in 0..node.object_count() {
+        if node.object_key(index) >= sought {
+            return Some(node.object(index));
         }
     }
     None

@@ -1,0 +1,26 @@
+use Rattle.std.proofs.Common.{sym, refl, subst}
+use Rattle.page_layout.specs.LifeNode.{life_node_page}
+use Rattle.page_layout.specs.TableNode.{table_node_page}
+use Rattle.object_table.specs.declared.form.Form.{Form}
+use Rattle.object_table.specs.declared.form.Form.TheVariants.{ByIds}
+use Rattle.object_table.specs.Nodes.{FitsLevel, life_node}
+use Rattle.object_table.proofs.Views.{in_order}
+use Rattle.object_table.proofs.view.view_form.Goals as goal
+
+pub invariant_of-result-in-ByIds : goal.invariant_of-result-in-ByIds
+invariant_of-result-in-ByIds g c =
+    in_order ByIds c.args.level (life_node c.in_ok-node-in-ByIds.node) (table_node_page c.in_ok-node-in-ByIds.node) (c.in_ok-node-in-ByIds.node, c.in_ok-node-in-ByIds.ensures.fits, refl)
+
+pub returns-in_ok-node-in-ByLives-clause-fits : goal.returns-in_ok-node-in-ByLives-clause-fits
+returns-in_ok-node-in-ByLives-clause-fits g c = (
+  life_node_page c.in_ok-node-in-ByLives.node,
+  subst (λ (f : Form). FitsLevel f c.args.level c.in_ok-node-in-ByLives.node (life_node_page c.in_ok-node-in-ByLives.node)) (sym c.in-ByLives.is) c.in_ok-node-in-ByLives.ensures.fits,
+  c.in_ok-node-in-ByLives.ensures.found,
+)
+
+pub returns-in_ok-node-in-ByIds-clause-fits : goal.returns-in_ok-node-in-ByIds-clause-fits
+returns-in_ok-node-in-ByIds-clause-fits g c = (
+  table_node_page c.in_ok-node-in-ByIds.node,
+  subst (λ (f : Form). FitsLevel f c.args.level (life_node c.in_ok-node-in-ByIds.node) (table_node_page c.in_ok-node-in-ByIds.node)) (sym c.in-ByIds.is) (c.in_ok-node-in-ByIds.node, c.in_ok-node-in-ByIds.ensures.fits, refl),
+  c.in_ok-node-in-ByIds.ensures.found,
+)
