@@ -20,3 +20,4 @@ pub mod Same
 pub mod Small
 pub mod Telling
 pub mod Leads
+pub mod Walked

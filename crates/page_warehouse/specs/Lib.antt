@@ -8,3 +8,4 @@ pub mod NextMeta
 pub mod Opened
 pub mod Shown
 pub mod Waiting
+pub mod Table

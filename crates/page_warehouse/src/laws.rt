@@ -1,5 +1,6 @@
 //! What is so of every disk that holds a history.
 ghost use Rattle.page_warehouse.specs.Laws.{HoldsByPages, HoldsForQueries, HoldsOneHistory, HoldsTreesByPages, NewHoldsNothing, TableTells};
+ghost use Rattle.page_warehouse.specs.Table.{TablesKeepLives};
 
 use dom_index::DomIndex;
 use object_table::table_laws;
@@ -34,4 +35,12 @@ pub fn table_tells<X: DomIndex>()
 {
     table_tells_history();
     holds_one();
+}
+
+/// Proves that the object table of a disk that holds a history keeps its lives, ascending by id and then by
+/// life; it does nothing when it runs.
+pub fn tables_keep_lives<X: DomIndex>()
+    ensures { TablesKeepLives X.DomIndex }
+{
+    table_laws();
 }

@@ -26,7 +26,8 @@ mod state;
 mod tests;
 mod upgrading;
 mod waiting;
+mod walking;
 
 pub use creating::{Created, create};
-pub use laws::{created_holds, holding_laws, table_tells};
+pub use laws::{created_holds, holding_laws, table_tells, tables_keep_lives};
 pub use state::Warehouse;

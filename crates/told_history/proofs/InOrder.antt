@@ -1,6 +1,7 @@
 -- Changes ordered by event number.
-use Rattle.std.proofs.Common.{◌≡◌, ◌⊎◌, ℕ, ◌+◌, ◌≤◌, ◌<◌, nat_le, List, [], ◌∷◌, length, refl, sym, ◌∙◌, ap, subst, arith, inl, inr}
+use Rattle.std.proofs.Common.{◌≡◌, ◌⊎◌, ℕ, suc, ◌+◌, ◌≤◌, ◌<◌, nat_le, List, [], ◌∷◌, length, get_or, refl, sym, ◌∙◌, ap, subst, arith, inl, inr}
 use Rattle.std.proofs.lemmas.Bool.{cases_Bool, leb-true, leb-false}
+use Rattle.std.specs.List.Sorted.{IsNonDecreasingBy}
 use Rattle.bw_types.specs.Lives.{Numbered}
 use Rattle.told_history.specs.Told.{by_event, with_change}
 use Rattle.told_history.proofs.Members.{Among}
@@ -27,6 +28,15 @@ from_among : (e : ℕ) (ns : List Numbered) (x : Numbered) → From e ns → Amo
 from_among e [] x f a = absurd a
 from_among e (n ∷ ns) x f (inl same) = let is : n.event ≡ x.event = ap (λ (m : Numbered). m.event) same in omega (arith, f.0, is)
 from_among e (n ∷ ns) x f (inr a) = from_among e ns x f.1 a
+
+from_each : (e : ℕ) (ns : List Numbered) → ((j : ℕ) (d : Numbered) → j < length ns → e ≤ (get_or ns j d).event) → From e ns
+from_each e [] each = tt
+from_each e (n ∷ ns) each = (each 0 n (omega arith), from_each e ns (λ j d lt. each (suc j) d (omega arith)))
+
+ordered_from : (ns : List Numbered) → IsNonDecreasingBy (λ n. n.event) ns → Ordered ns
+ordered_from [] up = tt
+ordered_from (n ∷ ns) up =
+    (from_each n.event ns (λ j d lt. up 0 (suc j) d (omega arith) (omega arith)), ordered_from ns (λ i j d le lt. up (suc i) (suc j) d (omega arith) (omega arith)))
 
 -- one change more
 from_with : (e : ℕ) (n : Numbered) (ns : List Numbered) → e ≤ n.event → From e ns → From e (with_change n ns)
@@ -127,3 +137,8 @@ same_within (b ∷ bs) (s ∷ ss) r o w short = elim (w b (inl refl)) [
 pub order_is : (bs ns : List Numbered) → Rising bs → ((x : Numbered) → Among x bs → Among x ns) → length ns ≡ length bs → by_event ns ≡ bs
 unfolding Within
 order_is bs ns r w even = same_within bs (by_event ns) r (ordered_by_event ns) (λ x a. among_by_event ns x (w x a)) (omega (arith, length_by_event ns))
+
+-- the same of changes that stand in order already
+pub in_order_is : (bs ns : List Numbered) → Rising bs → IsNonDecreasingBy (λ n. n.event) ns → ((x : Numbered) → Among x bs → Among x ns) → length ns ≡ length bs → ns ≡ bs
+unfolding Within
+in_order_is bs ns r up w even = same_within bs ns r (ordered_from ns up) w (omega arith)

@@ -18,7 +18,7 @@ contains_of [] x a = absurd a
 contains_of (y ∷ ys) x (inl e) = (0, omega arith, e)
 contains_of (y ∷ ys) x (inr a) = let c = contains_of ys x a in (suc c.0, omega (arith, c.1), c.2)
 
-among_permuted : {X : Type 0} (xs ys : List X) (x : X) → IsPermutation xs ys → Among x xs → Among x ys
+pub among_permuted : {X : Type 0} (xs ys : List X) (x : X) → IsPermutation xs ys → Among x xs → Among x ys
 among_permuted xs ys x p a = let c = Contains-permutation xs ys x p (contains_of xs x a) in among_at ys x c.0 c.1 c.2
 
 pub among_left : {X : Type 0} (xs ys : List X) (x : X) → Among x xs → Among x (xs ++ ys)

@@ -9,4 +9,4 @@
 mod telling;
 pub mod worked;
 
-pub use telling::table_tells_history;
+pub use telling::{lives_name_changes, table_tells_history};

@@ -1,5 +1,5 @@
 //! The history that a table of lives tells.
-ghost use Rattle.told_history.specs.Telling.{OneHistoryIsTold, TableTellsHistory};
+ghost use Rattle.told_history.specs.Telling.{LivesNameChanges, OneHistoryIsTold, TableTellsHistory};
 
 use history_laws::{lives_are_alone, staging_changes_no_refusal};
 
@@ -8,6 +8,15 @@ use history_laws::{lives_are_alone, staging_changes_no_refusal};
 pub fn table_tells_history()
     ensures told { TableTellsHistory }
     ensures one { OneHistoryIsTold }
+{
+    lives_are_alone();
+    staging_changes_no_refusal();
+}
+
+/// The lives of a lawful history name its changes: by event number, these are its adds and withdrawals with
+/// their versions.
+pub fn lives_name_changes()
+    ensures named { LivesNameChanges }
 {
     lives_are_alone();
     staging_changes_no_refusal();

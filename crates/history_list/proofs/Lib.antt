@@ -1,0 +1,6 @@
+pub mod Rejoined
+pub mod Walked
+pub mod InOrder
+pub mod Before
+pub mod Houses
+pub mod Faults

@@ -1,0 +1,106 @@
+//! All adds and withdrawals of a history, gathered from the object table.
+ghost use Rattle.std.specs.Prelude.{◌≡◌, ◌≢◌, ◌≤◌, ◌++◌, ℕ, true, IfOk, OnOk, Err, IsPermutation};
+ghost use Rattle.bw_types.specs.History.{History};
+ghost use Rattle.bw_types.specs.Lives.{lives};
+ghost use Rattle.counts.specs.Count.{Rose};
+ghost use Rattle.warehouse.specs.Left.{IsAsBefore};
+ghost use Rattle.page_warehouse.specs.Shown.{HasNewForm, HoldsHistory, disk_charge, disk_in, meta_in, params_in};
+ghost use Rattle.history_list.specs.Events.{AreEventsOf, events_of, events_of_lives};
+ghost use Rattle.history_list.specs.Faults.{read_fault};
+ghost use Rattle.history_list.specs.declared.gathering.GatherFault.TheVariants.{NoMemory};
+
+use crate::Event;
+use bw_types::Dated;
+use dom_index::DomIndex;
+use page_disk::Disk;
+use page_ports::PageFault;
+use page_warehouse::{Warehouse, tables_keep_lives};
+use std::alloc::{AllocError, Global};
+use thiserror::Error;
+use told_history::lives_name_changes;
+
+/// Why the events were not gathered.
+#[derive(Clone, Copy, PartialEq, Eq, Debug, Error)]
+pub enum GatherFault {
+    /// The device failed.
+    #[error("the disk failed")]
+    Disk,
+    /// The disk holds no history: this page, which was read on the way, is not as the program leaves it.
+    #[error("page {0} is damaged")]
+    Damaged(u64),
+    /// There was no memory.
+    #[error("no memory")]
+    NoMemory,
+}
+
+impl From<PageFault> for GatherFault {
+    ghost from_gives = { λ read fault. fault ≡ read_fault read };
+
+    fn from(read: PageFault) -> GatherFault {
+        match read {
+            PageFault::Disk => GatherFault::Disk,
+            PageFault::Damaged(page) => GatherFault::Damaged(page),
+        }
+    }
+}
+
+impl From<AllocError> for GatherFault {
+    ghost from_gives = { λ _ fault. fault ≡ NoMemory };
+
+    fn from(_: AllocError) -> GatherFault {
+        GatherFault::NoMemory
+    }
+}
+
+/// All adds and withdrawals of the history of a warehouse, in order of event number. A withdrawal has the object that it ends.
+///
+/// The warehouse and its disk stay as they were. It takes memory for a list of the events.
+///
+/// `Disk` comes only where the count of faults rose, `Damaged` only where the disk holds no history.
+pub fn gather<D: Disk, X: DomIndex>(
+    alloc: Global,
+    house: &mut Warehouse<D, X>,
+) -> Result<Vec<Event>, GatherFault>
+    ensures events { IfOk result (λ events. (h : History) → HoldsHistory D.Disk X.DomIndex true (disk_in house.old) (params_in house.old) h
+        → AreEventsOf events.items h) }
+    ensures lives { IfOk result (λ events. (h : History) → HoldsHistory D.Disk X.DomIndex true (disk_in house.old) (params_in house.old) h
+        → IsPermutation (events_of_lives (lives h)) events.items) }
+    ensures kept { IsAsBefore params_in disk_in (HoldsHistory D.Disk X.DomIndex) (HasNewForm D.Disk) D.tells D.image D.moments (disk_charge D.Disk) house.old house.new }
+    ensures meta { meta_in house.new ≡ meta_in house.old }
+    ensures sound { (h : History) (page : ℕ) → HoldsHistory D.Disk X.DomIndex true (disk_in house.old) (params_in house.old) h
+        → result ≢ Err (GatherFault.Damaged page) }
+    ensures disk { result ≡ Err GatherFault.Disk → Rose (D.faults (disk_in house.old)) (D.faults (disk_in house.new)) }
+    ensures faults { D.faults (disk_in house.old) ≤ D.faults (disk_in house.new) }
+{
+    tables_keep_lives::<X>();
+    lives_name_changes();
+    let mut events = Vec::new(alloc);
+    let mut after = None;
+    while let Some(dated) = house.walk(after)? {
+        push_events(&mut events, &dated)?;
+        after = Some((dated.object.id, dated.life));
+    }
+    events.sort_unstable_by_key(|event| event.event);
+    Ok(events)
+}
+
+// Puts the add of a life behind the events, and then its withdrawal where it has one.
+fn push_events(events: &mut Vec<Event>, dated: &Dated) -> Result<(), AllocError>
+    ensures { OnOk result (events.new.items ≡ events.old.items ++ events_of dated.now) }
+{
+    events.push(Event {
+        event: dated.add_event,
+        version: dated.added,
+        add: true,
+        object: dated.object,
+    })?;
+    if dated.withdrawn != 0 {
+        events.push(Event {
+            event: dated.withdraw_event,
+            version: dated.withdrawn,
+            add: false,
+            object: dated.object,
+        })?;
+    }
+    Ok(())
+}

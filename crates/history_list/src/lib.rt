@@ -1,0 +1,10 @@
+//! The history of a warehouse as a list of its adds and withdrawals.
+#![tactic(auto)]
+
+mod event;
+mod gathering;
+#[cfg(test)]
+mod tests;
+
+pub use event::Event;
+pub use gathering::{GatherFault, gather};
