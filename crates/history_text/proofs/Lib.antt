@@ -1,0 +1,11 @@
+pub mod BatchCuts
+pub mod ChangeSizes
+pub mod FieldSteps
+pub mod Gathered
+pub mod LinesApart
+pub mod NumbersRead
+pub mod FieldsCut
+pub mod RowFields
+pub mod FieldPlaces
+pub mod RowsRead
+pub mod Rebuilding

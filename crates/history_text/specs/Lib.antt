@@ -1,0 +1,5 @@
+pub mod Rows
+pub mod Rebuilt
+pub mod Put
+pub mod Given
+pub mod Batches
