@@ -5,3 +5,4 @@ pub mod Opened
 pub mod Reading
 pub mod Sampling
 pub mod Scratch
+mod Exported

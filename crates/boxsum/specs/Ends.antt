@@ -1,9 +1,9 @@
 -- With which statuses each command may end.
 use Rattle.std.specs.Prelude.{Bool, true, false, Option, Some, None}
 use Rattle.command_words.specs.declared.command.Command.{Command}
-use Rattle.command_words.specs.declared.command.Command.TheVariants.{Create, Run, Scratch, Sample}
+use Rattle.command_words.specs.declared.command.Command.TheVariants.{Create, Run, Scratch, Sample, Export}
 use Rattle.boxsum.specs.declared.status.Status.{Status}
-use Rattle.boxsum.specs.declared.status.Status.TheVariants.{Fine, Usage, AlreadyThere, ReadFault, WriteFault, DiskFault, NoMemory, Damaged, InputLimit, PageLimit}
+use Rattle.boxsum.specs.declared.status.Status.TheVariants.{Fine, Usage, NoWarehouse, AlreadyThere, ReadFault, WriteFault, DiskFault, NoMemory, Damaged, InputLimit, PageLimit}
 
 abbrev pub ends_create : Status → Bool
 ends_create Fine = true
@@ -35,6 +35,15 @@ ends_sample (Damaged area page) = true
 ends_sample (PageLimit allotted) = true
 ends_sample _ = false
 
+abbrev pub ends_export : Status → Bool
+ends_export Fine = true
+ends_export NoWarehouse = true
+ends_export WriteFault = true
+ends_export DiskFault = true
+ends_export NoMemory = true
+ends_export (Damaged area page) = true
+ends_export _ = false
+
 abbrev pub ends_nothing : Status → Bool
 ends_nothing Usage = true
 ends_nothing NoMemory = true
@@ -47,4 +56,5 @@ may_end (Some (Create params)) status = ends_create status
 may_end (Some Run) status = ends_run status
 may_end (Some (Scratch params)) status = ends_scratch status
 may_end (Some (Sample start count)) status = ends_sample status
+may_end (Some Export) status = ends_export status
 may_end (Some _) status = ends_nothing status

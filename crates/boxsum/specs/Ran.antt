@@ -12,11 +12,12 @@ use Rattle.page_disk.specs.Image.{Image, PageList}
 use Rattle.page_disk.specs.Moment.{MayBeLeftNow}
 use Rattle.page_disk.specs.Since.{LeavesOnly}
 use Rattle.page_disk.specs.declared.disk.Area.{Area}
+use Rattle.page_disk.specs.declared.disk.Area.TheVariants.{Journal}
 use Rattle.page_disk.specs.declared.disk.Disk.{Ghosts as DiskGhosts}
 use Rattle.page_layout.specs.declared.meta.Meta.{Meta}
 use Rattle.page_ports.specs.Pages.{PageMap}
 use Rattle.page_space.specs.Opened.{StaysAsRead}
-use Rattle.page_space.specs.Settling.{HasNoReplay, replay_reads}
+use Rattle.page_space.specs.Settling.{HasNoReplay, IsBadAt, replay_reads}
 use Rattle.page_space.specs.Space.{HoldsSpace}
 use Rattle.redo_journal.specs.Gates.{is_empty}
 use Rattle.redo_journal.specs.Settled.{SettlesTo}
@@ -25,6 +26,8 @@ use Rattle.page_warehouse.specs.Costs.{query_cost}
 use Rattle.page_warehouse.specs.Holds.{Holds}
 use Rattle.page_warehouse.specs.Needs.{batch_need, pages_charge}
 use Rattle.page_warehouse.specs.Shown.{HoldsHistory}
+use Rattle.history_text.specs.Rebuilt.{Rebuilds}
+use Rattle.history_text.specs.Rows.{rows_of}
 use Rattle.row_machine.specs.Runs.{WritesPart}
 use Rattle.row_machine.specs.Serving.{lines_need}
 use Rattle.sample_rows.specs.Generator.{rows}
@@ -129,6 +132,43 @@ module _ {D K X : Type 0} (d : DiskGhosts D) (k : SinkGhosts K) (i : IndexGhosts
         → ran.status ≢ status.DiskFault → ((allotted : ℕ) → ran.status ≢ status.PageLimit allotted)
         → (ran.status ≡ status.Fine) ⊎ (ran.status ≡ status.NoMemory)
 
+-- An export.
+module _ {D K X : Type 0} (d : DiskGhosts D) (k : SinkGhosts K) (i : IndexGhosts X) (disk : D) (sink sink' : K) (ran : Ran D) where
+  -- The disk stands for the pages that it stood for, and so does each image that a stop at any moment leaves beside what might have been left
+  -- before. Where no commit that was cut off is put in its place, nothing is written.
+  pub record IsOnlyRead : Type 0 where
+    pub stays : (pages : PageList) → SettlesTo (d.image disk) pages → ran.status ≢ status.DiskFault → SettlesTo (d.image ran.disk) pages
+    pub moments : (pages : PageList) → SettlesTo (d.image disk) pages → LeavesOnly (λ x. SettlesTo x pages) (d.moments disk) (d.moments ran.disk)
+    pub untouched : HasNoReplay (d.image disk) → StaysAsRead d disk ran.disk
+
+  -- What is printed of a disk that holds this history, and what it holds then.
+  pub record PrintsRows (params : Params) (h : History) : Type 0 where
+    -- All rows of the history are printed; where the export ends early, a part of them.
+    pub fine : ran.status ≡ status.Fine → IsTrue (k.tells sink) → IsTrue (k.tells sink') × (k.written sink' ≡ k.written sink ++ rows_of params h)
+    pub part : IsTrue (k.tells sink) → IsTrue (k.tells sink') → WritesPart (k.written sink) (k.written sink') (rows_of params h)
+    -- Read on an empty history with the same params, these rows make this history, and each of its batches is accepted.
+    pub rebuilds : ran.status ≡ status.Fine → Rebuilds params h
+    -- The disk holds the history at each moment, and a crash now leaves it.
+    pub holds : ran.status ≢ status.DiskFault → HoldsHistory d i true ran.disk params h
+    pub surely : (ran.status ≡ status.Fine) ⊎ (ran.status ≡ status.WriteFault) → HoldsSurely d i params h ran.disk
+    pub moments : LeavesOnly (λ x. Holds i x params h) (d.moments disk) (d.moments ran.disk)
+    pub undamaged : (area : Area) (page : ℕ) → ran.status ≢ status.Damaged area page
+    -- With no fault and ample memory the export is fine.
+    pub complete : (Rose (k.faults sink) (k.faults sink') → ⊥) → ran.status ≢ status.DiskFault → (ran.status ≡ status.Fine) ⊎ (ran.status ≡ status.NoMemory)
+
+  -- The history of the warehouse on the disk was printed, as rows that rebuild it.
+  pub record Exports : Type 0 where
+    -- Where it ends otherwise nothing is printed.
+    pub silent : ran.status ≢ status.Fine → ran.status ≢ status.WriteFault → sink' ≡ sink
+    -- Without a warehouse nothing is printed, nor where what is there is none.
+    pub empty : IsTrue (d.tells disk) → is_empty (d.image disk) ≡ true → StaysAsRead d disk ran.disk
+        × ((ran.status ≡ status.NoWarehouse) ⊎ ((ran.status ≡ status.DiskFault) ⊎ (ran.status ≡ status.NoMemory)))
+    pub empty_only : ran.status ≡ status.NoWarehouse → IsTrue (d.tells disk) → is_empty (d.image disk) ≡ true
+    pub refused : IsTrue (d.tells disk) → IsNoWarehouse i.DIMS (d.image disk) → Refuses d i.DIMS disk ran
+    pub bad_journal : (page : ℕ) → ran.status ≡ status.Damaged Journal page → IsTrue (d.tells disk) → IsBadAt (d.image disk) page
+    pub only_read : IsTrue (d.tells disk) → IsOnlyRead
+    pub prints : (params : Params) (h : History) → HoldsHistory d i true disk params h → PrintsRows params h
+
 -- The commands.
 module _ {D S K X : Type 0} (d : DiskGhosts D) (s : SourceGhosts S) (k : SinkGhosts K) (i : IndexGhosts X) (disk : D) (source source' : S) (sink sink' : K) (ran : Ran D) where
   -- The causes of the statuses that all commands share.
@@ -150,6 +190,11 @@ module _ {D S K X : Type 0} (d : DiskGhosts D) (s : SourceGhosts S) (k : SinkGho
   pub record SampleRan (start count : ℕ) : Type 0 where
     pub source_stays : source' ≡ source
     pub samples : Samples d k i disk sink sink' ran start count
+
+  -- `export`
+  pub record ExportRan : Type 0 where
+    pub source_stays : source' ≡ source
+    pub exports : Exports d k i disk sink sink' ran
 
   -- The disk failed, or there was no memory: the warehouse may not have been opened.
   abbrev pub MayNotHaveOpened : Type 0
@@ -251,6 +296,7 @@ module _ {D S K X : Type 0} (d : DiskGhosts D) (s : SourceGhosts S) (k : SinkGho
     pub create : (params : Params) → built_command words ≡ Some (command.Create params) → CreateRan params
     pub run : built_command words ≡ Some command.Run → RunRan
     pub sample : (start count : ℕ) → built_command words ≡ Some (command.Sample start count) → SampleRan start count
+    pub export : built_command words ≡ Some command.Export → ExportRan
     -- With which statuses each may end, and what they come from.
     pub may_end : IsTrue (ends.may_end (built_command words) ran.status)
     pub causes : HasCause

@@ -3,6 +3,8 @@ use Rattle.std.specs.Prelude.{ℕ, List, [], ◌++◌, codes, decimal}
 use Rattle.page_disk.specs.declared.disk.Area.TheVariants.{Pages, Journal}
 use Rattle.page_space.specs.declared.refusal.OpenFault.{OpenFault}
 use Rattle.page_space.specs.declared.refusal.OpenFault.TheVariants as fault
+use Rattle.history_list.specs.declared.gathering.GatherFault.{GatherFault}
+use Rattle.history_list.specs.declared.gathering.GatherFault.TheVariants as gathering
 use Rattle.row_machine.specs.declared.ending.Ending.{Ending}
 use Rattle.row_machine.specs.declared.ending.Ending.TheVariants as ending
 use Rattle.boxsum.specs.declared.status.Status.{Status}
@@ -26,6 +28,12 @@ status_of_fault fault.Empty = NoWarehouse
 status_of_fault (fault.Damaged page) = Damaged Pages page
 status_of_fault fault.NoMemory = NoMemory
 status_of_fault (fault.BadJournal page) = Damaged Journal page
+
+-- the status of an export whose history was not gathered
+abbrev pub status_of_gathering : GatherFault → Status
+status_of_gathering gathering.Disk = DiskFault
+status_of_gathering (gathering.Damaged page) = Damaged Pages page
+status_of_gathering gathering.NoMemory = NoMemory
 
 -- the status of a sample, by that of the run that loads it: a disk that shows no warehouse where one was just made is damaged, and
 -- what the run lacks for its input and its output, which lie in memory, is memory
@@ -55,7 +63,7 @@ exit_code (PageLimit allotted) = 11
 -- what is printed to standard error after the program's name
 abbrev pub status_text : Status → List ℕ
 status_text Fine = []
-status_text Usage = codes "usage: boxsum create D [--degree G] [--events N] [--pages N] [--signed S], run, scratch D [--degree G] [--events N] [--signed S], sample START COUNT"
+status_text Usage = codes "usage: boxsum create D [--degree G] [--events N] [--pages N] [--signed S], run, scratch D [--degree G] [--events N] [--signed S], sample START COUNT, export"
 status_text NoWarehouse = codes "no warehouse here"
 status_text AlreadyThere = codes "there is a warehouse already"
 status_text ReadFault = codes "input failed"

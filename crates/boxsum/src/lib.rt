@@ -12,6 +12,9 @@
 mod disk_tests;
 #[cfg(test)]
 mod earlier_tests;
+mod export;
+#[cfg(test)]
+mod export_tests;
 #[cfg(test)]
 mod great_tests;
 #[cfg(test)]

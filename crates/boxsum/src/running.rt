@@ -7,6 +7,7 @@ ghost use Rattle.page_warehouse.specs.Created.{IsNew};
 ghost use Rattle.boxsum.specs.Ends.{ends_run, ends_scratch};
 ghost use Rattle.boxsum.specs.Ran.{AnswersFromNothing, Carried, HasCause, HasPortCause, MakesEmpty, RunRan, first_of};
 
+use crate::export::export_on;
 use crate::index::Index;
 use crate::sample::sample_on;
 use crate::status::{Ran, RanTwo, Status};
@@ -26,9 +27,9 @@ use warehouse::ListHouse;
 ///
 /// `create` makes an empty warehouse on the disk. `run` opens the warehouse there and answers the rows of the
 /// source; `scratch` answers them over a history in memory, which begins empty. `sample` makes a warehouse, loads rows that are
-/// drawn, and writes a summary. What `run` and `scratch` write is the text that the definitions give for all the bytes that the
-/// source has left, cut in whatever pieces; where the run ends early it is a part of that text, from its beginning. The disk goes in
-/// by value, and comes back at every end.
+/// drawn, and writes a summary. `export` prints the rows that rebuild the history of the warehouse on the disk. What `run` and
+/// `scratch` write is the text that the definitions give for all the bytes that the source has left, cut in whatever pieces; where the
+/// run ends early it is a part of that text, from its beginning. The disk goes in by value, and comes back at every end.
 ///
 /// What the words ask for, what each command leaves, and with which statuses it may end, is the record `Carried` of specs/Ran.antt.
 pub fn run<D: Disk + Drop, S: Source, K: Sink>(
@@ -93,6 +94,7 @@ fn carry_out<D: Disk + Drop, S: Source, K: Sink>(
         Ok(Command::Sample { start, count }) => {
             sample_on::<Index, D, K>(alloc, disk, start, count, sink)
         }
+        Ok(Command::Export) => export_on::<Index, D, K>(alloc, disk, sink),
         Ok(_) | Err(WordsFault::Usage) => Ran {
             status: Status::Usage,
             disk,

@@ -2,6 +2,7 @@
 ghost use Rattle.std.specs.Prelude.{◌≡◌};
 ghost use Rattle.boxsum.specs.Statuses.{exit_code};
 
+use history_list::GatherFault;
 use page_disk::Area;
 use page_space::OpenFault;
 use row_machine::Ending;
@@ -118,6 +119,24 @@ impl From<OpenFault> for Status {
     }
 }
 
+impl From<GatherFault> for Status {
+    ghost use Rattle.std.specs.Prelude.{◌≡◌};
+    ghost use Rattle.boxsum.specs.Statuses.{status_of_gathering};
+
+    ghost from_gives = { λ fault status. status ≡ status_of_gathering fault };
+
+    fn from(fault: GatherFault) -> Status {
+        match fault {
+            GatherFault::Disk => Status::DiskFault,
+            GatherFault::Damaged(page) => Status::Damaged {
+                area: Area::Pages,
+                page,
+            },
+            GatherFault::NoMemory => Status::NoMemory,
+        }
+    }
+}
+
 impl fmt::Display for Status {
     ghost use Rattle.std.specs.Prelude.{Some};
     ghost use Rattle.boxsum.specs.Statuses.{status_text};
@@ -128,7 +147,7 @@ impl fmt::Display for Status {
         match self {
             Status::Fine => f.write_str(""),
             Status::Usage => f.write_str(
-                "usage: boxsum create D [--degree G] [--events N] [--pages N] [--signed S], run, scratch D [--degree G] [--events N] [--signed S], sample START COUNT",
+                "usage: boxsum create D [--degree G] [--events N] [--pages N] [--signed S], run, scratch D [--degree G] [--events N] [--signed S], sample START COUNT, export",
             ),
             Status::NoWarehouse => f.write_str("no warehouse here"),
             Status::AlreadyThere => f.write_str("there is a warehouse already"),

@@ -1,5 +1,6 @@
 use Rattle.std.proofs.Common.{map, string_bytes, refl, rules, arith}
 use Rattle.boxsum.proofs.Asked.{created_by, same_create, same_sample, same_scratch, sampled_by, scratched_by}
+use Rattle.boxsum.proofs.Exported.{nothing_exported}
 use Rattle.boxsum.proofs.Nothing.{nothing_caused, nothing_created, nothing_run, nothing_sampled, nothing_scratched}
 use Rattle.boxsum.proofs.running.carry_out.Goals as goal
 
@@ -14,6 +15,7 @@ returns-in-Ok-Create g c = record {
         record { untouched = (refl, refl); makes = created_by _ _ _ _ c.in-Ok-Create.params params same c.create_on.ensures.makes };
     run = search rules;
     sample = search rules;
+    export = search rules;
     may_end = search rules;
     causes = search rules;
     tells = c.create_on.ensures.tells;
@@ -30,6 +32,7 @@ returns-in-Ok-Run g c = record {
     create = search rules;
     run = λ asked. c.run_on.ensures.ran;
     sample = search rules;
+    export = search rules;
     may_end = search rules;
     causes = c.run_on.ensures.causes;
     tells = c.run_on.ensures.tells;
@@ -48,6 +51,7 @@ returns-in-Ok-Scratch g c = record {
     create = search rules;
     run = search rules;
     sample = search rules;
+    export = search rules;
     may_end = search rules;
     causes = search rules;
     tells = refl;
@@ -66,10 +70,48 @@ returns-in-Ok-Sample g c = record {
     sample = λ start count asked.
         let same = same_sample (map string_bytes c.args.words.now) c.in-Ok-Sample.field-0 c.in-Ok-Sample.start c.in-Ok-Sample.count start count c.in-Ok-Sample.ensures.read c.in-Ok-Sample.field-0-is asked in
         record { source_stays = refl; samples = sampled_by _ _ _ _ _ _ _ c.in-Ok-Sample.start c.in-Ok-Sample.count start count same c.sample_on.ensures.samples };
+    export = search rules;
     may_end = search rules;
     causes = search rules;
     tells = c.sample_on.ensures.tells;
     faults = c.sample_on.ensures.faults;
+  };
+}
+
+pub returns-in-Ok-Export : goal.returns-in-Ok-Export
+returns-in-Ok-Export g c = record {
+  carried = record {
+    usage = search rules;
+    usage_only = search rules;
+    scratch = search rules;
+    create = search rules;
+    run = search rules;
+    sample = search rules;
+    export = λ asked. record { source_stays = refl; exports = c.export_on.ensures.exports };
+    may_end = search rules;
+    causes = record {
+      ports = record { read_fault = search rules; write_fault = c.export_on.ensures.write_fault; input_limit = search rules };
+      disk_fault = c.export_on.ensures.disk_fault;
+    };
+    tells = c.export_on.ensures.tells;
+    faults = c.export_on.ensures.faults;
+  };
+}
+
+pub returns-in-Ok : goal.returns-in-Ok
+returns-in-Ok g c = record {
+  carried = record {
+    usage = search rules;
+    usage_only = search rules;
+    scratch = search rules;
+    create = search rules;
+    run = search rules;
+    sample = search rules;
+    export = search rules;
+    may_end = search rules;
+    causes = search rules;
+    tells = refl;
+    faults = omega arith;
   };
 }
 
@@ -82,6 +124,7 @@ returns-in-Err-NoMemory g c = record {
     create = λ params asked. nothing_created g.D.Disk g.S.Source g.K.Sink _ c.args.disk c.args.source.now c.args.sink.now params;
     run = λ asked. nothing_run g.D.Disk g.S.Source g.K.Sink _ c.args.disk c.args.source.now c.args.sink.now c.machine_laws.ensures.silent c.machine_laws.ensures.goes_on;
     sample = λ start count asked. nothing_sampled g.D.Disk g.S.Source g.K.Sink _ c.args.disk c.args.source.now c.args.sink.now start count;
+    export = λ asked. nothing_exported g.D.Disk g.K.Sink _ c.args.disk c.args.sink.now g.S.Source c.args.source.now;
     may_end = search rules;
     causes = record { ports = nothing_caused g.S.Source g.K.Sink c.args.source.now c.args.sink.now; disk_fault = λ e. cc };
     tells = refl;
