@@ -4,3 +4,4 @@ pub mod InOrder
 pub mod Before
 pub mod Houses
 pub mod Faults
+pub mod InOrderOfAdding

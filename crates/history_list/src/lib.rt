@@ -3,8 +3,10 @@
 
 mod event;
 mod gathering;
+mod lives;
 #[cfg(test)]
 mod tests;
 
 pub use event::Event;
 pub use gathering::{GatherFault, gather};
+pub use lives::gather_lives;
