@@ -48,7 +48,7 @@ front_lawful : (params : Params) (h : History) (version : ℕ) → IsLawful para
 front_lawful params h version lawful = begins params (take version h) (drop version h) (subst (λ (k : History). IsLawful params k) (sym (take-append-drop version h)) lawful)
 
 -- the batches of adds leave what is live at the version
-adds_of : (params : Params) (h : History) (version : ℕ) → IsLawful params h → version ≤ last_version h → changes (pieces (live h version) version) ≡ map change.Add (live h version)
+pub adds_of : (params : Params) (h : History) (version : ℕ) → IsLawful params h → version ≤ last_version h → changes (pieces (live h version) version) ≡ map change.Add (live h version)
 adds_of params h version lawful le =
     let few = live_bounded params [] (take version h) (front_lawful params h version lawful) in
     let size : length (take version h) ≡ version = length-take-le version h le in

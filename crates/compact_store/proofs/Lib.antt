@@ -4,3 +4,7 @@ pub mod Apart
 pub mod Pieces
 pub mod Bounded
 pub mod KeptLaws
+pub mod Steps
+pub mod Cutting
+pub mod Filled
+pub mod LiveAdds

@@ -1,8 +1,17 @@
-//! What a warehouse is without what was withdrawn before one of its versions.
+//! A warehouse without what was withdrawn before one of its versions.
 //!
-//! `kept` in specs/ is the history from a version on. [`kept_laws`] proves that it is lawful, and that from that version on it answers alike.
+//! [`compact`] writes the history of a warehouse from a version on to a second disk. [`kept_laws`] proves that from that version on it
+//! answers alike.
 #![tactic(auto)]
 
+mod compacting;
+mod filling;
+mod keeping;
 mod laws;
+mod putting;
+mod staging;
+#[cfg(test)]
+mod tests;
 
+pub use compacting::{Compacted, compact};
 pub use laws::kept_laws;
