@@ -1,15 +1,15 @@
 -- The command that the words ask for.
-use Rattle.std.proofs.Common.{◌≡◌, ℕ, List, Option, Some, ◌∙◌, sym, ap, subst}
+use Rattle.std.proofs.Common.{◌≡◌, ◌≢◌, ℕ, true, false, List, Option, Some, None, ◌∙◌, refl, sym, ap, subst}
 use Rattle.bw_types.specs.declared.params.Params.{Params}
 use Rattle.csv_rows.specs.Input.{given, provided}
 use Rattle.command_words.specs.Command.{command_of}
 use Rattle.command_words.specs.declared.command.Command.{Command}
-use Rattle.command_words.specs.declared.command.Command.TheVariants.{Create, Scratch, Sample}
+use Rattle.command_words.specs.declared.command.Command.TheVariants.{Create, Run, Scratch, Sample, Check, Spans, SpanRun, Report, Export, Compact}
 use Rattle.byte_ports.specs.declared.Source.{Ghosts as SourceGhosts}
 use Rattle.byte_ports.specs.declared.Sink.{Ghosts as SinkGhosts}
 use Rattle.page_disk.specs.declared.disk.Disk.{Ghosts as DiskGhosts}
 use Rattle.dom_index.specs.declared.index.DomIndex.{Ghosts as IndexGhosts}
-use Rattle.boxsum.specs.Built.{built_command, is_built}
+use Rattle.boxsum.specs.Built.{built_command, command_on_one, is_built, is_for_one_disk}
 use Rattle.boxsum.specs.Ran.{AnswersFromNothing, MakesEmpty, Samples}
 use Rattle.boxsum.specs.declared.status.Ran.{Ran}
 use Rattle.boxsum.specs.declared.status.Status.{Status}
@@ -17,6 +17,32 @@ use Rattle.boxsum.specs.declared.status.Status.{Status}
 -- a command that was read is the one that is built
 built_is : (words : List (List ℕ)) (read command : Command) → command_of words ≡ Some read → read ≡ command → built_command words ≡ provided (is_built command) command
 built_is words read command e is = ap (λ (o : Option Command). given o (λ c. provided (is_built c) c)) (e ∙ ap Some is)
+
+-- what is asked of one disk is asked
+pub one_is_built : (words : List (List ℕ)) (command : Command) → command_on_one words ≡ Some command → built_command words ≡ Some command
+one_is_built words command = elim (built_command words) as (λ o. given o (λ c. provided (is_for_one_disk c) c) ≡ Some command → o ≡ Some command) [
+  | None ↦ λ e. cc
+  | Some c ↦ elim (is_for_one_disk c) as (λ b. provided b c ≡ Some command → Some c ≡ Some command) [ true ↦ λ e. e | false ↦ λ e. cc ]
+]
+
+-- and what needs no second one is asked of one
+pub one_is_enough : (words : List (List ℕ)) → ((version : ℕ) → built_command words ≢ Some (Compact version)) → command_on_one words ≡ built_command words
+one_is_enough words = elim (built_command words) as (λ o. ((version : ℕ) → o ≢ Some (Compact version)) → given o (λ c. provided (is_for_one_disk c) c) ≡ o) [
+  | None ↦ λ none. refl
+  | Some c ↦ alone c
+]
+  where
+    alone : (c : Command) → ((version : ℕ) → Some c ≢ Some (Compact version)) → provided (is_for_one_disk c) c ≡ Some c
+    alone (Create params) none = refl
+    alone Run none = refl
+    alone (Scratch params) none = refl
+    alone (Sample start count) none = refl
+    alone Check none = refl
+    alone Spans none = refl
+    alone SpanRun none = refl
+    alone Report none = refl
+    alone Export none = refl
+    alone (Compact version) none = absurd (none version refl)
 
 -- there is one command that the words ask for
 pub same_create : (words : List (List ℕ)) (read : Command) (at params : Params) → command_of words ≡ Some read → read ≡ Create at → built_command words ≡ Some (Create params) → at ≡ params

@@ -15,7 +15,7 @@ use Rattle.boxsum.specs.Ends.{ends_run, ends_scratch}
 use Rattle.boxsum.specs.Runs.{IsInputStatus}
 use Rattle.boxsum.specs.Statuses.{status_of, status_of_fault}
 use Rattle.boxsum.specs.declared.status.Status.{Status}
-use Rattle.boxsum.specs.declared.status.Status.TheVariants.{Fine, Usage, NoWarehouse, AlreadyThere, ReadFault, WriteFault, DiskFault, NoMemory, Damaged, InputLimit, PageLimit}
+use Rattle.boxsum.specs.declared.status.Status.TheVariants.{Fine, Usage, NoWarehouse, AlreadyThere, ReadFault, WriteFault, DiskFault, NoMemory, Damaged, InputLimit, PageLimit, NoVersion}
 
 abbrev pub ending_back : Status → Option Ending
 ending_back Fine = Some ending.Fine
@@ -29,6 +29,7 @@ ending_back NoMemory = Some ending.NoMemory
 ending_back (Damaged area page) = Some (ending.Damaged page)
 ending_back (InputLimit taken) = Some (ending.InputLimit taken)
 ending_back (PageLimit allotted) = Some (ending.PageLimit allotted)
+ending_back (NoVersion last) = None
 
 ending_is_back : (e : Ending) → ending_back (status_of e) ≡ Some e
 ending_is_back ending.Fine = refl
@@ -53,6 +54,7 @@ fault_back (Damaged Pages page) = Some (fault.Damaged page)
 fault_back (Damaged Journal page) = Some (fault.BadJournal page)
 fault_back (InputLimit taken) = None
 fault_back (PageLimit allotted) = None
+fault_back (NoVersion last) = None
 
 fault_is_back : (f : OpenFault) → fault_back (status_of_fault f) ≡ Some f
 fault_is_back fault.Disk = refl
@@ -174,6 +176,7 @@ only_fine NoMemory ends empty read write disk damaged input limit = inr refl
 only_fine (Damaged area page) ends empty read write disk damaged input limit = absurd (damaged area page refl)
 only_fine (InputLimit taken) ends empty read write disk damaged input limit = absurd (input taken refl)
 only_fine (PageLimit allotted) ends empty read write disk damaged input limit = absurd (limit allotted refl)
+only_fine (NoVersion last) ends empty read write disk damaged input limit = absurd (cc)
 
 -- the count of faults where the device failed
 pub rises : (f : OpenFault) (old new : ℕ) → MatchBool (is_disk f) (Rose old new × (old ≤ new)) (new ≡ old) → f ≡ fault.Disk → Rose old new

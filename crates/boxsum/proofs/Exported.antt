@@ -11,7 +11,7 @@ use Rattle.page_disk.specs.declared.disk.Area.TheVariants.{Pages, Journal}
 use Rattle.page_disk.specs.declared.disk.Disk.{Ghosts as DiskGhosts}
 use Rattle.row_machine.specs.Runs.{WritesPart}
 use Rattle.boxsum.specs.Ends.{ends_export}
-use Rattle.boxsum.specs.Ran.{ExportRan, Exports}
+use Rattle.boxsum.specs.Ran.{ExportRan, Exports, ReadsWarehouse}
 use Rattle.page_space.specs.Faults.{AtBadJournal}
 use Rattle.page_space.specs.declared.refusal.OpenFault.{OpenFault}
 use Rattle.page_space.specs.declared.refusal.OpenFault.TheVariants as fault
@@ -19,7 +19,7 @@ use Rattle.boxsum.specs.Statuses.{status_of_fault, status_of_gathering}
 use Rattle.history_list.specs.declared.gathering.GatherFault.{GatherFault}
 use Rattle.history_list.specs.declared.gathering.GatherFault.TheVariants as gathering
 use Rattle.boxsum.specs.declared.status.Status.{Status}
-use Rattle.boxsum.specs.declared.status.Status.TheVariants.{Fine, Usage, NoWarehouse, AlreadyThere, ReadFault, WriteFault, DiskFault, NoMemory, Damaged, InputLimit, PageLimit}
+use Rattle.boxsum.specs.declared.status.Status.TheVariants.{Fine, Usage, NoWarehouse, AlreadyThere, ReadFault, WriteFault, DiskFault, NoMemory, Damaged, InputLimit, PageLimit, NoVersion}
 use Rattle.boxsum.proofs.Nothing.{nothing_left, stays_read}
 use Rattle.boxsum.proofs.Opened.{writes_nothing}
 
@@ -64,24 +64,30 @@ exports_whole NoMemory ends none put disk sound = inr refl
 exports_whole (Damaged area page) ends none put disk sound = absurd (sound area page refl)
 exports_whole (InputLimit taken) ends none put disk sound = absurd (cc)
 exports_whole (PageLimit allotted) ends none put disk sound = absurd (cc)
+exports_whole (NoVersion last) ends none put disk sound = absurd (cc)
 
 -- where there is no memory to read the words
+pub nothing_read : {D X : Type 0} (d : DiskGhosts D) (i : IndexGhosts X) (disk : D) → ReadsWarehouse d i disk (record { status = NoMemory; disk = disk })
+nothing_read d i disk = record {
+  empty = λ told none. (stays_read d disk, inr (inr refl));
+  empty_only = λ e. cc;
+  refused = λ told none. record { cause = tt; moments = λ pages settles. nothing_left _ (d.moments disk); stands = λ other pages settled. settled; left = λ other x now. inl now };
+  only_read = λ told. record { stays = λ pages settles other. settles; moments = λ pages settles. nothing_left _ (d.moments disk); untouched = λ calm. stays_read d disk };
+  holds = λ params h held other. held;
+  moments = λ params h held. nothing_left _ (d.moments disk);
+}
+
 module _ {D K X : Type 0} (d : DiskGhosts D) (k : SinkGhosts K) (i : IndexGhosts X) (disk : D) (sink : K) where
   pub no_export : Exports d k i disk sink sink (record { status = NoMemory; disk = disk })
   no_export = record {
     silent = λ fine write. refl;
-    empty = λ told none. (stays_read d disk, inr (inr refl));
-    empty_only = λ e. cc;
+    reads = nothing_read d i disk;
     bad_journal = λ page e. cc;
-    refused = λ told none. record { cause = tt; moments = λ pages settles. nothing_left _ (d.moments disk); stands = λ other pages settled. settled; left = λ other x now. inl now };
-    only_read = λ told. record { stays = λ pages settles other. settles; moments = λ pages settles. nothing_left _ (d.moments disk); untouched = λ calm. stays_read d disk };
     prints = λ params h held. record {
       fine = λ e. cc;
       rebuilds = λ e. cc;
       part = λ tells still. writes_nothing (k.written sink) (rows_of params h);
-      holds = λ other. held;
       surely = λ why. elim why [ inl e ↦ cc | inr e ↦ cc ];
-      moments = nothing_left _ (d.moments disk);
       undamaged = λ area page e. cc;
       complete = λ calm other. inr refl;
     };

@@ -6,3 +6,5 @@ pub mod Reading
 pub mod Sampling
 pub mod Scratch
 mod Exported
+mod Compacting
+mod Carrying

@@ -24,7 +24,7 @@ use Rattle.sample_rows.specs.Summary.{WritesSummary, sample_params, summary_with
 use Rattle.boxsum.specs.Held.{HoldsBetween, IsEmptyOrPart}
 use Rattle.boxsum.specs.Statuses.{status_amid}
 use Rattle.boxsum.specs.declared.status.Status.{Status}
-use Rattle.boxsum.specs.declared.status.Status.TheVariants.{Fine, Usage, NoWarehouse, AlreadyThere, ReadFault, WriteFault, DiskFault, NoMemory, Damaged, InputLimit, PageLimit}
+use Rattle.boxsum.specs.declared.status.Status.TheVariants.{Fine, Usage, NoWarehouse, AlreadyThere, ReadFault, WriteFault, DiskFault, NoMemory, Damaged, InputLimit, PageLimit, NoVersion}
 use Rattle.boxsum.proofs.Opened.{goes_on_same}
 
 -- The status of a sample, by that of the run that loads it.
@@ -40,6 +40,7 @@ amid_ends NoMemory = refl
 amid_ends (Damaged area page) = refl
 amid_ends (InputLimit taken) = refl
 amid_ends (PageLimit allotted) = refl
+amid_ends (NoVersion last) = refl
 
 pub amid_there : (s : Status) → status_amid s ≢ AlreadyThere
 amid_there Fine = λ e. cc
@@ -53,6 +54,7 @@ amid_there NoMemory = λ e. cc
 amid_there (Damaged area page) = λ e. cc
 amid_there (InputLimit taken) = λ e. cc
 amid_there (PageLimit allotted) = λ e. cc
+amid_there (NoVersion last) = λ e. cc
 
 pub amid_write : (s : Status) → status_amid s ≢ WriteFault
 amid_write Fine = λ e. cc
@@ -66,6 +68,7 @@ amid_write NoMemory = λ e. cc
 amid_write (Damaged area page) = λ e. cc
 amid_write (InputLimit taken) = λ e. cc
 amid_write (PageLimit allotted) = λ e. cc
+amid_write (NoVersion last) = λ e. cc
 
 -- with these the run ended
 pub amid_fine : (s : Status) → status_amid s ≡ Fine → s ≡ Fine
@@ -80,6 +83,7 @@ amid_fine NoMemory e = cc
 amid_fine (Damaged area page) e = cc
 amid_fine (InputLimit taken) e = cc
 amid_fine (PageLimit allotted) e = cc
+amid_fine (NoVersion last) e = cc
 
 pub amid_disk : (s : Status) → status_amid s ≡ DiskFault → s ≡ DiskFault
 amid_disk Fine e = cc
@@ -93,6 +97,7 @@ amid_disk NoMemory e = cc
 amid_disk (Damaged area page) e = cc
 amid_disk (InputLimit taken) e = cc
 amid_disk (PageLimit allotted) e = cc
+amid_disk (NoVersion last) e = cc
 
 pub amid_limit : (s : Status) (allotted : ℕ) → status_amid s ≡ PageLimit allotted → s ≡ PageLimit allotted
 amid_limit Fine allotted e = cc
@@ -106,6 +111,7 @@ amid_limit NoMemory allotted e = cc
 amid_limit (Damaged area page) allotted e = cc
 amid_limit (InputLimit taken) allotted e = cc
 amid_limit (PageLimit limit) allotted e = e
+amid_limit (NoVersion last) allotted e = cc
 
 pub amid_damaged : (s : Status) (area : Area) (page : ℕ) → status_amid s ≡ Damaged area page → (s ≡ NoWarehouse) ⊎ (s ≡ Damaged area page)
 amid_damaged Fine area page e = absurd cc
@@ -119,6 +125,7 @@ amid_damaged NoMemory area page e = absurd cc
 amid_damaged (Damaged which number) area page e = inr e
 amid_damaged (InputLimit taken) area page e = absurd cc
 amid_damaged (PageLimit allotted) area page e = absurd cc
+amid_damaged (NoVersion last) area page e = absurd cc
 
 -- where nothing else can be
 pub amid_complete : (s : Status) → s ≢ NoWarehouse → s ≢ DiskFault → ((area : Area) (page : ℕ) → s ≢ Damaged area page) → ((allotted : ℕ) → s ≢ PageLimit allotted)
@@ -134,6 +141,7 @@ amid_complete NoMemory none disk damaged limit = inr refl
 amid_complete (Damaged area page) none disk damaged limit = absurd (damaged area page refl)
 amid_complete (InputLimit taken) none disk damaged limit = inr refl
 amid_complete (PageLimit allotted) none disk damaged limit = absurd (limit allotted refl)
+amid_complete (NoVersion last) none disk damaged limit = inr refl
 
 -- what a creation may end with, where it is none of these
 pub not_made : (s t : Status) → (s ≡ Fine) ⊎ ((s ≡ AlreadyThere) ⊎ (s ≡ DiskFault)) → s ≡ t → t ≢ Fine → t ≢ AlreadyThere → t ≢ DiskFault → ⊥

@@ -3,7 +3,7 @@ use Rattle.std.specs.Prelude.{Bool, true, false, Option, Some, None}
 use Rattle.command_words.specs.declared.command.Command.{Command}
 use Rattle.command_words.specs.declared.command.Command.TheVariants.{Create, Run, Scratch, Sample, Export}
 use Rattle.boxsum.specs.declared.status.Status.{Status}
-use Rattle.boxsum.specs.declared.status.Status.TheVariants.{Fine, Usage, NoWarehouse, AlreadyThere, ReadFault, WriteFault, DiskFault, NoMemory, Damaged, InputLimit, PageLimit}
+use Rattle.boxsum.specs.declared.status.Status.TheVariants.{Fine, Usage, NoWarehouse, AlreadyThere, ReadFault, WriteFault, DiskFault, NoMemory, Damaged, InputLimit, PageLimit, NoVersion}
 
 abbrev pub ends_create : Status → Bool
 ends_create Fine = true
@@ -15,6 +15,7 @@ ends_create _ = false
 abbrev pub ends_run : Status → Bool
 ends_run Usage = false
 ends_run AlreadyThere = false
+ends_run (NoVersion last) = false
 ends_run _ = true
 
 abbrev pub ends_scratch : Status → Bool
@@ -43,6 +44,12 @@ ends_export DiskFault = true
 ends_export NoMemory = true
 ends_export (Damaged area page) = true
 ends_export _ = false
+
+abbrev pub ends_compact : Status → Bool
+ends_compact Usage = false
+ends_compact ReadFault = false
+ends_compact (InputLimit taken) = false
+ends_compact _ = true
 
 abbrev pub ends_nothing : Status → Bool
 ends_nothing Usage = true

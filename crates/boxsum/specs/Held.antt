@@ -23,7 +23,7 @@ use Rattle.row_machine.specs.Housed.{GoesOnFrom}
 use Rattle.row_machine.specs.Serving.{MayServe}
 use Rattle.boxsum.specs.declared.status.Ran.{Ran}
 use Rattle.boxsum.specs.declared.status.Status.{Status}
-use Rattle.boxsum.specs.declared.status.Status.TheVariants.{Fine, Usage, NoWarehouse, AlreadyThere, ReadFault, WriteFault, DiskFault, NoMemory, Damaged, InputLimit, PageLimit}
+use Rattle.boxsum.specs.declared.status.Status.TheVariants.{Fine, Usage, NoWarehouse, AlreadyThere, ReadFault, WriteFault, DiskFault, NoMemory, Damaged, InputLimit, PageLimit, NoVersion}
 
 -- no row of the input commits, so that it reads alone
 abbrev pub CommitsNothing : Params → List ℕ → Type 0
@@ -52,6 +52,7 @@ IsRefusal dims x ReadFault = ⊥
 IsRefusal dims x WriteFault = ⊥
 IsRefusal dims x (InputLimit taken) = ⊥
 IsRefusal dims x (PageLimit allotted) = ⊥
+IsRefusal dims x (NoVersion last) = ⊥
 
 module _ {X : Type 0} (i : IndexGhosts X) where
   -- The image holds a history that goes on from this one.

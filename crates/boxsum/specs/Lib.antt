@@ -3,4 +3,5 @@ pub mod Ends
 pub mod Held
 pub mod Runs
 pub mod Statuses
+pub mod Compacting
 pub mod Ran

@@ -1,12 +1,13 @@
 -- What a run of the program leaves behind, command by command.
-use Rattle.std.specs.Prelude.{◌≡◌, ◌≢◌, ◌⊎◌, ℕ, ◌+◌, ◌<◌, ◌≤◌, ◌^◌, ◌++◌, List, [], Some, None, true, false, IsTrue, length}
+use Rattle.std.specs.Prelude.{◌≡◌, ◌≢◌, ◌⊎◌, ℕ, ◌+◌, ◌<◌, ◌≤◌, ◌^◌, ◌++◌, List, [], Option, Some, None, true, false, IsTrue, length}
 use Rattle.counts.specs.Count.{Rose}
-use Rattle.bw_types.specs.History.{History}
+use Rattle.bw_types.specs.History.{History, changes, last_version}
 use Rattle.bw_types.specs.declared.params.Params.{Params}
 use Rattle.byte_ports.specs.declared.Source.{Ghosts as SourceGhosts}
 use Rattle.byte_ports.specs.declared.Sink.{Ghosts as SinkGhosts}
 use Rattle.line_reader.specs.Lines.{lines, whole_part}
 use Rattle.csv_rows.specs.Machine.{after, begun, text}
+use Rattle.command_words.specs.declared.command.Command.{Command}
 use Rattle.command_words.specs.declared.command.Command.TheVariants as command
 use Rattle.page_disk.specs.Image.{Image, PageList}
 use Rattle.page_disk.specs.Moment.{MayBeLeftNow}
@@ -26,13 +27,15 @@ use Rattle.page_warehouse.specs.Costs.{query_cost}
 use Rattle.page_warehouse.specs.Holds.{Holds}
 use Rattle.page_warehouse.specs.Needs.{batch_need, pages_charge}
 use Rattle.page_warehouse.specs.Shown.{HoldsHistory}
+use Rattle.compact_store.specs.Compacted.{IsEmptyOrHoldsPart, LacksNext}
+use Rattle.compact_store.specs.Kept.{kept}
 use Rattle.history_text.specs.Rebuilt.{Rebuilds}
 use Rattle.history_text.specs.Rows.{rows_of}
 use Rattle.row_machine.specs.Runs.{WritesPart}
 use Rattle.row_machine.specs.Serving.{lines_need}
 use Rattle.sample_rows.specs.Generator.{rows}
 use Rattle.sample_rows.specs.Summary.{WritesSummary, sample_history, sample_params, summary}
-use Rattle.boxsum.specs.Built.{built_command}
+use Rattle.boxsum.specs.Compacting.{compacted_line}
 use Rattle.boxsum.specs.Ends as ends
 use Rattle.boxsum.specs.Held.{BeginsWith, CommitsNothing, HoldsBetween, HoldsFrom, HoldsSurely, IsEmptyOrHolds, IsEmptyOrPart, IsNoWarehouse, LeavesEach, MakesAndLoads, Refuses}
 use Rattle.boxsum.specs.Runs.{AreReplied, IsInputStatus, LacksPagesAmid, LacksPagesNext, ReadsForLines, ServesLines, WritesWholeLines, history_by}
@@ -40,6 +43,10 @@ use Rattle.boxsum.specs.declared.status.Ran.{Ran}
 use Rattle.boxsum.specs.declared.status.RanTwo.{RanTwo}
 use Rattle.boxsum.specs.declared.status.Status.{Status}
 use Rattle.boxsum.specs.declared.status.Status.TheVariants as status
+
+-- what became of the first of two disks
+abbrev pub first_of : {D E : Type 0} → RanTwo D E → Ran D
+first_of ran = record { status = ran.status; disk = ran.disk }
 
 -- Neither the source nor the sink was called.
 abbrev pub Untouched : {S K : Type 0} → S → S → K → K → Type 0
@@ -132,8 +139,8 @@ module _ {D K X : Type 0} (d : DiskGhosts D) (k : SinkGhosts K) (i : IndexGhosts
         → ran.status ≢ status.DiskFault → ((allotted : ℕ) → ran.status ≢ status.PageLimit allotted)
         → (ran.status ≡ status.Fine) ⊎ (ran.status ≡ status.NoMemory)
 
--- An export.
-module _ {D K X : Type 0} (d : DiskGhosts D) (k : SinkGhosts K) (i : IndexGhosts X) (disk : D) (sink sink' : K) (ran : Ran D) where
+-- A command that reads the warehouse on a disk.
+module _ {D X : Type 0} (d : DiskGhosts D) (i : IndexGhosts X) (disk : D) (ran : Ran D) where
   -- The disk stands for the pages that it stood for, and so does each image that a stop at any moment leaves beside what might have been left
   -- before. Where no commit that was cut off is put in its place, nothing is written.
   pub record IsOnlyRead : Type 0 where
@@ -141,6 +148,19 @@ module _ {D K X : Type 0} (d : DiskGhosts D) (k : SinkGhosts K) (i : IndexGhosts
     pub moments : (pages : PageList) → SettlesTo (d.image disk) pages → LeavesOnly (λ x. SettlesTo x pages) (d.moments disk) (d.moments ran.disk)
     pub untouched : HasNoReplay (d.image disk) → StaysAsRead d disk ran.disk
 
+  -- Without a warehouse there is nothing to read, nor where what is there is none. What is there stays.
+  pub record ReadsWarehouse : Type 0 where
+    pub empty : IsTrue (d.tells disk) → is_empty (d.image disk) ≡ true → StaysAsRead d disk ran.disk
+        × ((ran.status ≡ status.NoWarehouse) ⊎ ((ran.status ≡ status.DiskFault) ⊎ (ran.status ≡ status.NoMemory)))
+    pub empty_only : ran.status ≡ status.NoWarehouse → IsTrue (d.tells disk) → is_empty (d.image disk) ≡ true
+    pub refused : IsTrue (d.tells disk) → IsNoWarehouse i.DIMS (d.image disk) → Refuses d i.DIMS disk ran
+    pub only_read : IsTrue (d.tells disk) → IsOnlyRead
+    -- The history is there at each moment.
+    pub holds : (params : Params) (h : History) → HoldsHistory d i true disk params h → ran.status ≢ status.DiskFault → HoldsHistory d i true ran.disk params h
+    pub moments : (params : Params) (h : History) → HoldsHistory d i true disk params h → LeavesOnly (λ x. Holds i x params h) (d.moments disk) (d.moments ran.disk)
+
+-- An export.
+module _ {D K X : Type 0} (d : DiskGhosts D) (k : SinkGhosts K) (i : IndexGhosts X) (disk : D) (sink sink' : K) (ran : Ran D) where
   -- What is printed of a disk that holds this history, and what it holds then.
   pub record PrintsRows (params : Params) (h : History) : Type 0 where
     -- All rows of the history are printed; where the export ends early, a part of them.
@@ -148,10 +168,8 @@ module _ {D K X : Type 0} (d : DiskGhosts D) (k : SinkGhosts K) (i : IndexGhosts
     pub part : IsTrue (k.tells sink) → IsTrue (k.tells sink') → WritesPart (k.written sink) (k.written sink') (rows_of params h)
     -- Read on an empty history with the same params, these rows make this history, and each of its batches is accepted.
     pub rebuilds : ran.status ≡ status.Fine → Rebuilds params h
-    -- The disk holds the history at each moment, and a crash now leaves it.
-    pub holds : ran.status ≢ status.DiskFault → HoldsHistory d i true ran.disk params h
+    -- A crash now leaves the history.
     pub surely : (ran.status ≡ status.Fine) ⊎ (ran.status ≡ status.WriteFault) → HoldsSurely d i params h ran.disk
-    pub moments : LeavesOnly (λ x. Holds i x params h) (d.moments disk) (d.moments ran.disk)
     pub undamaged : (area : Area) (page : ℕ) → ran.status ≢ status.Damaged area page
     -- With no fault and ample memory the export is fine.
     pub complete : (Rose (k.faults sink) (k.faults sink') → ⊥) → ran.status ≢ status.DiskFault → (ran.status ≡ status.Fine) ⊎ (ran.status ≡ status.NoMemory)
@@ -160,14 +178,61 @@ module _ {D K X : Type 0} (d : DiskGhosts D) (k : SinkGhosts K) (i : IndexGhosts
   pub record Exports : Type 0 where
     -- Where it ends otherwise nothing is printed.
     pub silent : ran.status ≢ status.Fine → ran.status ≢ status.WriteFault → sink' ≡ sink
-    -- Without a warehouse nothing is printed, nor where what is there is none.
-    pub empty : IsTrue (d.tells disk) → is_empty (d.image disk) ≡ true → StaysAsRead d disk ran.disk
-        × ((ran.status ≡ status.NoWarehouse) ⊎ ((ran.status ≡ status.DiskFault) ⊎ (ran.status ≡ status.NoMemory)))
-    pub empty_only : ran.status ≡ status.NoWarehouse → IsTrue (d.tells disk) → is_empty (d.image disk) ≡ true
-    pub refused : IsTrue (d.tells disk) → IsNoWarehouse i.DIMS (d.image disk) → Refuses d i.DIMS disk ran
+    pub reads : ReadsWarehouse d i disk ran
     pub bad_journal : (page : ℕ) → ran.status ≡ status.Damaged Journal page → IsTrue (d.tells disk) → IsBadAt (d.image disk) page
-    pub only_read : IsTrue (d.tells disk) → IsOnlyRead
     pub prints : (params : Params) (h : History) → HoldsHistory d i true disk params h → PrintsRows params h
+
+-- what is printed of a compaction, by the history that is kept
+abbrev pub compacted_text : History → List ℕ
+compacted_text h = compacted_line (last_version h) (length (changes h))
+
+-- A compaction.
+module _ {D E K X : Type 0} (d : DiskGhosts D) (e : DiskGhosts E) (k : SinkGhosts K) (i : IndexGhosts X) (disk : D) (second : E) (sink sink' : K) (ran : RanTwo D E) where
+  -- What is left on an empty second disk, and printed, where the first one holds this history and has this version.
+  pub record MakesKept (params : Params) (h : History) (version : ℕ) : Type 0 where
+    -- The second disk holds the history from this version on, and a crash now leaves it.
+    pub done : (ran.status ≡ status.Fine) ⊎ (ran.status ≡ status.WriteFault) → HoldsSurely e i params (kept h version) ran.second
+    pub fine : ran.status ≡ status.Fine → IsTrue (k.tells sink) → IsTrue (k.tells sink') × (k.written sink' ≡ k.written sink ++ compacted_text (kept h version))
+    pub part : IsTrue (k.tells sink) → IsTrue (k.tells sink') → WritesPart (k.written sink) (k.written sink') (compacted_text (kept h version))
+    -- However it ends, it is empty or holds a first part of that, and a stop at any moment leaves no more than that.
+    pub stays : ran.status ≢ status.DiskFault → IsTrue (e.tells ran.second) × IsEmptyOrHoldsPart i params (kept h version) (e.image ran.second)
+    pub moments : LeavesOnly (IsEmptyOrHoldsPart i params (kept h version)) (e.moments second) (e.moments ran.second)
+    pub limit : (allotted : ℕ) → ran.status ≡ status.PageLimit allotted → (allotted ≡ params.pages) × LacksNext i params (kept h version) (e.image ran.second)
+    pub undamaged : (area : Area) (page : ℕ) → ran.status ≢ status.Damaged area page
+    pub complete : (Rose (k.faults sink) (k.faults sink') → ⊥) → ran.status ≢ status.DiskFault → ((allotted : ℕ) → ran.status ≢ status.PageLimit allotted)
+        → (ran.status ≡ status.Fine) ⊎ (ran.status ≡ status.NoMemory)
+
+  -- What becomes of the second disk.
+  pub record LeavesSecond (version : ℕ) : Type 0 where
+    -- It is not called where the first one has no warehouse, nor where that has no such version.
+    pub unopened : IsTrue (d.tells disk) → (is_empty (d.image disk) ≡ true) ⊎ IsNoWarehouse i.DIMS (d.image disk) → ran.second ≡ second
+    pub no_version : (params : Params) (h : History) → HoldsHistory d i true disk params h → last_version h < version → (ran.second ≡ second)
+        × ((ran.status ≡ status.NoVersion (last_version h)) ⊎ ((ran.status ≡ status.DiskFault) ⊎ (ran.status ≡ status.NoMemory)))
+    pub no_version_only : (params : Params) (h : History) (last : ℕ) → HoldsHistory d i true disk params h → ran.status ≡ status.NoVersion last
+        → (last ≡ last_version h) × (last < version)
+    -- What is on it stays.
+    pub there : IsTrue (e.tells second) → is_empty (e.image second) ≡ false → StaysAsRead e second ran.second
+    pub there_only : ran.status ≡ status.AlreadyThere → IsTrue (e.tells second) → is_empty (e.image second) ≡ false
+    pub makes : (params : Params) (h : History) → HoldsHistory d i true disk params h → version ≤ last_version h → IsTrue (e.tells second)
+        → is_empty (e.image second) ≡ true → MakesKept params h version
+
+  -- What its statuses come from, and what the disks tell.
+  pub record HasCauses : Type 0 where
+    pub may_end : IsTrue (ends.ends_compact ran.status)
+    pub write_fault : ran.status ≡ status.WriteFault → Rose (k.faults sink) (k.faults sink')
+    pub disk_fault : ran.status ≡ status.DiskFault → Rose (d.faults disk) (d.faults ran.disk) ⊎ Rose (e.faults second) (e.faults ran.second)
+    pub tells : d.tells ran.disk ≡ d.tells disk
+    pub faults : d.faults disk ≤ d.faults ran.disk
+    pub second_tells : e.tells ran.second ≡ e.tells second
+    pub second_faults : e.faults second ≤ e.faults ran.second
+
+  -- The history of the first disk from a version on was written to the second.
+  pub record Compacts (version : ℕ) : Type 0 where
+    -- Where it ends otherwise nothing is printed.
+    pub silent : ran.status ≢ status.Fine → ran.status ≢ status.WriteFault → sink' ≡ sink
+    pub reads : ReadsWarehouse d i disk (first_of ran)
+    pub leaves : LeavesSecond version
+    pub causes : HasCauses
 
 -- The commands.
 module _ {D S K X : Type 0} (d : DiskGhosts D) (s : SourceGhosts S) (k : SinkGhosts K) (i : IndexGhosts X) (disk : D) (source source' : S) (sink sink' : K) (ran : Ran D) where
@@ -285,25 +350,21 @@ module _ {D S K X : Type 0} (d : DiskGhosts D) (s : SourceGhosts S) (k : SinkGho
     pub at_limit : (params : Params) (meta : Meta) (pages : PageMap) (allotted : ℕ) → IsTrue (d.tells disk) → HoldsSpace (d.image disk) params meta pages ⊥
         → ran.status ≡ status.PageLimit allotted → allotted ≡ params.pages
 
-  -- What these words ask for was carried out.
-  pub record Carried (words : List (List ℕ)) : Type 0 where
-    -- Words that are no command, or none that is built, are refused, and nothing is called.
-    pub usage : built_command words ≡ None → Untouched source source' sink sink' × (ran.disk ≡ disk)
+  -- This command was carried out.
+  pub record Carried (asked : Option Command) : Type 0 where
+    -- Where there is none, the words are refused, and nothing is called.
+    pub usage : asked ≡ None → Untouched source source' sink sink' × (ran.disk ≡ disk)
         × ((ran.status ≡ status.Usage) ⊎ (ran.status ≡ status.NoMemory))
-    pub usage_only : ran.status ≡ status.Usage → built_command words ≡ None
+    pub usage_only : ran.status ≡ status.Usage → asked ≡ None
     -- What each command leaves.
-    pub scratch : (params : Params) → built_command words ≡ Some (command.Scratch params) → ScratchRan params
-    pub create : (params : Params) → built_command words ≡ Some (command.Create params) → CreateRan params
-    pub run : built_command words ≡ Some command.Run → RunRan
-    pub sample : (start count : ℕ) → built_command words ≡ Some (command.Sample start count) → SampleRan start count
-    pub export : built_command words ≡ Some command.Export → ExportRan
+    pub scratch : (params : Params) → asked ≡ Some (command.Scratch params) → ScratchRan params
+    pub create : (params : Params) → asked ≡ Some (command.Create params) → CreateRan params
+    pub run : asked ≡ Some command.Run → RunRan
+    pub sample : (start count : ℕ) → asked ≡ Some (command.Sample start count) → SampleRan start count
+    pub export : asked ≡ Some command.Export → ExportRan
     -- With which statuses each may end, and what they come from.
-    pub may_end : IsTrue (ends.may_end (built_command words) ran.status)
+    pub may_end : IsTrue (ends.may_end asked ran.status)
     pub causes : HasCause
     -- However it ends, the disk tells what it told, and no failure of it is forgotten.
     pub tells : d.tells ran.disk ≡ d.tells disk
     pub faults : d.faults disk ≤ d.faults ran.disk
-
--- what became of the first of two disks
-abbrev pub first_of : {D E : Type 0} → RanTwo D E → Ran D
-first_of ran = record { status = ran.status; disk = ran.disk }

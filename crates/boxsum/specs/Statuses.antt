@@ -8,7 +8,7 @@ use Rattle.history_list.specs.declared.gathering.GatherFault.TheVariants as gath
 use Rattle.row_machine.specs.declared.ending.Ending.{Ending}
 use Rattle.row_machine.specs.declared.ending.Ending.TheVariants as ending
 use Rattle.boxsum.specs.declared.status.Status.{Status}
-use Rattle.boxsum.specs.declared.status.Status.TheVariants.{Fine, Usage, NoWarehouse, AlreadyThere, ReadFault, WriteFault, DiskFault, NoMemory, Damaged, InputLimit, PageLimit}
+use Rattle.boxsum.specs.declared.status.Status.TheVariants.{Fine, Usage, NoWarehouse, AlreadyThere, ReadFault, WriteFault, DiskFault, NoMemory, Damaged, InputLimit, PageLimit, NoVersion}
 
 -- the status of a run over an input that ended so
 abbrev pub status_of : Ending → Status
@@ -42,6 +42,7 @@ status_amid NoWarehouse = Damaged Pages 0
 status_amid ReadFault = NoMemory
 status_amid WriteFault = NoMemory
 status_amid (InputLimit taken) = NoMemory
+status_amid (NoVersion last) = NoMemory
 status_amid Usage = NoMemory
 status_amid AlreadyThere = NoMemory
 status_amid status = status
@@ -59,11 +60,12 @@ exit_code NoMemory = 8
 exit_code (Damaged area page) = 9
 exit_code (InputLimit taken) = 10
 exit_code (PageLimit allotted) = 11
+exit_code (NoVersion last) = 12
 
 -- what is printed to standard error after the program's name
 abbrev pub status_text : Status → List ℕ
 status_text Fine = []
-status_text Usage = codes "usage: boxsum create D [--degree G] [--events N] [--pages N] [--signed S], run, scratch D [--degree G] [--events N] [--signed S], sample START COUNT, export"
+status_text Usage = codes "usage: boxsum create D [--degree G] [--events N] [--pages N] [--signed S], run, scratch D [--degree G] [--events N] [--signed S], sample START COUNT, export, compact V"
 status_text NoWarehouse = codes "no warehouse here"
 status_text AlreadyThere = codes "there is a warehouse already"
 status_text ReadFault = codes "input failed"
@@ -74,3 +76,4 @@ status_text (Damaged Pages page) = codes "damaged page " ++ decimal page
 status_text (Damaged Journal page) = codes "damaged journal page " ++ decimal page
 status_text (InputLimit taken) = codes "input too long"
 status_text (PageLimit allotted) = codes "page limit " ++ (decimal allotted ++ codes " reached")
+status_text (NoVersion last) = codes "last version is " ++ decimal last

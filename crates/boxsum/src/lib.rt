@@ -8,6 +8,9 @@
 //! `Index`: the crate `parcels` makes one, opens it, commits rows, asks and closes it.
 #![tactic(auto)]
 
+mod compaction;
+#[cfg(test)]
+mod compaction_tests;
 #[cfg(test)]
 mod disk_tests;
 #[cfg(test)]

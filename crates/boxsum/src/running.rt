@@ -1,12 +1,15 @@
 //! The top call.
-ghost use Rattle.std.specs.Prelude.{◌≡◌, ◌≤◌, ◌⊎◌, IsTrue, map, string_bytes};
+ghost use Rattle.std.specs.Prelude.{◌≡◌, ◌≢◌, ◌≤◌, ◌⊎◌, ℕ, Some, IsTrue, map, string_bytes};
+ghost use Rattle.command_words.specs.declared.command.Command.{Command as CommandName};
 ghost use Rattle.counts.specs.Count.{Rose};
 ghost use Rattle.bw_types.specs.declared.params.Params.{Params};
 ghost use Rattle.bw_types.specs.Fits.{IsInRange};
 ghost use Rattle.page_warehouse.specs.Created.{IsNew};
 ghost use Rattle.boxsum.specs.Ends.{ends_run, ends_scratch};
-ghost use Rattle.boxsum.specs.Ran.{AnswersFromNothing, Carried, HasCause, HasPortCause, MakesEmpty, RunRan, first_of};
+ghost use Rattle.boxsum.specs.Built.{built_command, command_on_one};
+ghost use Rattle.boxsum.specs.Ran.{AnswersFromNothing, Carried, Compacts, HasCause, HasPortCause, MakesEmpty, RunRan, first_of};
 
+use crate::compaction::compact_on;
 use crate::export::export_on;
 use crate::index::Index;
 use crate::sample::sample_on;
@@ -15,7 +18,7 @@ use bw_types::Params;
 use byte_ports::{Sink, Source};
 use command_words::{Command, WordsFault, read_words};
 use dom_index::DomIndex;
-use page_disk::{Disk, PlainDisk};
+use page_disk::Disk;
 use page_space::holds_one;
 use page_warehouse::{Created, Warehouse, create, created_holds, holding_laws};
 use redo_journal::settling_laws;
@@ -29,7 +32,8 @@ use warehouse::ListHouse;
 /// source; `scratch` answers them over a history in memory, which begins empty. `sample` makes a warehouse, loads rows that are
 /// drawn, and writes a summary. `export` prints the rows that rebuild the history of the warehouse on the disk. What `run` and
 /// `scratch` write is the text that the definitions give for all the bytes that the source has left, cut in whatever pieces; where the
-/// run ends early it is a part of that text, from its beginning. The disk goes in by value, and comes back at every end.
+/// run ends early it is a part of that text, from its beginning. The disk goes in by value, and comes back at every end. `compact`
+/// needs two disks: here it is no command.
 ///
 /// What the words ask for, what each command leaves, and with which statuses it may end, is the record `Carried` of specs/Ran.antt.
 pub fn run<D: Disk + Drop, S: Source, K: Sink>(
@@ -39,49 +43,7 @@ pub fn run<D: Disk + Drop, S: Source, K: Sink>(
     source: &mut S,
     sink: &mut K,
 ) -> Ran<D>
-    ensures carried { Carried D.Disk S.Source K.Sink ⟦<Index as DomIndex>⟧ disk source.old source.new sink.old sink.new result (map string_bytes words.now) }
-{
-    // No command that is built calls a second disk: a blank one in memory will do.
-    let second = PlainDisk::blank(alloc);
-    let RanTwo {
-        status,
-        disk,
-        second: _,
-    } = run_two(alloc, words, disk, second, source, sink);
-    Ran { status, disk }
-}
-
-/// Carries out the command that the words ask for where there are two disks.
-///
-/// The commands are those of [`run`], and work on the first disk. None of them calls the second, which comes back as it was.
-pub fn run_two<D: Disk + Drop, E: Disk, S: Source, K: Sink>(
-    alloc: Global,
-    words: &[String],
-    disk: D,
-    second: E,
-    source: &mut S,
-    sink: &mut K,
-) -> RanTwo<D, E>
-    ensures carried { Carried D.Disk S.Source K.Sink ⟦<Index as DomIndex>⟧ disk source.old source.new sink.old sink.new (first_of result) (map string_bytes words.now) }
-    ensures second { result.second ≡ second }
-{
-    let Ran { status, disk } = carry_out(alloc, words, disk, source, sink);
-    RanTwo {
-        status,
-        disk,
-        second,
-    }
-}
-
-// Carries out a command that works on one disk.
-fn carry_out<D: Disk + Drop, S: Source, K: Sink>(
-    alloc: Global,
-    words: &[String],
-    disk: D,
-    source: &mut S,
-    sink: &mut K,
-) -> Ran<D>
-    ensures carried { Carried D.Disk S.Source K.Sink ⟦<Index as DomIndex>⟧ disk source.old source.new sink.old sink.new result (map string_bytes words.now) }
+    ensures carried { Carried D.Disk S.Source K.Sink ⟦<Index as DomIndex>⟧ disk source.old source.new sink.old sink.new result (command_on_one (map string_bytes words.now)) }
 {
     machine_laws();
     match read_words(alloc, words) {
@@ -103,6 +65,46 @@ fn carry_out<D: Disk + Drop, S: Source, K: Sink>(
             status: Status::NoMemory,
             disk,
         },
+    }
+}
+
+/// Carries out the command that the words ask for where there are two disks.
+///
+/// `compact` reads the warehouse on the first disk, and writes its history from a version on to the second, which has to be empty; its
+/// record is `Compacts` of specs/Ran.antt. The other commands are those of [`run`]. They work on the first disk and do not call the
+/// second.
+pub fn run_two<D: Disk + Drop, E: Disk + Drop, S: Source, K: Sink>(
+    alloc: Global,
+    words: &[String],
+    disk: D,
+    second: E,
+    source: &mut S,
+    sink: &mut K,
+) -> RanTwo<D, E>
+    ensures carried { ((version : ℕ) → built_command (map string_bytes words.now) ≢ Some (CommandName.Compact version))
+        → Carried D.Disk S.Source K.Sink ⟦<Index as DomIndex>⟧ disk source.old source.new sink.old sink.new (first_of result) (built_command (map string_bytes words.now))
+        × (result.second ≡ second) }
+    ensures compacts { (version : ℕ) → built_command (map string_bytes words.now) ≡ Some (CommandName.Compact version)
+        → (source.new ≡ source.old) × Compacts D.Disk E.Disk K.Sink ⟦<Index as DomIndex>⟧ disk second sink.old sink.new result version }
+{
+    machine_laws();
+    match read_words(alloc, words) {
+        Ok(Command::Compact { version }) => {
+            compact_on::<Index, D, E, K>(alloc, disk, second, version, sink)
+        }
+        Err(WordsFault::NoMemory) => RanTwo {
+            status: Status::NoMemory,
+            disk,
+            second,
+        },
+        Ok(_) | Err(WordsFault::Usage) => {
+            let Ran { status, disk } = run(alloc, words, disk, source, sink);
+            RanTwo {
+                status,
+                disk,
+                second,
+            }
+        }
     }
 }
 

@@ -143,7 +143,8 @@ fn amid(status: Status) -> Status
         | Status::WriteFault
         | Status::InputLimit { .. }
         | Status::Usage
-        | Status::AlreadyThere => Status::NoMemory,
+        | Status::AlreadyThere
+        | Status::NoVersion { .. } => Status::NoMemory,
         other => other,
     }
 }

@@ -35,6 +35,8 @@ pub enum Status {
     InputLimit { taken: u64 },
     /// As many pages are given out as the limit allows: this number.
     PageLimit { allotted: u64 },
+    /// The version is above the last one, which is this. Nothing was written.
+    NoVersion { last: u32 },
 }
 
 /// How a command ended, and the disk that it was carried out on.
@@ -69,6 +71,7 @@ impl Status {
             Status::Damaged { .. } => 9,
             Status::InputLimit { .. } => 10,
             Status::PageLimit { .. } => 11,
+            Status::NoVersion { .. } => 12,
         }
     }
 }
@@ -147,7 +150,7 @@ impl fmt::Display for Status {
         match self {
             Status::Fine => f.write_str(""),
             Status::Usage => f.write_str(
-                "usage: boxsum create D [--degree G] [--events N] [--pages N] [--signed S], run, scratch D [--degree G] [--events N] [--signed S], sample START COUNT, export",
+                "usage: boxsum create D [--degree G] [--events N] [--pages N] [--signed S], run, scratch D [--degree G] [--events N] [--signed S], sample START COUNT, export, compact V",
             ),
             Status::NoWarehouse => f.write_str("no warehouse here"),
             Status::AlreadyThere => f.write_str("there is a warehouse already"),
@@ -165,6 +168,7 @@ impl fmt::Display for Status {
             } => write!(f, "damaged journal page {page}"),
             Status::InputLimit { .. } => f.write_str("input too long"),
             Status::PageLimit { allotted } => write!(f, "page limit {allotted} reached"),
+            Status::NoVersion { last } => write!(f, "last version is {last}"),
         }
     }
 }

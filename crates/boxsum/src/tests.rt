@@ -500,7 +500,7 @@ fn many_objects_at_one_point(rt: HostRuntime) -> Result<(), Fail> {
 #[test]
 fn texts_of_statuses(rt: HostRuntime) -> Result<(), Fail> {
     let usage =
-        "usage: boxsum create D [--degree G] [--events N] [--pages N] [--signed S], run, scratch D [--degree G] [--events N] [--signed S], sample START COUNT, export";
+        "usage: boxsum create D [--degree G] [--events N] [--pages N] [--signed S], run, scratch D [--degree G] [--events N] [--signed S], sample START COUNT, export, compact V";
     let texts = [
         (Status::Usage, 2, usage),
         (Status::NoWarehouse, 3, "no warehouse here"),
@@ -531,6 +531,7 @@ fn texts_of_statuses(rt: HostRuntime) -> Result<(), Fail> {
             11,
             "page limit 8 reached",
         ),
+        (Status::NoVersion { last: 2 }, 12, "last version is 2"),
     ];
     assert_eq!(rt; Status::Fine.code(), 0);
     for (status, code, text) in texts.iter() {

@@ -1,6 +1,6 @@
 //! The program `boxsum`.
 //!
-//! `main` makes the devices, hands the words on to `run` of the library, whose contract says all that the program promises, prints
+//! `main` makes the devices, hands the words on to `run_two` of the library, whose contract says all that the program promises, prints
 //! the text of the status and ends with its number.
 #![tactic(auto)]
 
@@ -11,11 +11,16 @@ ghost use Rattle.boxsum.specs.Statuses.{exit_code};
 mod words;
 
 use crate::words::words_behind;
-use boxsum::{Status, run};
+use boxsum::{Status, run_two};
 use byte_ports::{StdSink, StdSource};
 use page_disk::{Failure, FileDisk};
 use std::env;
 use std::process::ExitCode;
+
+/// The files of the second disk, to which `compact` writes.
+const SECOND_PAGES: &str = "boxsum.compact.pages";
+
+const SECOND_JOURNAL: &str = "boxsum.compact.journal";
 
 fn main(rt: HostRuntime) -> ExitCode {
     let (status, failure) = run_on(&rt);
@@ -48,10 +53,25 @@ fn run_on(rt: &HostRuntime) -> (Status, Option<Failure>) {
     let Ok(files) = rt.clone() else {
         return (Status::NoMemory, None);
     };
-    // The files are opened, and made where absent, at the first call on the disk.
+    let Ok(more_files) = rt.clone() else {
+        return (Status::NoMemory, None);
+    };
+    // The files are opened, and made where absent, at the first call on a disk.
     let disk = FileDisk::new(rt.alloc(), files);
+    let second = FileDisk::named(rt.alloc(), more_files, SECOND_PAGES, SECOND_JOURNAL);
     let mut source = StdSource::new(rt.stdin());
     let mut sink = StdSink::new(rt.stdout());
-    let ran = run(rt.alloc(), words.as_slice(), disk, &mut source, &mut sink);
-    (ran.status, ran.disk.last_failure())
+    let ran = run_two(
+        rt.alloc(),
+        words.as_slice(),
+        disk,
+        second,
+        &mut source,
+        &mut sink,
+    );
+    let failure = match ran.disk.last_failure() {
+        Some(failure) => Some(failure),
+        None => ran.second.last_failure(),
+    };
+    (ran.status, failure)
 }

@@ -1,8 +1,8 @@
 use Rattle.std.proofs.Common.{map, string_bytes, refl, rules, arith}
-use Rattle.boxsum.proofs.Asked.{created_by, same_create, same_sample, same_scratch, sampled_by, scratched_by}
-use Rattle.boxsum.proofs.Exported.{nothing_exported}
-use Rattle.boxsum.proofs.Nothing.{nothing_caused, nothing_created, nothing_run, nothing_sampled, nothing_scratched}
-use Rattle.boxsum.proofs.running.carry_out.Goals as goal
+use Rattle.command_words.specs.declared.command.Command.TheVariants.{Create, Sample, Scratch}
+use Rattle.boxsum.proofs.Asked.{created_by, one_is_built, same_create, same_sample, same_scratch, sampled_by, scratched_by}
+use Rattle.boxsum.proofs.Carrying.{nothing_carried}
+use Rattle.boxsum.proofs.running.run.Goals as goal
 
 pub returns-in-Ok-Create : goal.returns-in-Ok-Create
 returns-in-Ok-Create g c = record {
@@ -11,7 +11,7 @@ returns-in-Ok-Create g c = record {
     usage_only = search rules;
     scratch = search rules;
     create = λ params asked.
-        let same = same_create (map string_bytes c.args.words.now) c.in-Ok-Create.field-0 c.in-Ok-Create.params params c.in-Ok-Create.ensures.read c.in-Ok-Create.field-0-is asked in
+        let same = same_create (map string_bytes c.args.words.now) c.in-Ok-Create.field-0 c.in-Ok-Create.params params c.in-Ok-Create.ensures.read c.in-Ok-Create.field-0-is (one_is_built (map string_bytes c.args.words.now) (Create params) asked) in
         record { untouched = (refl, refl); makes = created_by _ _ _ _ c.in-Ok-Create.params params same c.create_on.ensures.makes };
     run = search rules;
     sample = search rules;
@@ -46,7 +46,7 @@ returns-in-Ok-Scratch g c = record {
     usage = search rules;
     usage_only = search rules;
     scratch = λ params asked.
-        let same = same_scratch (map string_bytes c.args.words.now) c.in-Ok-Scratch.field-0 c.in-Ok-Scratch.params params c.in-Ok-Scratch.ensures.read c.in-Ok-Scratch.field-0-is asked in
+        let same = same_scratch (map string_bytes c.args.words.now) c.in-Ok-Scratch.field-0 c.in-Ok-Scratch.params params c.in-Ok-Scratch.ensures.read c.in-Ok-Scratch.field-0-is (one_is_built (map string_bytes c.args.words.now) (Scratch params) asked) in
         record { disk_stays = refl; answers = scratched_by _ _ _ _ _ _ _ c.in-Ok-Scratch.params params same c.scratch_on.ensures.answers };
     create = search rules;
     run = search rules;
@@ -68,7 +68,7 @@ returns-in-Ok-Sample g c = record {
     create = search rules;
     run = search rules;
     sample = λ start count asked.
-        let same = same_sample (map string_bytes c.args.words.now) c.in-Ok-Sample.field-0 c.in-Ok-Sample.start c.in-Ok-Sample.count start count c.in-Ok-Sample.ensures.read c.in-Ok-Sample.field-0-is asked in
+        let same = same_sample (map string_bytes c.args.words.now) c.in-Ok-Sample.field-0 c.in-Ok-Sample.start c.in-Ok-Sample.count start count c.in-Ok-Sample.ensures.read c.in-Ok-Sample.field-0-is (one_is_built (map string_bytes c.args.words.now) (Sample start count) asked) in
         record { source_stays = refl; samples = sampled_by _ _ _ _ _ _ _ c.in-Ok-Sample.start c.in-Ok-Sample.count start count same c.sample_on.ensures.samples };
     export = search rules;
     may_end = search rules;
@@ -117,17 +117,5 @@ returns-in-Ok g c = record {
 
 pub returns-in-Err-NoMemory : goal.returns-in-Err-NoMemory
 returns-in-Err-NoMemory g c = record {
-  carried = record {
-    usage = search rules;
-    usage_only = search rules;
-    scratch = λ params asked. nothing_scratched g.D.Disk g.S.Source g.K.Sink _ c.args.disk c.args.source.now c.args.sink.now params;
-    create = λ params asked. nothing_created g.D.Disk g.S.Source g.K.Sink _ c.args.disk c.args.source.now c.args.sink.now params;
-    run = λ asked. nothing_run g.D.Disk g.S.Source g.K.Sink _ c.args.disk c.args.source.now c.args.sink.now c.machine_laws.ensures.silent c.machine_laws.ensures.goes_on;
-    sample = λ start count asked. nothing_sampled g.D.Disk g.S.Source g.K.Sink _ c.args.disk c.args.source.now c.args.sink.now start count;
-    export = λ asked. nothing_exported g.D.Disk g.K.Sink _ c.args.disk c.args.sink.now g.S.Source c.args.source.now;
-    may_end = search rules;
-    causes = record { ports = nothing_caused g.S.Source g.K.Sink c.args.source.now c.args.sink.now; disk_fault = λ e. cc };
-    tells = refl;
-    faults = omega arith;
-  };
+  carried = nothing_carried g.D.Disk g.S.Source g.K.Sink _ c.args.disk c.args.source.now c.args.sink.now c.machine_laws.ensures.silent c.machine_laws.ensures.goes_on _;
 }
