@@ -160,3 +160,33 @@ fn a_compaction_that_is_stopped(rt: HostRuntime) -> Result<(), Fail> {
     }
     Ok(())
 }
+
+// Where a call on a disk fails the first one stays, and the second has no warehouse or a first part of the history.
+#[test]
+fn each_call_of_a_compaction_fails(rt: HostRuntime) -> Result<(), Fail> {
+    let alloc = rt.alloc();
+    let disk = two_versions(alloc)?;
+    let before = disk.calls();
+    let (ran, _) = run_on_two(alloc, "compact 2", disk, MemDisk::blank(alloc))?;
+    assert_eq!(rt; ran.status, Status::Fine);
+    let (all, read) = (ran.second.calls(), ran.disk.calls() - before);
+    assert!(rt; all < 1000 && 0 < read && read < 1000);
+    for call in 1..all + 1 {
+        let mut second = MemDisk::blank(alloc);
+        second.fail_at(Vec::from_slice(alloc, &[call])?);
+        let (ran, sink) = run_on_two(alloc, "compact 2", two_versions(alloc)?, second)?;
+        assert_eq!(rt; ran.status, Status::DiskFault, "call {call}");
+        assert_eq!(rt; sink.bytes(), b"".as_slice(), "call {call}");
+        assert!(rt; versions_there(alloc, ran.second)?.is_some(), "call {call}");
+        let (_, sink) = run_over(alloc, "export", b"", ran.disk)?;
+        assert_eq!(rt; sink.bytes(), TWO_VERSIONS.as_bytes(), "call {call}");
+    }
+    for call in 1..read + 1 {
+        let mut disk = two_versions(alloc)?;
+        disk.fail_at(Vec::from_slice(alloc, &[call])?);
+        let (ran, _) = run_on_two(alloc, "compact 2", disk, MemDisk::blank(alloc))?;
+        assert_eq!(rt; ran.status, Status::DiskFault, "call {call}");
+        assert!(rt; versions_there(alloc, ran.second)?.is_some(), "call {call}");
+    }
+    Ok(())
+}
