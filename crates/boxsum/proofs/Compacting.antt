@@ -9,7 +9,7 @@ use Rattle.compact_store.specs.declared.compacting.Compacted.{Compacted}
 use Rattle.compact_store.specs.declared.compacting.Compacted.TheVariants as made
 use Rattle.dom_index.specs.declared.index.DomIndex.{Ghosts as IndexGhosts}
 use Rattle.page_disk.specs.declared.disk.Area.{Area}
-use Rattle.page_disk.specs.declared.disk.Area.TheVariants.{Pages}
+use Rattle.page_disk.specs.declared.disk.Area.TheVariants.{Pages, Journal}
 use Rattle.page_disk.specs.declared.disk.Disk.{Ghosts as DiskGhosts}
 use Rattle.redo_journal.specs.Gates.{is_empty}
 use Rattle.row_machine.specs.Runs.{WritesPart}
@@ -114,6 +114,28 @@ module _ {E K : Type 0} (k : SinkGhosts K) (last : ℕ) (before after : K) where
   damaged (made.Damaged second other) s area page ends e = (let same : Damaged Pages other ≡ Damaged area page = sym ends.0 ∙ e in cc)
   damaged (made.NoMemory second) s area page ends e = absurd (let no : Damaged area page ≡ NoMemory = sym e ∙ ends.0 in cc)
   damaged (made.Disk second) s area page ends e = absurd (let no : Damaged area page ≡ DiskFault = sym e ∙ ends.0 in cc)
+
+  -- no page of a journal is named
+  pub no_journal : (r : Compacted E) (s : Status) (page : ℕ) → EndsAs k last before after r s → s ≢ Damaged Journal page
+  no_journal (made.Done second rows) s page ends e = three s ends.may_end (λ f. let no : Damaged Journal page ≡ Fine = sym e ∙ f in cc) (λ f. let no : Damaged Journal page ≡ WriteFault = sym e ∙ f in cc) (λ f. let no : Damaged Journal page ≡ NoMemory = sym e ∙ f in cc)
+  no_journal (made.NoVersion second version) s page ends e = (let no : Damaged Journal page ≡ NoVersion version = sym e ∙ ends.0 in cc)
+  no_journal (made.AlreadyThere second) s page ends e = (let no : Damaged Journal page ≡ AlreadyThere = sym e ∙ ends.0 in cc)
+  no_journal (made.PageLimit second allotted) s page ends e = (let no : Damaged Journal page ≡ PageLimit allotted = sym e ∙ ends.0 in cc)
+  no_journal (made.Damaged second other) s page ends e = (let no : Damaged Journal page ≡ Damaged Pages other = sym e ∙ ends.0 in cc)
+  no_journal (made.NoMemory second) s page ends e = (let no : Damaged Journal page ≡ NoMemory = sym e ∙ ends.0 in cc)
+  no_journal (made.Disk second) s page ends e = (let no : Damaged Journal page ≡ DiskFault = sym e ∙ ends.0 in cc)
+
+  -- where nothing else can be, the second disk has something on it, or a disk failed
+  pub full_end : (r : Compacted E) (s : Status) → EndsAs k last before after r s → ((e : E) (version : ℕ) → r ≢ made.NoVersion e version) → ((e : E) (rows : ℕ) → r ≢ made.Done e rows)
+      → ((e : E) (allotted : ℕ) → r ≢ made.PageLimit e allotted) → ((e : E) (page : ℕ) → r ≢ made.Damaged e page) → ((e : E) → r ≢ made.NoMemory e)
+      → (s ≡ AlreadyThere) ⊎ ((s ≡ DiskFault) ⊎ (s ≡ NoMemory))
+  full_end (made.Done second rows) s ends version whole limit sound memory = absurd (whole second rows refl)
+  full_end (made.NoVersion second other) s ends version whole limit sound memory = absurd (version second other refl)
+  full_end (made.AlreadyThere second) s ends version whole limit sound memory = inl ends.0
+  full_end (made.PageLimit second allotted) s ends version whole limit sound memory = absurd (limit second allotted refl)
+  full_end (made.Damaged second page) s ends version whole limit sound memory = absurd (sound second page refl)
+  full_end (made.NoMemory second) s ends version whole limit sound memory = absurd (memory second refl)
+  full_end (made.Disk second) s ends version whole limit sound memory = inr (inl ends.0)
 
   -- where the line is put, the second disk has the whole
   pub done : (r : Compacted E) (s : Status) → EndsAs k last before after r s → (s ≡ Fine) ⊎ (s ≡ WriteFault) → (rows : ℕ) × ((r ≡ made.Done (second_out r) rows) × PutsCompacted k last before after rows s)

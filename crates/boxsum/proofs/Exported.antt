@@ -71,6 +71,7 @@ pub nothing_read : {D X : Type 0} (d : DiskGhosts D) (i : IndexGhosts X) (disk :
 nothing_read d i disk = record {
   empty = λ told none. (stays_read d disk, inr (inr refl));
   empty_only = λ e. cc;
+  bad_journal = λ page e. cc;
   refused = λ told none. record { cause = tt; moments = λ pages settles. nothing_left _ (d.moments disk); stands = λ other pages settled. settled; left = λ other x now. inl now };
   only_read = λ told. record { stays = λ pages settles other. settles; moments = λ pages settles. nothing_left _ (d.moments disk); untouched = λ calm. stays_read d disk };
   holds = λ params h held other. held;
@@ -82,7 +83,6 @@ module _ {D K X : Type 0} (d : DiskGhosts D) (k : SinkGhosts K) (i : IndexGhosts
   no_export = record {
     silent = λ fine write. refl;
     reads = nothing_read d i disk;
-    bad_journal = λ page e. cc;
     prints = λ params h held. record {
       fine = λ e. cc;
       rebuilds = λ e. cc;

@@ -1,7 +1,7 @@
 -- With which statuses each command may end.
 use Rattle.std.specs.Prelude.{Bool, true, false, Option, Some, None}
 use Rattle.command_words.specs.declared.command.Command.{Command}
-use Rattle.command_words.specs.declared.command.Command.TheVariants.{Create, Run, Scratch, Sample, Export}
+use Rattle.command_words.specs.declared.command.Command.TheVariants.{Create, Run, Scratch, Sample, Export, Compact}
 use Rattle.boxsum.specs.declared.status.Status.{Status}
 use Rattle.boxsum.specs.declared.status.Status.TheVariants.{Fine, Usage, NoWarehouse, AlreadyThere, ReadFault, WriteFault, DiskFault, NoMemory, Damaged, InputLimit, PageLimit, NoVersion}
 
@@ -64,4 +64,5 @@ may_end (Some Run) status = ends_run status
 may_end (Some (Scratch params)) status = ends_scratch status
 may_end (Some (Sample start count)) status = ends_sample status
 may_end (Some Export) status = ends_export status
+may_end (Some (Compact version)) status = ends_compact status
 may_end (Some _) status = ends_nothing status

@@ -1,8 +1,10 @@
 -- What a run of the program leaves behind, command by command.
 use Rattle.std.specs.Prelude.{◌≡◌, ◌≢◌, ◌⊎◌, ℕ, ◌+◌, ◌<◌, ◌≤◌, ◌^◌, ◌++◌, List, [], Option, Some, None, true, false, IsTrue, length}
 use Rattle.counts.specs.Count.{Rose}
+use Rattle.bw_types.specs.Answers.{answer}
 use Rattle.bw_types.specs.History.{History, changes, last_version}
 use Rattle.bw_types.specs.declared.params.Params.{Params}
+use Rattle.bw_types.specs.declared.query.Query.{Query}
 use Rattle.byte_ports.specs.declared.Source.{Ghosts as SourceGhosts}
 use Rattle.byte_ports.specs.declared.Sink.{Ghosts as SinkGhosts}
 use Rattle.line_reader.specs.Lines.{lines, whole_part}
@@ -141,10 +143,14 @@ module _ {D K X : Type 0} (d : DiskGhosts D) (k : SinkGhosts K) (i : IndexGhosts
 
 -- A command that reads the warehouse on a disk.
 module _ {D X : Type 0} (d : DiskGhosts D) (i : IndexGhosts X) (disk : D) (ran : Ran D) where
+  -- The disk did not end the command by a failure of its own.
+  abbrev pub DidNotFail : Type 0
+  DidNotFail = ran.status ≡ status.DiskFault → Rose (d.faults disk) (d.faults ran.disk) → ⊥
+
   -- The disk stands for the pages that it stood for, and so does each image that a stop at any moment leaves beside what might have been left
   -- before. Where no commit that was cut off is put in its place, nothing is written.
   pub record IsOnlyRead : Type 0 where
-    pub stays : (pages : PageList) → SettlesTo (d.image disk) pages → ran.status ≢ status.DiskFault → SettlesTo (d.image ran.disk) pages
+    pub stays : (pages : PageList) → SettlesTo (d.image disk) pages → DidNotFail → SettlesTo (d.image ran.disk) pages
     pub moments : (pages : PageList) → SettlesTo (d.image disk) pages → LeavesOnly (λ x. SettlesTo x pages) (d.moments disk) (d.moments ran.disk)
     pub untouched : HasNoReplay (d.image disk) → StaysAsRead d disk ran.disk
 
@@ -154,9 +160,10 @@ module _ {D X : Type 0} (d : DiskGhosts D) (i : IndexGhosts X) (disk : D) (ran :
         × ((ran.status ≡ status.NoWarehouse) ⊎ ((ran.status ≡ status.DiskFault) ⊎ (ran.status ≡ status.NoMemory)))
     pub empty_only : ran.status ≡ status.NoWarehouse → IsTrue (d.tells disk) → is_empty (d.image disk) ≡ true
     pub refused : IsTrue (d.tells disk) → IsNoWarehouse i.DIMS (d.image disk) → Refuses d i.DIMS disk ran
+    pub bad_journal : (page : ℕ) → ran.status ≡ status.Damaged Journal page → IsTrue (d.tells disk) → IsBadAt (d.image disk) page
     pub only_read : IsTrue (d.tells disk) → IsOnlyRead
     -- The history is there at each moment.
-    pub holds : (params : Params) (h : History) → HoldsHistory d i true disk params h → ran.status ≢ status.DiskFault → HoldsHistory d i true ran.disk params h
+    pub holds : (params : Params) (h : History) → HoldsHistory d i true disk params h → DidNotFail → HoldsHistory d i true ran.disk params h
     pub moments : (params : Params) (h : History) → HoldsHistory d i true disk params h → LeavesOnly (λ x. Holds i x params h) (d.moments disk) (d.moments ran.disk)
 
 -- An export.
@@ -179,7 +186,6 @@ module _ {D K X : Type 0} (d : DiskGhosts D) (k : SinkGhosts K) (i : IndexGhosts
     -- Where it ends otherwise nothing is printed.
     pub silent : ran.status ≢ status.Fine → ran.status ≢ status.WriteFault → sink' ≡ sink
     pub reads : ReadsWarehouse d i disk ran
-    pub bad_journal : (page : ℕ) → ran.status ≡ status.Damaged Journal page → IsTrue (d.tells disk) → IsBadAt (d.image disk) page
     pub prints : (params : Params) (h : History) → HoldsHistory d i true disk params h → PrintsRows params h
 
 -- what is printed of a compaction, by the history that is kept
@@ -193,6 +199,11 @@ module _ {D E K X : Type 0} (d : DiskGhosts D) (e : DiskGhosts E) (k : SinkGhost
     -- The second disk holds the history from this version on, and a crash now leaves it.
     pub done : (ran.status ≡ status.Fine) ⊎ (ran.status ≡ status.WriteFault) → HoldsSurely e i params (kept h version) ran.second
     pub fine : ran.status ≡ status.Fine → IsTrue (k.tells sink) → IsTrue (k.tells sink') × (k.written sink' ≡ k.written sink ++ compacted_text (kept h version))
+    -- It has as many versions, and answers each query alike from this one on.
+    pub last : ran.status ≡ status.Fine → last_version (kept h version) ≡ last_version h
+    pub alike : (later : ℕ) (q : Query) → ran.status ≡ status.Fine → version ≤ later → later ≤ last_version h → answer params (kept h version) later q ≡ answer params h later q
+    -- A crash now leaves the first disk with its history.
+    pub first : (ran.status ≡ status.Fine) ⊎ (ran.status ≡ status.WriteFault) → HoldsSurely d i params h ran.disk
     pub part : IsTrue (k.tells sink) → IsTrue (k.tells sink') → WritesPart (k.written sink) (k.written sink') (compacted_text (kept h version))
     -- However it ends, it is empty or holds a first part of that, and a stop at any moment leaves no more than that.
     pub stays : ran.status ≢ status.DiskFault → IsTrue (e.tells ran.second) × IsEmptyOrHoldsPart i params (kept h version) (e.image ran.second)
@@ -210,8 +221,11 @@ module _ {D E K X : Type 0} (d : DiskGhosts D) (e : DiskGhosts E) (k : SinkGhost
         × ((ran.status ≡ status.NoVersion (last_version h)) ⊎ ((ran.status ≡ status.DiskFault) ⊎ (ran.status ≡ status.NoMemory)))
     pub no_version_only : (params : Params) (h : History) (last : ℕ) → HoldsHistory d i true disk params h → ran.status ≡ status.NoVersion last
         → (last ≡ last_version h) × (last < version)
-    -- What is on it stays.
-    pub there : IsTrue (e.tells second) → is_empty (e.image second) ≡ false → StaysAsRead e second ran.second
+    -- What is on it stays, and where the first one has the version, that is what is answered.
+    pub there : IsTrue (e.tells second) → is_empty (e.image second) ≡ false → StaysAsRead e second ran.second × (ran.status ≢ status.Fine)
+        × (ran.status ≢ status.WriteFault) × ((allotted : ℕ) → ran.status ≢ status.PageLimit allotted)
+    pub there_held : (params : Params) (h : History) → HoldsHistory d i true disk params h → version ≤ last_version h → IsTrue (e.tells second)
+        → is_empty (e.image second) ≡ false → (ran.status ≡ status.AlreadyThere) ⊎ ((ran.status ≡ status.DiskFault) ⊎ (ran.status ≡ status.NoMemory))
     pub there_only : ran.status ≡ status.AlreadyThere → IsTrue (e.tells second) → is_empty (e.image second) ≡ false
     pub makes : (params : Params) (h : History) → HoldsHistory d i true disk params h → version ≤ last_version h → IsTrue (e.tells second)
         → is_empty (e.image second) ≡ true → MakesKept params h version

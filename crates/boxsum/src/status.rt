@@ -35,7 +35,7 @@ pub enum Status {
     InputLimit { taken: u64 },
     /// As many pages are given out as the limit allows: this number.
     PageLimit { allotted: u64 },
-    /// The version is above the last one, which is this. Nothing was written.
+    /// The version is above the last one, which is this. The second disk was not called.
     NoVersion { last: u32 },
 }
 

@@ -15,13 +15,15 @@ use Rattle.page_warehouse.specs.Shown.{HoldsHistory, disk_in, meta_in, params_in
 use Rattle.redo_journal.specs.Settled.{SettlesTo}
 use Rattle.boxsum.specs.Compacting.{EndsAs, compacted_line}
 use Rattle.boxsum.specs.Ends.{ends_compact}
+use Rattle.boxsum.specs.Held.{LeavesEach}
 use Rattle.boxsum.specs.Ran.{Compacts, compacted_text}
 use Rattle.boxsum.specs.Statuses.{status_of_fault}
 use Rattle.boxsum.specs.declared.status.Status.TheVariants as status
-use Rattle.boxsum.proofs.Compacting.{damaged, done, failed, fails, full_there, limited, may_end, none_there, part_end, put_end, refused_may_end, silent_end, whole_end}
+use Rattle.boxsum.proofs.Compacting.{damaged, done, failed, fails, full_end, full_there, limited, may_end, no_journal, none_there, part_end, put_end, refused_may_end, silent_end, whole_end}
+use Rattle.boxsum.proofs.Exported.{journal_fault}
 use Rattle.boxsum.proofs.Endings.{fault_of, never_falls, no_fault, rises}
 use Rattle.boxsum.proofs.Nothing.{nothing_left, stays_read}
-use Rattle.boxsum.proofs.Opened.{for_queries, not_damaged, only_memory, opened, refused_status, refuses, writes_nothing}
+use Rattle.boxsum.proofs.Opened.{for_queries, not_damaged, only_memory, opened, refused_status, refuses, settled_holds, writes_nothing}
 use Rattle.boxsum.proofs.compaction.compact_on.Goals as goal
 
 pub returns-in-Err : goal.returns-in-Err
@@ -34,14 +36,15 @@ returns-in-Err g c = record {
       refused = λ told none.
           refuses g.D.Disk g.X.DomIndex.DIMS c.args.disk c.in-Err.refused.fault (record { status = c.from.result; disk = c.in-Err.refused.disk }) told c.from.ensures
           c.in-Err.ensures.refused.empty c.in-Err.ensures.refused.bad_journal c.in-Err.ensures.refused.damaged (c.in-Err.ensures.stands_on told) c.in-Err.ensures.refused.stands c.in-Err.ensures.refused.settled;
+      bad_journal = λ page so told. journal_fault _ _ c.in-Err.refused.fault c.from.result page c.from.ensures so c.in-Err.ensures.refused.bad_journal told;
       only_read = λ told. record {
-        stays = λ pages settles other. c.in-Err.ensures.refused.stands (λ so. other (c.from.ensures ∙ ap status_of_fault so)) told pages settles;
+        stays = λ pages settles other. c.in-Err.ensures.refused.stands (λ so. other (c.from.ensures ∙ ap status_of_fault so) (rises c.in-Err.refused.fault _ _ c.in-Err.ensures.writes.faults so)) told pages settles;
         moments = λ pages settles. c.in-Err.ensures.stands_on told pages settles;
         untouched = λ calm. let u = c.in-Err.ensures.untouched told calm in record { image = u.image; moments = u.moments };
       };
       holds = λ params h held other. (
         c.in-Err.ensures.writes.tells ∙ held.0,
-        c.in-Err.ensures.refused.kept (λ so. other (c.from.ensures ∙ ap status_of_fault so)) held.0 params h held.1,
+        c.in-Err.ensures.refused.kept (λ so. other (c.from.ensures ∙ ap status_of_fault so) (rises c.in-Err.refused.fault _ _ c.in-Err.ensures.writes.faults so)) held.0 params h held.1,
       );
       moments = λ params h held. c.in-Err.ensures.any_moment held.0 params h held.1;
     };
@@ -51,7 +54,15 @@ returns-in-Err g c = record {
           let known = for_queries g.D.Disk g.X.DomIndex c.holding_laws.ensures.queries true c.args.disk params h held in
           (refl, inr (refused_status g.D.Disk g.X.DomIndex c.in-Err.refused.fault c.from.result c.from.ensures (c.in-Err.ensures.refused.sound known.0 params h known.1)));
       no_version_only = λ params h last held so. absurd (no_fault c.in-Err.refused.fault c.from.result (status.NoVersion last) c.from.ensures so refl);
-      there = λ told full. stays_read g.E.Disk c.args.second;
+      there = λ told full. (
+        stays_read g.E.Disk c.args.second,
+        (λ so. no_fault c.in-Err.refused.fault c.from.result status.Fine c.from.ensures so refl),
+        (λ so. no_fault c.in-Err.refused.fault c.from.result status.WriteFault c.from.ensures so refl),
+        (λ allotted so. no_fault c.in-Err.refused.fault c.from.result (status.PageLimit allotted) c.from.ensures so refl),
+      );
+      there_held = λ params h held within told full.
+          let known = for_queries g.D.Disk g.X.DomIndex c.holding_laws.ensures.queries true c.args.disk params h held in
+          inr (refused_status g.D.Disk g.X.DomIndex c.in-Err.refused.fault c.from.result c.from.ensures (c.in-Err.ensures.refused.sound known.0 params h known.1));
       there_only = λ so. absurd (no_fault c.in-Err.refused.fault c.from.result status.AlreadyThere c.from.ensures so refl);
       makes = λ params h held within told none.
           let known = for_queries g.D.Disk g.X.DomIndex c.holding_laws.ensures.queries true c.args.disk params h held in
@@ -62,6 +73,12 @@ returns-in-Err g c = record {
               | inr so ↦ no_fault c.in-Err.refused.fault c.from.result status.WriteFault c.from.ensures so refl
             ]);
             fine = λ so. absurd (no_fault c.in-Err.refused.fault c.from.result status.Fine c.from.ensures so refl);
+            last = λ so. absurd (no_fault c.in-Err.refused.fault c.from.result status.Fine c.from.ensures so refl);
+            alike = λ later q so. absurd (no_fault c.in-Err.refused.fault c.from.result status.Fine c.from.ensures so refl);
+            first = λ why. absurd (elim why [
+              | inl so ↦ no_fault c.in-Err.refused.fault c.from.result status.Fine c.from.ensures so refl
+              | inr so ↦ no_fault c.in-Err.refused.fault c.from.result status.WriteFault c.from.ensures so refl
+            ]);
             part = λ before still. writes_nothing (g.K.Sink.written c.args.sink.now) (compacted_text (kept h c.args.version));
             stays = λ other. (told, inl none);
             moments = nothing_left _ (g.E.Disk.moments c.args.second);
@@ -102,6 +119,7 @@ returns g c =
               refused = λ told none.
                   let whole = c.in-Ok.ensures.opened.whole told in
                   absurd (none (params_in c.in-Ok.house) (meta_in c.in-Ok.house) whole.0 whole.1 c.in-Ok.ensures.opened.numbers.0 c.in-Ok.ensures.opened.numbers.1);
+              bad_journal = λ page so told. absurd (no_journal g.K.Sink c.last-last.result c.args.sink.now c.ended-status.new.sink r s page ends so);
               only_read = λ told. record {
                 stays = λ pages settles other. subst (λ (x : Image). SettlesTo x pages) (sym image) (c.in-Ok.ensures.opened.stands told pages settles);
                 moments = λ pages settles.
@@ -139,7 +157,20 @@ returns g c =
                   let found = none_there g.K.Sink c.last-last.result c.args.sink.now c.ended-status.new.sink r s last ends so in
                   let none = c.compact-compacted.ensures.no_version found.0 last found.1 in
                   (none.0 ∙ same, none.1);
-              there = λ told full. (c.compact-compacted.ensures.full.there told full).0;
+              there = λ told full.
+                  let stays = c.compact-compacted.ensures.full.there told full in (
+                    stays.0,
+                    (λ so. let whole = done g.K.Sink c.last-last.result c.args.sink.now c.ended-status.new.sink r s ends (inl so) in stays.1.0 (second_out r) whole.0 whole.1.0),
+                    (λ so. let whole = done g.K.Sink c.last-last.result c.args.sink.now c.ended-status.new.sink r s ends (inr so) in stays.1.0 (second_out r) whole.0 whole.1.0),
+                    (λ allotted so. stays.1.1.0 (second_out r) allotted (limited g.K.Sink c.last-last.result c.args.sink.now c.ended-status.new.sink r s allotted ends so)),
+                  );
+              there_held = λ params h held within told full.
+                  let o = opened g.D.Disk g.X.DomIndex true c.args.disk (disk_in c.in-Ok.house) (params_in c.in-Ok.house) params h c.in-Ok.ensures.opened.holds c.in-Ok.ensures.opened.holds_trees c.in-Ok.ensures.writes.tells held in
+                  let here = subst (λ (p : Params). HoldsHistory g.D.Disk g.X.DomIndex true (disk_in c.in-Ok.house) p h) (sym o.0) o.1 in
+                  let same : (meta_in c.in-Ok.house).version ≡ last_version h = sym c.last-last.ensures.value ∙ c.last-last.ensures.held true h here in
+                  let stays = c.compact-compacted.ensures.full.there told full in
+                  full_end g.K.Sink c.last-last.result c.args.sink.now c.ended-status.new.sink r s ends
+                  (λ e version is. let found = c.compact-compacted.ensures.no_version e version is in omega (arith, found.0, found.1, same, within)) stays.1.0 stays.1.1.0 stays.1.1.1.0 stays.1.1.1.1;
               there_only = λ so told.
                   let found = full_there g.K.Sink c.last-last.result c.args.sink.now c.ended-status.new.sink r s ends so in
                   c.compact-compacted.ensures.full.only found.0 found.1 told;
@@ -160,6 +191,13 @@ returns g c =
                         let whole = done g.K.Sink c.last-last.result c.args.sink.now c.ended-status.new.sink r s ends (inl fine) in
                         let wrote = whole.1.1.fine fine before in
                         (wrote.0, wrote.1 ∙ ap (λ (text : List ℕ). g.K.Sink.written c.args.sink.now ++ text) (line (second_out r) whole.0 whole.1.0));
+                    last = λ so. lawful.1;
+                    alike = λ later q so from to. (c.kept_laws.ensures.alike params h c.args.version later q o.1.1.lawful from to).1;
+                    first = λ why. record {
+                      holds = (tells ∙ o.1.0, subst (λ (x : Image). Holds g.X.DomIndex x params h) (sym image) o.1.1);
+                      left = subst (λ (ms : List Moment). LeavesEach (λ x. Holds g.X.DomIndex x params h) ms) (sym moments)
+                          (settled_holds g.X.DomIndex params h (g.D.Disk.moments (disk_in c.in-Ok.house)) (g.D.Disk.image (disk_in c.in-Ok.house)) c.in-Ok.ensures.opened.settled o.1.1);
+                    };
                     part = part_end g.K.Sink c.last-last.result c.args.sink.now c.ended-status.new.sink r s (compacted_text (kept h c.args.version)) ends line;
                     stays = λ other. left.now (λ e is. other (fails g.K.Sink c.last-last.result c.args.sink.now c.ended-status.new.sink r s e ends is));
                     moments = left.moments;

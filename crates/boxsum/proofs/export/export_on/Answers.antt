@@ -12,7 +12,7 @@ use Rattle.row_machine.specs.Runs.{WritesPart}
 use Rattle.boxsum.specs.Held.{LeavesEach}
 use Rattle.boxsum.specs.Statuses.{status_of_fault}
 use Rattle.boxsum.specs.declared.status.Status.TheVariants as status
-use Rattle.boxsum.proofs.Endings.{no_fault}
+use Rattle.boxsum.proofs.Endings.{no_fault, rises}
 use Rattle.boxsum.proofs.Exported.{exports_whole, journal_fault}
 use Rattle.boxsum.proofs.Opened.{for_queries, not_damaged, only_memory, opened, refused_status, refuses, settled_holds, writes_nothing}
 use Rattle.boxsum.proofs.export.export_on.Goals as goal
@@ -26,18 +26,18 @@ returns-in-Err-clause-exports g c = record {
     refused = λ told none.
         refuses g.D.Disk g.X.DomIndex.DIMS c.args.disk c.in-Err.refused.fault (record { status = c.from.result; disk = c.in-Err.refused.disk }) told c.from.ensures
         c.in-Err.ensures.refused.empty c.in-Err.ensures.refused.bad_journal c.in-Err.ensures.refused.damaged (c.in-Err.ensures.stands_on told) c.in-Err.ensures.refused.stands c.in-Err.ensures.refused.settled;
+    bad_journal = λ page so told. journal_fault _ _ c.in-Err.refused.fault c.from.result page c.from.ensures so c.in-Err.ensures.refused.bad_journal told;
     only_read = λ told. record {
-      stays = λ pages settles other. c.in-Err.ensures.refused.stands (λ so. other (c.from.ensures ∙ ap status_of_fault so)) told pages settles;
+      stays = λ pages settles other. c.in-Err.ensures.refused.stands (λ so. other (c.from.ensures ∙ ap status_of_fault so) (rises c.in-Err.refused.fault _ _ c.in-Err.ensures.writes.faults so)) told pages settles;
       moments = λ pages settles. c.in-Err.ensures.stands_on told pages settles;
       untouched = λ calm. let u = c.in-Err.ensures.untouched told calm in record { image = u.image; moments = u.moments };
     };
     holds = λ params h held other. (
       c.in-Err.ensures.writes.tells ∙ held.0,
-      c.in-Err.ensures.refused.kept (λ so. other (c.from.ensures ∙ ap status_of_fault so)) held.0 params h held.1,
+      c.in-Err.ensures.refused.kept (λ so. other (c.from.ensures ∙ ap status_of_fault so) (rises c.in-Err.refused.fault _ _ c.in-Err.ensures.writes.faults so)) held.0 params h held.1,
     );
     moments = λ params h held. c.in-Err.ensures.any_moment held.0 params h held.1;
   };
-  bad_journal = λ page so told. journal_fault _ _ c.in-Err.refused.fault c.from.result page c.from.ensures so c.in-Err.ensures.refused.bad_journal told;
   prints = λ params h held.
       let known = for_queries g.D.Disk g.X.DomIndex c.holding_laws.ensures.queries true c.args.disk params h held in
       let stopped = refused_status g.D.Disk g.X.DomIndex c.in-Err.refused.fault c.from.result c.from.ensures (c.in-Err.ensures.refused.sound known.0 params h known.1) in
@@ -66,6 +66,7 @@ returns-clause-exports g c =
         refused = λ told none.
             let whole = c.in-Ok.ensures.opened.whole told in
             absurd (none (params_in c.in-Ok.house) (meta_in c.in-Ok.house) whole.0 whole.1 c.in-Ok.ensures.opened.numbers.0 c.in-Ok.ensures.opened.numbers.1);
+        bad_journal = λ page so told. absurd (c.put_rows-status.ensures.pages page so);
         only_read = λ told. record {
           stays = λ pages settles other. subst (λ (x : Image). SettlesTo x pages) (sym image) (c.in-Ok.ensures.opened.stands told pages settles);
           moments = λ pages settles.
@@ -81,7 +82,6 @@ returns-clause-exports g c =
         moments = λ params h held.
             subst (λ (ms : List Moment). LeavesOnly (λ x. Holds g.X.DomIndex x params h) (g.D.Disk.moments c.args.disk) ms) (sym moments) (c.in-Ok.ensures.any_moment held.0 params h held.1);
       };
-      bad_journal = λ page so told. absurd (c.put_rows-status.ensures.pages page so);
       prints = λ params h held.
           let o = opened g.D.Disk g.X.DomIndex true c.args.disk (disk_in c.in-Ok.house) (params_in c.in-Ok.house) params h c.in-Ok.ensures.opened.holds c.in-Ok.ensures.opened.holds_trees c.in-Ok.ensures.writes.tells held in
           let here = subst (λ (p : Params). HoldsHistory g.D.Disk g.X.DomIndex true (disk_in c.in-Ok.house) p h) (sym o.0) o.1 in
