@@ -1,5 +1,5 @@
 -- Where there is no memory to read the words, nothing is called, whatever they ask for.
-use Rattle.std.proofs.Common.{◌≡◌, ℕ, ◌≤◌, Option, Some, None, IsTrue, inl, inr, refl, subst, arith}
+use Rattle.std.proofs.Common.{◌≡◌, ℕ, Option, Some, None, IsTrue, inl, inr, refl, subst, arith}
 use Rattle.byte_ports.specs.declared.Source.{Ghosts as SourceGhosts}
 use Rattle.byte_ports.specs.declared.Sink.{Ghosts as SinkGhosts}
 use Rattle.command_words.specs.declared.command.Command.{Command}
@@ -73,6 +73,7 @@ nothing_compacted d e k i disk second sink version = record {
       stays = λ other. (told, inl none);
       moments = nothing_left _ (e.moments second);
       limit = λ allotted so. cc;
+      enough_pages = λ allotted few so. cc;
       undamaged = λ area page so. cc;
       complete = λ calm other limit. inr refl;
     };

@@ -1,17 +1,12 @@
 -- How a compaction ends, told from its status, and what is left then.
-use Rattle.std.proofs.Common.{◌≡◌, ◌≢◌, ◌⊎◌, ℕ, ◌<◌, ◌≤◌, Bool, true, false, IsTrue, List, [], ◌++◌, length, inl, inr, refl, sym, ◌∙◌, ap, subst, arith}
+use Rattle.std.proofs.Common.{◌≡◌, ◌≢◌, ◌⊎◌, ℕ, IsTrue, List, inl, inr, refl, sym, ◌∙◌, subst}
 use Rattle.counts.specs.Count.{Rose}
-use Rattle.bw_types.specs.History.{History, changes, last_version}
-use Rattle.bw_types.specs.declared.params.Params.{Params}
 use Rattle.byte_ports.specs.declared.Sink.{Ghosts as SinkGhosts}
-use Rattle.compact_store.specs.Compacted.{LeavesPart, StaysWhereFull, second_out}
+use Rattle.compact_store.specs.Compacted.{second_out}
 use Rattle.compact_store.specs.declared.compacting.Compacted.{Compacted}
 use Rattle.compact_store.specs.declared.compacting.Compacted.TheVariants as made
-use Rattle.dom_index.specs.declared.index.DomIndex.{Ghosts as IndexGhosts}
 use Rattle.page_disk.specs.declared.disk.Area.{Area}
 use Rattle.page_disk.specs.declared.disk.Area.TheVariants.{Pages, Journal}
-use Rattle.page_disk.specs.declared.disk.Disk.{Ghosts as DiskGhosts}
-use Rattle.redo_journal.specs.Gates.{is_empty}
 use Rattle.row_machine.specs.Runs.{WritesPart}
 use Rattle.boxsum.specs.Compacting.{EndsAs, PutsCompacted, compacted_line}
 use Rattle.boxsum.specs.Ends.{ends_compact}
@@ -19,7 +14,7 @@ use Rattle.boxsum.specs.Statuses.{status_of_fault}
 use Rattle.page_space.specs.declared.refusal.OpenFault.{OpenFault}
 use Rattle.page_space.specs.declared.refusal.OpenFault.TheVariants as fault
 use Rattle.boxsum.specs.declared.status.Status.{Status}
-use Rattle.boxsum.specs.declared.status.Status.TheVariants.{Fine, Usage, NoWarehouse, AlreadyThere, ReadFault, WriteFault, DiskFault, NoMemory, Damaged, InputLimit, PageLimit, NoVersion}
+use Rattle.boxsum.specs.declared.status.Status.TheVariants.{Fine, AlreadyThere, WriteFault, DiskFault, NoMemory, Damaged, PageLimit, NoVersion}
 use Rattle.boxsum.proofs.Opened.{writes_nothing}
 
 -- the line is put with one of three statuses

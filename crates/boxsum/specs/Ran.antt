@@ -29,7 +29,7 @@ use Rattle.page_warehouse.specs.Costs.{query_cost}
 use Rattle.page_warehouse.specs.Holds.{Holds}
 use Rattle.page_warehouse.specs.Needs.{batch_need, pages_charge}
 use Rattle.page_warehouse.specs.Shown.{HoldsHistory}
-use Rattle.compact_store.specs.Compacted.{IsEmptyOrHoldsPart, LacksNext}
+use Rattle.compact_store.specs.Compacted.{IsEmptyOrHoldsPart, LacksNext, batches_need}
 use Rattle.compact_store.specs.Kept.{kept}
 use Rattle.history_text.specs.Rebuilt.{Rebuilds}
 use Rattle.history_text.specs.Rows.{rows_of}
@@ -209,6 +209,7 @@ module _ {D E K X : Type 0} (d : DiskGhosts D) (e : DiskGhosts E) (k : SinkGhost
     pub stays : ran.status ≢ status.DiskFault → IsTrue (e.tells ran.second) × IsEmptyOrHoldsPart i params (kept h version) (e.image ran.second)
     pub moments : LeavesOnly (IsEmptyOrHoldsPart i params (kept h version)) (e.moments second) (e.moments ran.second)
     pub limit : (allotted : ℕ) → ran.status ≡ status.PageLimit allotted → (allotted ≡ params.pages) × LacksNext i params (kept h version) (e.image ran.second)
+    pub enough_pages : (allotted : ℕ) → 3 + batches_need params [] (kept h version) ≤ params.pages → ran.status ≢ status.PageLimit allotted
     pub undamaged : (area : Area) (page : ℕ) → ran.status ≢ status.Damaged area page
     pub complete : (Rose (k.faults sink) (k.faults sink') → ⊥) → ran.status ≢ status.DiskFault → ((allotted : ℕ) → ran.status ≢ status.PageLimit allotted)
         → (ran.status ≡ status.Fine) ⊎ (ran.status ≡ status.NoMemory)

@@ -24,14 +24,15 @@ use Rattle.page_warehouse.specs.Created.{IsEmptyOrNew, IsNew}
 use Rattle.page_warehouse.specs.Holds.{Holds}
 use Rattle.page_warehouse.specs.Laws.{HoldsForQueries, NewHoldsNothing}
 use Rattle.page_warehouse.specs.Opened.{IsOpenedFrom, IsRefusedFor, opened_disk}
-use Rattle.page_warehouse.specs.Shown.{disk_in}
+use Rattle.page_warehouse.specs.Shown.{disk_charge, disk_in}
 use Rattle.page_warehouse.specs.declared.state.Warehouse.{Warehouse}
 use Rattle.redo_journal.specs.Gates.{is_empty}
 use Rattle.compact_store.specs.Compacted.{IsEmptyOrHoldsPart, LeavesPart, StaysWhereFull, second_out}
 use Rattle.compact_store.specs.Ended.{ended_of, refusal_of}
-use Rattle.compact_store.specs.Putting.{GoesTo, Puts, StandsBefore, is_written}
+use Rattle.compact_store.specs.Putting.{CountsItsPages, GoesTo, Puts, StandsBefore, is_written}
 use Rattle.compact_store.specs.declared.compacting.Compacted.{Compacted}
 use Rattle.compact_store.specs.declared.compacting.Compacted.TheVariants.{Done, NoVersion, AlreadyThere, Disk}
+use Rattle.compact_store.proofs.NewCharge.{new_charge}
 use Rattle.compact_store.proofs.Steps.{failed_leaves, memory_leaves, went_on}
 
 -- one stretch of calls after the other
@@ -109,8 +110,8 @@ module _ {E X : Type 0} (g : Ghosts E) (i : IndexGhosts X) where
   -- a disk that was opened stands where it stood
   opened_before : (params : Params) (whole later : History) (start second new : E) → (b : StandsBefore g i params whole later start second) → g.tells new ≡ g.tells second
       → Holds i (g.image new) params b.part → LeavesNow (g.moments new) (g.image new) → LeavesOnly (λ x. Holds i x params b.part) (g.moments second) (g.moments new)
-      → StandsBefore g i params whole later start new
-  opened_before params whole later start second new b tells holds settled moments = record {
+      → disk_charge g new ≤ disk_charge g second → StandsBefore g i params whole later start new
+  opened_before params whole later start second new b tells holds settled moments charge = record {
     part = b.part;
     cut = b.cut;
     lawful = b.lawful;
@@ -119,6 +120,7 @@ module _ {E X : Type 0} (g : Ghosts E) (i : IndexGhosts X) where
     left = λ x left. subst (λ (y : Image). Holds i y params b.part) (sym (settled x left)) holds;
     moments = then_only (λ x. Holds i x params b.part) (IsEmptyOrHoldsPart i params whole) (g.moments start) (g.moments second) (g.moments new)
         (λ x held. inr (record { part = b.part; later = later; cut = b.cut; holds = held })) b.moments moments;
+    charge = omega (arith, charge, b.charge);
   }
 
   new_part : NewHoldsNothing i → (params : Params) (whole : History) → IsInRange params → params.dims ≤ i.DIMS → (x : Image) → IsEmptyOrNew params x → IsEmptyOrHoldsPart i params whole x
@@ -140,6 +142,7 @@ module _ {E X : Type 0} (g : Ghosts E) (i : IndexGhosts X) where
         holds = holds;
         left = λ x left. subst (λ (y : Image). Holds i y params []) (sym (settled x left)) holds;
         moments = wider (IsEmptyOrNew params) (IsEmptyOrHoldsPart i params whole) (g.moments disk) (g.moments new) (new_part law params whole range dims) moments;
+        charge = omega (arith, new_charge params range (g.image new) is);
       }
 
   -- and where it failed on the way, the moments tell
@@ -178,17 +181,27 @@ module _ {E X : Type 0} (g : Ghosts E) (i : IndexGhosts X) where
               (λ x held. inr (record { part = b.part; later = whole; cut = b.cut; holds = held })) b.moments (moments_on (Err refused) is)))
           | inr memory ↦
               let other : refused.fault ≢ open_fault.Disk = λ e. (let no : open_fault.NoMemory ≡ open_fault.Disk = sym memory ∙ e in cc) in
-              let at = opened_before params whole whole start second refused.disk b (tells_on (Err refused) is) (told.kept other b.tells params b.part b.holds) (told.settled other b.tells) (moments_on (Err refused) is) in
               subst (λ (f : OpenFault). LeavesPart g i params whole start (refusal_of f refused.disk)) (sym memory)
-              (memory_leaves g i params whole whole start refused.disk refused.disk at refl refl refl)
+              (record {
+                now = λ failed. (
+                  subst IsTrue (sym (tells_on (Err refused) is)) b.tells,
+                  inr (record { part = b.part; later = whole; cut = b.cut; holds = told.kept other b.tells params b.part b.holds }),
+                );
+                moments = then_only (λ x. Holds i x params b.part) (IsEmptyOrHoldsPart i params whole) (g.moments start) (g.moments second) (g.moments refused.disk)
+                    (λ x held. inr (record { part = b.part; later = whole; cut = b.cut; holds = held })) b.moments (moments_on (Err refused) is);
+                done = λ e rows ended. absurd (cc);
+                limit = λ e allotted ended. absurd (cc);
+                enough_pages = λ e allotted few ended. absurd (cc);
+                sound = λ e page ended. absurd (cc);
+              })
         ]
 
     -- all batches are put on the warehouse that was opened
-    pub all_put : (batches : History) (house : Warehouse E X g i) (result : Result (Warehouse E X g i) (Compacted E)) → opening ≡ Ok house → IsOpenedFrom g i second house
+    pub all_put : CountsItsPages g i second → (batches : History) (house : Warehouse E X g i) (result : Result (Warehouse E X g i) (Compacted E)) → opening ≡ Ok house → IsOpenedFrom g i second house
         → Puts g i batches house result → whole ≡ batches → GoesTo g i params whole [] start result
-    all_put batches house result is opened puts cut =
+    all_put counts batches house result is opened puts cut =
         let held = opened.holds params b.part b.tells b.holds in
-        let at = opened_before params whole whole start second (disk_in house) b (tells_on (Ok house) is) held.1 opened.settled (moments_on (Ok house) is) in
+        let at = opened_before params whole whole start second (disk_in house) b (tells_on (Ok house) is) held.1 opened.settled (moments_on (Ok house) is) (counts (g.image (disk_in house)).pages (opened.settles b.tells)) in
         puts.goes params whole [] start held.0 (subst (λ (k : History). StandsBefore g i params whole k start (disk_in house)) (cut ∙ sym (append-nil batches)) at)
 
   -- the whole is there
@@ -206,6 +219,7 @@ module _ {E X : Type 0} (g : Ghosts E) (i : IndexGhosts X) where
                   (subst (λ (h : History). Holds i (g.image disk) params h) same b.holds, λ x left. subst (λ (h : History). Holds i x params h) same (b.left x left)),
             );
         limit = λ e allotted is. absurd (cc);
+        enough_pages = λ e allotted few is. absurd (cc);
         sound = λ e page is. absurd (cc);
       }
 

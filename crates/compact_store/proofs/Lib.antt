@@ -8,3 +8,4 @@ pub mod Steps
 pub mod Cutting
 pub mod Filled
 pub mod LiveAdds
+pub mod NewCharge

@@ -26,7 +26,7 @@ use Rattle.warehouse.specs.Crashes.{OnlyLeaves}
 use Rattle.warehouse.specs.Left.{CrashLeavesEither, DeviceGoesOn, IsAsBefore, IsPutLast}
 use Rattle.warehouse.specs.declared.committed.Committed.{Committed}
 use Rattle.warehouse.specs.declared.committed.Committed.TheVariants as committed
-use Rattle.compact_store.specs.Compacted.{HoldsPart, IsEmptyOrHoldsPart, LacksNext, LeavesPart, second_out}
+use Rattle.compact_store.specs.Compacted.{HoldsPart, IsEmptyOrHoldsPart, LacksNext, LeavesPart, batches_need, second_out}
 use Rattle.compact_store.specs.Putting.{GoesTo, Puts, StandsBefore, outcome_of}
 use Rattle.compact_store.specs.declared.compacting.Compacted.{Compacted}
 use Rattle.compact_store.specs.declared.compacting.Compacted.TheVariants.{Done, PageLimit, Damaged, NoMemory, Disk}
@@ -53,13 +53,15 @@ module _ {E X : Type 0} (g : Ghosts E) (i : IndexGhosts X) where
   pub ended_leaves : (params : Params) (whole later : History) (start disk : E) (result : Compacted E) → StandsBefore g i params whole later start disk
       → g.tells (second_out result) ≡ g.tells disk → g.image (second_out result) ≡ g.image disk → g.moments (second_out result) ≡ g.moments disk
       → ((e : E) (rows : ℕ) → result ≢ Done e rows) → ((e : E) (allotted : ℕ) → result ≡ PageLimit e allotted → (allotted ≡ params.pages) × LacksNext i params whole (g.image e))
+      → ((e : E) (allotted : ℕ) → 3 + batches_need params [] whole ≤ params.pages → result ≢ PageLimit e allotted)
       → ((e : E) (page : ℕ) → result ≢ Damaged e page) → LeavesPart g i params whole start result
-  ended_leaves params whole later start disk result b tells image moments not_done limit sound = record {
+  ended_leaves params whole later start disk result b tells image moments not_done limit enough sound = record {
     now = λ other.
         (subst IsTrue (sym tells) b.tells, inr (subst (λ (x : Image). HoldsPart i params whole x) (sym image) (record { part = b.part; later = later; cut = b.cut; holds = b.holds })));
     moments = subst (λ (ms : List Moment). LeavesOnly (IsEmptyOrHoldsPart i params whole) (g.moments start) ms) (sym moments) b.moments;
     done = λ e rows is. absurd (not_done e rows is);
     limit = limit;
+    enough_pages = enough;
     sound = sound;
   }
 
@@ -70,6 +72,7 @@ module _ {E X : Type 0} (g : Ghosts E) (i : IndexGhosts X) where
     moments = moments;
     done = λ e rows is. absurd (cc);
     limit = λ e allotted is. absurd (cc);
+    enough_pages = λ e allotted few is. absurd (cc);
     sound = λ e page is. absurd (cc);
   }
 
@@ -77,7 +80,7 @@ module _ {E X : Type 0} (g : Ghosts E) (i : IndexGhosts X) where
   pub memory_leaves : (params : Params) (whole later : History) (start disk end : E) → StandsBefore g i params whole later start disk
       → g.tells end ≡ g.tells disk → g.image end ≡ g.image disk → g.moments end ≡ g.moments disk → LeavesPart g i params whole start (NoMemory end)
   memory_leaves params whole later start disk end b tells image moments =
-      ended_leaves params whole later start disk (NoMemory end) b tells image moments (λ e rows is. absurd (cc)) (λ e allotted is. absurd (cc)) (λ e page is. absurd (cc))
+      ended_leaves params whole later start disk (NoMemory end) b tells image moments (λ e rows is. absurd (cc)) (λ e allotted is. absurd (cc)) (λ e allotted few is. absurd (cc)) (λ e page is. absurd (cc))
 
   -- the next batch is lawful on those that are there
   next_is : (params : Params) (whole later : History) (batch : List Change) (start disk : E) → (b : StandsBefore g i params whole (batch ∷ later) start disk) → IsLawfulBatch params b.part batch
@@ -148,6 +151,9 @@ module _ {E X : Type 0} (g : Ghosts E) (i : IndexGhosts X) where
               holds = subst (λ (cs : List Change). Holds i (g.image (disk_in new)) (params_in house) (b.part ++ cs ∷ [])) flat_is put.stands.1;
               left = λ x left. subst (λ (cs : List Change). Holds i x (params_in house) (b.part ++ cs ∷ [])) flat_is (put.settled x left);
               moments = moments_after whole later start (disk_in new) b (crash b.part (b.tells, b.holds));
+              charge =
+                  let need : batch_need (params_in house) b.part rows ≡ batch_need (params_in house) b.part (staged_rows batch) = ap (batch_need (params_in house) b.part) is in
+                  omega (arith, put.charge, need, b.charge);
             },
           )) same;
     }
@@ -182,6 +188,11 @@ module _ {E X : Type 0} (g : Ghosts E) (i : IndexGhosts X) where
               lacks = subst (λ (rs : List Row). LacksPages (g.image (disk_in new)) (params_in house) b.part rs) is lacks;
             }),
           ))
+          (λ e n few ended.
+          let over = (limit.1 b.part (b.tells, b.holds)).1 in
+          let need : batch_need (params_in house) b.part rows ≡ batch_need (params_in house) b.part (staged_rows batch) = ap (batch_need (params_in house) b.part) is in
+          let same_charge : disk_charge g (disk_in new) ≡ disk_charge g (disk_in house) = kept.charge in
+          omega (arith, over, need, same_charge, b.charge, few))
           (λ e page ended. absurd (cc))) same;
     }
     commit_puts (committed.NoMemory new) cause done renewed kept crash limit device = record {

@@ -1,5 +1,5 @@
 -- What a compaction leaves on the second disk.
-use Rattle.std.specs.Prelude.{◌≡◌, ◌≢◌, ◌⊎◌, ℕ, true, false, IsTrue, List, ◌∷◌, ◌++◌, length}
+use Rattle.std.specs.Prelude.{◌≡◌, ◌≢◌, ◌⊎◌, ℕ, ◌+◌, ◌≤◌, true, false, IsTrue, List, [], ◌∷◌, ◌++◌, length}
 use Rattle.bw_types.specs.History.{History, changes}
 use Rattle.bw_types.specs.Lawful.{staged_rows}
 use Rattle.bw_types.specs.declared.change.Change.{Change}
@@ -11,7 +11,7 @@ use Rattle.page_disk.specs.Since.{LeavesOnly}
 use Rattle.page_disk.specs.declared.disk.Disk.{Ghosts}
 use Rattle.page_space.specs.Opened.{StaysAsRead}
 use Rattle.page_warehouse.specs.Holds.{Holds}
-use Rattle.page_warehouse.specs.Needs.{LacksPages}
+use Rattle.page_warehouse.specs.Needs.{LacksPages, batch_need}
 use Rattle.redo_journal.specs.Gates.{is_empty}
 use Rattle.compact_store.specs.declared.compacting.Compacted.{Compacted}
 use Rattle.compact_store.specs.declared.compacting.Compacted.TheVariants.{Done, NoVersion, AlreadyThere, PageLimit, Damaged, NoMemory, Disk}
@@ -25,6 +25,11 @@ second_out (PageLimit second allotted) = second
 second_out (Damaged second page) = second
 second_out (NoMemory second) = second
 second_out (Disk second) = second
+
+-- the most pages that the commits of these batches take together, one after the other, behind this history
+abbrev pub batches_need : Params → History → History → ℕ
+batches_need params before [] = 0
+batches_need params before (batch ∷ batches) = batch_need params before (staged_rows batch) + batches_need params (before ++ batch ∷ []) batches
 
 module _ {X : Type 0} (i : IndexGhosts X) where
   -- The image holds a first part of this history.
@@ -57,6 +62,8 @@ module _ {E X : Type 0} (g : Ghosts E) (i : IndexGhosts X) where
     pub done : (e : E) (rows : ℕ) → result ≡ Done e rows
         → (rows ≡ length (changes whole)) × (Holds i (g.image e) params whole × ((x : Image) → MayBeLeftNow (g.moments e) x → Holds i x params whole))
     pub limit : (e : E) (allotted : ℕ) → result ≡ PageLimit e allotted → (allotted ≡ params.pages) × LacksNext i params whole (g.image e)
+    -- Pages are enough where the needs of all commits together fit.
+    pub enough_pages : (e : E) (allotted : ℕ) → 3 + batches_need params [] whole ≤ params.pages → result ≢ PageLimit e allotted
     pub sound : (e : E) (page : ℕ) → result ≢ Damaged e page
 
 module _ {E : Type 0} (g : Ghosts E) where

@@ -1,5 +1,5 @@
 -- What calls that put batches on a second disk leave.
-use Rattle.std.specs.Prelude.{◌≡◌, ◌≤◌, Bool, true, false, IsTrue, ◌++◌, Result, Ok, Err}
+use Rattle.std.specs.Prelude.{◌≡◌, ◌≤◌, ◌+◌, Bool, true, false, IsTrue, [], ◌++◌, Result, Ok, Err}
 use Rattle.bw_types.specs.History.{History}
 use Rattle.bw_types.specs.Lawful.{IsLawful}
 use Rattle.bw_types.specs.declared.params.Params.{Params}
@@ -10,11 +10,14 @@ use Rattle.page_disk.specs.Moment.{MayBeLeftNow}
 use Rattle.page_disk.specs.Since.{LeavesOnly}
 use Rattle.page_disk.specs.declared.disk.Disk.{Ghosts}
 use Rattle.page_warehouse.specs.Holds.{Holds}
-use Rattle.page_warehouse.specs.Shown.{disk_in, params_in}
+use Rattle.page_warehouse.specs.Needs.{pages_charge}
+use Rattle.page_disk.specs.Image.{PageList}
+use Rattle.redo_journal.specs.Settled.{SettlesTo}
+use Rattle.page_warehouse.specs.Shown.{disk_charge, disk_in, params_in}
 use Rattle.page_warehouse.specs.declared.state.Warehouse.{Warehouse}
 use Rattle.warehouse.specs.declared.committed.Committed.{Committed}
 use Rattle.warehouse.specs.declared.committed.Committed.TheVariants as committed
-use Rattle.compact_store.specs.Compacted.{IsEmptyOrHoldsPart, LeavesPart, second_out}
+use Rattle.compact_store.specs.Compacted.{IsEmptyOrHoldsPart, LeavesPart, batches_need, second_out}
 use Rattle.compact_store.specs.declared.compacting.Compacted.{Compacted}
 use Rattle.compact_store.specs.declared.compacting.Compacted.TheVariants.{Done, NoVersion, AlreadyThere, PageLimit, Damaged, NoMemory, Disk}
 
@@ -48,6 +51,12 @@ module _ {E X : Type 0} (g : Ghosts E) (i : IndexGhosts X) where
     pub holds : Holds i (g.image disk) params part
     pub left : (x : Image) → MayBeLeftNow (g.moments disk) x → Holds i x params part
     pub moments : LeavesOnly (IsEmptyOrHoldsPart i params whole) (g.moments start) (g.moments disk)
+    -- The pages that count against the limit are no more than the batches so far need.
+    pub charge : disk_charge g disk + batches_need params part later ≤ 3 + batches_need params [] whole
+
+  -- Whatever pages the disk stands for, no more of them count against the limit than of its own.
+  abbrev pub CountsItsPages : E → Type 0
+  CountsItsPages disk = (pages : PageList) → SettlesTo (g.image disk) pages → pages_charge pages ≤ disk_charge g disk
 
   -- the second disk when the call is done
   abbrev pub disk_after : Result (Warehouse E X g i) (Compacted E) → E

@@ -9,7 +9,7 @@ ghost use Rattle.warehouse.specs.Left.{IsAsBefore};
 ghost use Rattle.compact_store.specs.Compacted.{LeavesPart, StaysWhereFull, second_out};
 ghost use Rattle.compact_store.specs.Ended.{ended_of};
 ghost use Rattle.compact_store.specs.Kept.{kept};
-ghost use Rattle.compact_store.specs.Putting.{StandsBefore, is_written};
+ghost use Rattle.compact_store.specs.Putting.{CountsItsPages, StandsBefore, is_written};
 
 use crate::filling::fill;
 use crate::keeping::{events_after, gather_kept};
@@ -87,7 +87,7 @@ fn compact_to<D: Disk, X: DomIndex + Drop, E: Disk + Drop>(
     requires versions { version ≤ last }
     ensures leaves { (h : History) (start : E) → HoldsHistory D.Disk X.DomIndex true (disk_in house.old) (params_in house.old) h → last ≡ last_version h
         → StandsBefore E.Disk X.DomIndex (params_in house.old) (kept h version) (kept h version) start second
-        → LeavesPart E.Disk X.DomIndex (params_in house.old) (kept h version) start result }
+        → CountsItsPages E.Disk X.DomIndex second → LeavesPart E.Disk X.DomIndex (params_in house.old) (kept h version) start result }
     ensures written { IsTrue (is_written result) }
     ensures disk { (e : E) → result ≡ Compacted.Disk e → Rose (D.faults (disk_in house.old)) (D.faults (disk_in house.new)) ⊎ Rose (E.faults second) (E.faults e) }
     ensures kept { IsAsBefore params_in disk_in (HoldsHistory D.Disk X.DomIndex) (HasNewForm D.Disk) D.tells D.image D.moments (disk_charge D.Disk) house.old house.new }

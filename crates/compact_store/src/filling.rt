@@ -7,7 +7,7 @@ ghost use Rattle.counts.specs.Count.{Rose};
 ghost use Rattle.compact_store.specs.Compacted.{LeavesPart, second_out};
 ghost use Rattle.compact_store.specs.Cuts.{batches_by_size, batches_from};
 ghost use Rattle.compact_store.specs.Ended.{refusal_of};
-ghost use Rattle.compact_store.specs.Putting.{Puts, StandsBefore, is_written};
+ghost use Rattle.compact_store.specs.Putting.{CountsItsPages, Puts, StandsBefore, is_written};
 
 use crate::Compacted;
 use crate::keeping::row_count;
@@ -31,7 +31,7 @@ pub(crate) fn fill<E: Disk + Drop, X: DomIndex + Drop>(
 ) -> Compacted<E>
     requires { version ≤ last }
     ensures leaves { (params : Params) (whole : History) (start : E) → IsInRange params → StandsBefore E.Disk X.DomIndex params whole whole start second
-        → whole ≡ batches_by_size version adds.now ++ batches_from (version + 1) (last - version) later.now
+        → CountsItsPages E.Disk X.DomIndex second → whole ≡ batches_by_size version adds.now ++ batches_from (version + 1) (last - version) later.now
         → length adds.now + length later.now ≡ length (changes whole) → LeavesPart E.Disk X.DomIndex params whole start result }
     ensures written { IsTrue (is_written result) }
     ensures disk { (e : E) → result ≡ Compacted.Disk e → Rose (E.faults second) (E.faults e) }

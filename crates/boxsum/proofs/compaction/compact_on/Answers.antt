@@ -1,8 +1,8 @@
-use Rattle.std.proofs.Common.{rules, ◌≡◌, ◌⊎◌, ℕ, ◌<◌, ◌≤◌, List, true, false, ◌++◌, length, refl, sym, ◌∙◌, ap, ap₂, subst, inl, inr, arith}
+use Rattle.std.proofs.Common.{rules, ◌≡◌, ℕ, List, true, false, ◌++◌, refl, sym, ◌∙◌, ap, ap₂, subst, inl, inr, arith}
 use Rattle.counts.specs.Count.{Rose}
-use Rattle.bw_types.specs.History.{History, changes, last_version}
+use Rattle.bw_types.specs.History.{last_version}
 use Rattle.bw_types.specs.declared.params.Params.{Params}
-use Rattle.compact_store.specs.Compacted.{IsEmptyOrHoldsPart, LeavesPart, second_out}
+use Rattle.compact_store.specs.Compacted.{LeavesPart, second_out}
 use Rattle.compact_store.specs.Kept.{kept}
 use Rattle.compact_store.specs.declared.compacting.Compacted.{Compacted as CompactedName}
 use Rattle.compact_store.specs.declared.compacting.Compacted.TheVariants as made
@@ -14,7 +14,6 @@ use Rattle.page_warehouse.specs.Holds.{Holds}
 use Rattle.page_warehouse.specs.Shown.{HoldsHistory, disk_in, meta_in, params_in}
 use Rattle.redo_journal.specs.Settled.{SettlesTo}
 use Rattle.boxsum.specs.Compacting.{EndsAs, compacted_line}
-use Rattle.boxsum.specs.Ends.{ends_compact}
 use Rattle.boxsum.specs.Held.{LeavesEach}
 use Rattle.boxsum.specs.Ran.{Compacts, compacted_text}
 use Rattle.boxsum.specs.Statuses.{status_of_fault}
@@ -83,6 +82,7 @@ returns-in-Err g c = record {
             stays = λ other. (told, inl none);
             moments = nothing_left _ (g.E.Disk.moments c.args.second);
             limit = λ allotted so. absurd (no_fault c.in-Err.refused.fault c.from.result (status.PageLimit allotted) c.from.ensures so refl);
+            enough_pages = λ allotted few so. absurd (no_fault c.in-Err.refused.fault c.from.result (status.PageLimit allotted) c.from.ensures so refl);
             undamaged = λ area page. not_damaged c.from.result area page stopped;
             complete = λ calm other limit. only_memory c.from.result stopped other;
           };
@@ -202,6 +202,7 @@ returns g c =
                     stays = λ other. left.now (λ e is. other (fails g.K.Sink c.last-last.result c.args.sink.now c.ended-status.new.sink r s e ends is));
                     moments = left.moments;
                     limit = λ allotted so. left.limit (second_out r) allotted (limited g.K.Sink c.last-last.result c.args.sink.now c.ended-status.new.sink r s allotted ends so);
+                    enough_pages = λ allotted few so. left.enough_pages (second_out r) allotted few (limited g.K.Sink c.last-last.result c.args.sink.now c.ended-status.new.sink r s allotted ends so);
                     undamaged = λ area page so. left.sound (second_out r) page (damaged g.K.Sink c.last-last.result c.args.sink.now c.ended-status.new.sink r s area page ends so);
                     complete = λ calm other limit.
                         whole_end g.K.Sink c.last-last.result c.args.sink.now c.ended-status.new.sink r s ends calm other limit

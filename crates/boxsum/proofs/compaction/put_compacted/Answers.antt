@@ -1,4 +1,4 @@
-use Rattle.std.proofs.Common.{rules, ◌≡◌, ℕ, List, ◌++◌, refl, ◌∙◌, subst, inl, inr}
+use Rattle.std.proofs.Common.{rules, ◌≡◌, ℕ, List, refl, ◌∙◌, subst, inl, inr}
 use Rattle.row_machine.specs.Runs.{WritesPart}
 use Rattle.row_machine.proofs.Parts.{writes_front}
 use Rattle.boxsum.specs.Compacting.{compacted_line}

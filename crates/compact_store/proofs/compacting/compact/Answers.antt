@@ -5,6 +5,7 @@ use Rattle.page_disk.specs.Since.{LeavesOnly}
 use Rattle.page_warehouse.specs.Created.{IsEmptyOrNew, IsNew}
 use Rattle.page_warehouse.specs.Shown.{params_in}
 use Rattle.compact_store.specs.Kept.{kept}
+use Rattle.compact_store.proofs.NewCharge.{new_counts}
 use Rattle.compact_store.proofs.Filled.{new_before, new_failed}
 use Rattle.compact_store.proofs.compacting.compact.Goals as goal
 
@@ -19,6 +20,7 @@ returns-in-Done-clause-leaves g c = λ h held le told empty.
     c.compact_to.ensures.leaves h c.args.second held (c.last-last.ensures.held true h held)
     (new_before disk g.X.DomIndex c.created_holds.ensures params (kept h c.args.version) c.args.second c.in-Done.second range held.1.trees.dims lawful
     (subst IsTrue (sym c.in-Done.ensures.tells) told) new c.in-Done.ensures.settled moments)
+    (λ pages settles. new_counts params (disk.image c.in-Done.second) pages new settles)
 
 pub returns-in-Disk-clause-leaves : goal.returns-in-Disk-clause-leaves
 returns-in-Disk-clause-leaves g c = λ h held le told empty.
