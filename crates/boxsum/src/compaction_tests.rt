@@ -169,7 +169,7 @@ fn each_call_of_a_compaction_fails(rt: HostRuntime) -> Result<(), Fail> {
     let before = disk.calls();
     let (ran, _) = run_on_two(alloc, "compact 2", disk, MemDisk::blank(alloc))?;
     assert_eq!(rt; ran.status, Status::Fine);
-    let (all, read) = (ran.second.calls(), ran.disk.calls() - before);
+    let (all, read) = (ran.second.calls(), ran.disk.calls().saturating_sub(before));
     assert!(rt; all < 1000 && 0 < read && read < 1000);
     for call in 1..all + 1 {
         let mut second = MemDisk::blank(alloc);
