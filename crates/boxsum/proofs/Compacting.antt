@@ -7,7 +7,7 @@ use Rattle.compact_store.specs.declared.compacting.Compacted.{Compacted}
 use Rattle.compact_store.specs.declared.compacting.Compacted.TheVariants as made
 use Rattle.page_disk.specs.declared.disk.Area.{Area}
 use Rattle.page_disk.specs.declared.disk.Area.TheVariants.{Pages, Journal}
-use Rattle.row_machine.specs.Runs.{WritesPart}
+use Rattle.byte_ports.specs.Written.{WritesPart}
 use Rattle.boxsum.specs.Compacting.{EndsAs, PutsCompacted, compacted_line}
 use Rattle.boxsum.specs.Ends.{ends_compact}
 use Rattle.boxsum.specs.Statuses.{status_of_fault}

@@ -9,7 +9,7 @@ use Rattle.history_text.specs.Rows.{rows_of}
 use Rattle.page_disk.specs.declared.disk.Area.{Area}
 use Rattle.page_disk.specs.declared.disk.Area.TheVariants.{Pages, Journal}
 use Rattle.page_disk.specs.declared.disk.Disk.{Ghosts as DiskGhosts}
-use Rattle.row_machine.specs.Runs.{WritesPart}
+use Rattle.byte_ports.specs.Written.{WritesPart}
 use Rattle.boxsum.specs.Ends.{ends_export}
 use Rattle.boxsum.specs.Ran.{ExportRan, Exports, ReadsWarehouse}
 use Rattle.page_space.specs.Faults.{AtBadJournal}

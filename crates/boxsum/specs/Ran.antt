@@ -33,7 +33,7 @@ use Rattle.compact_store.specs.Compacted.{IsEmptyOrHoldsPart, LacksNext, batches
 use Rattle.compact_store.specs.Kept.{kept}
 use Rattle.history_text.specs.Rebuilt.{Rebuilds}
 use Rattle.history_text.specs.Rows.{rows_of}
-use Rattle.row_machine.specs.Runs.{WritesPart}
+use Rattle.byte_ports.specs.Written.{WritesPart}
 use Rattle.row_machine.specs.Serving.{lines_need}
 use Rattle.sample_rows.specs.Generator.{rows}
 use Rattle.sample_rows.specs.Summary.{WritesSummary, sample_history, sample_params, summary}

@@ -6,7 +6,7 @@ ghost use Rattle.history_text.specs.Rebuilt.{Rebuilds};
 ghost use Rattle.history_text.specs.Rows.{rows_of};
 ghost use Rattle.page_disk.specs.declared.disk.Area.{Area as AreaName};
 ghost use Rattle.page_warehouse.specs.Shown.{HasNewForm, HoldsHistory, disk_charge, disk_in, params_in};
-ghost use Rattle.row_machine.specs.Runs.{WritesPart};
+ghost use Rattle.byte_ports.specs.Written.{WritesPart};
 ghost use Rattle.warehouse.specs.Left.{IsAsBefore};
 ghost use Rattle.boxsum.specs.Ends.{ends_export};
 ghost use Rattle.boxsum.specs.Ran.{Exports};

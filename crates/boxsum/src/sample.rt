@@ -11,7 +11,7 @@ ghost use Rattle.page_disk.specs.Image.{PageList};
 ghost use Rattle.page_warehouse.specs.Needs.{batch_need, pages_charge};
 ghost use Rattle.row_machine.specs.Serving.{lines_need};
 ghost use Rattle.page_warehouse.specs.Shown.{HoldsHistory};
-ghost use Rattle.row_machine.specs.Runs.{WritesPart};
+ghost use Rattle.byte_ports.specs.Written.{WritesPart};
 ghost use Rattle.sample_rows.specs.Generator.{rows};
 ghost use Rattle.sample_rows.specs.Summary.{WritesSummary, answers_in as answers_of, sample_params as params_of_sample, summary, summary_with};
 ghost use Rattle.boxsum.specs.Ends.{ends_sample};

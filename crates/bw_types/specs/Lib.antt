@@ -4,6 +4,7 @@ pub mod Dominance
 pub mod Fits
 pub mod Meets
 pub mod Integral
+pub mod Below
 pub mod Mass
 pub mod History
 pub mod Lives

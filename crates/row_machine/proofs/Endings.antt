@@ -10,7 +10,7 @@ use Rattle.row_machine.specs.declared.ending.Ran.{Ran}
 use Rattle.row_machine.specs.declared.ending.Ending.{Ending}
 use Rattle.row_machine.specs.declared.ending.Ending.TheVariants.{Fine, ReadFault, WriteFault, NoMemory, InputLimit, DiskFault, Damaged, PageLimit}
 use Rattle.row_machine.specs.Housed.{GoesOnFrom, Settled}
-use Rattle.row_machine.specs.Runs.{WritesPart}
+use Rattle.byte_ports.specs.Written.{WritesPart}
 use Rattle.row_machine.specs.Serving.{Ends, IsBetweenLines, IsFlushed, IsInputEnding}
 use Rattle.row_machine.specs.Ended.{Served, ServedWhole, WithinAll}
 use Rattle.row_machine.proofs.Housing.{after_goes_on, goes_on_twice, only_wider, settled_wider}

@@ -14,7 +14,7 @@ use Rattle.row_machine.specs.declared.ending.Ran.{Ran}
 use Rattle.row_machine.specs.declared.ending.Ending.{Ending}
 use Rattle.row_machine.specs.declared.ending.Ending.TheVariants.{Fine, DiskFault, Damaged, PageLimit}
 use Rattle.row_machine.specs.Housed.{GoesOnFrom, IsHouseEnding, IsVersion, KeepsDevice, MayTake, rows_committed, Settled, SettledBetween, OnlyBetween, version_need}
-use Rattle.row_machine.specs.Runs.{WritesPart}
+use Rattle.byte_ports.specs.Written.{WritesPart}
 use Rattle.row_machine.specs.Serving.{state_at, Breaks, BreaksOff, Ends, IsBetweenLines, IsFlushed, IsInputEnding, MayServe, NextIsVersion, PutsAllButOne, TakesLines, TakesWhole, line_cost, line_need, lines_cost, next_rows}
 use Rattle.csv_rows.specs.declared.reply.Reply.{Reply}
 use Rattle.csv_rows.specs.declared.reply.Reply.TheVariants.{Version, Refused, Dropped, Answer, Bad, Full, NoVersion}

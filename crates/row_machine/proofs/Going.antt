@@ -11,7 +11,7 @@ use Rattle.line_reader.specs.Reader.{ReaderState, to_come, unless_stopped}
 use Rattle.line_reader.specs.declared.lines.Line.{Line}
 use Rattle.line_reader.specs.declared.lines.Line.TheVariants.{End}
 use Rattle.row_machine.specs.declared.serving.TheConstants.{INPUT_LIMIT}
-use Rattle.row_machine.specs.Runs.{WritesMore, WritesPart}
+use Rattle.byte_ports.specs.Written.{WritesMore, WritesPart}
 use Rattle.row_machine.specs.Serving.{TakesWhole, MayGoOn, MayServe, SeenEnd, GoesOn, ServesLine, IsBetweenLines, IsFlushed, IsInputEnding, BreaksOff, Ends, Lasts, LastsBeyond, LastsSoFar, state_at}
 use Rattle.row_machine.specs.Housed.{IsHouseEnding}
 use Rattle.row_machine.specs.declared.ending.Ran.{Ran}

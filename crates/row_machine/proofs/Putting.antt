@@ -11,7 +11,7 @@ use Rattle.csv_rows.specs.Machine.{State, commit_step, line_step, replies, rows_
 use Rattle.csv_rows.specs.declared.input.Input.{Input}
 use Rattle.csv_rows.specs.declared.input.Input.TheVariants.{Stage, Commit, Forget, Ask}
 use Rattle.row_machine.specs.Housed.{IsVersion}
-use Rattle.row_machine.specs.Runs.{WritesPart}
+use Rattle.byte_ports.specs.Written.{WritesPart}
 use Rattle.row_machine.specs.Serving.{LastMayPut, PutNothing, PutsAllButOne}
 use Rattle.row_machine.proofs.Housing.{ask_history, stage_history}
 use Rattle.row_machine.proofs.Served.{after_line}

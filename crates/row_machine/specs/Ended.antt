@@ -8,7 +8,7 @@ use Rattle.warehouse.specs.declared.house.House.{Ghosts}
 use Rattle.row_machine.specs.declared.ending.Ran.{Ran}
 use Rattle.row_machine.specs.declared.ending.Ending.TheVariants.{Fine}
 use Rattle.row_machine.specs.Housed.{GoesOnFrom, OnlyBetween, Settled, SettledBetween}
-use Rattle.row_machine.specs.Runs.{WritesPart}
+use Rattle.byte_ports.specs.Written.{WritesPart}
 use Rattle.row_machine.specs.Serving.{Ends, IsInputEnding, MayServe}
 
 module _ {H D : Type 0} (g : Ghosts H D) where

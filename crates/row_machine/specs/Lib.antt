@@ -2,5 +2,4 @@ pub mod DeskState
 pub mod Ended
 pub mod Housed
 pub mod Outbox
-pub mod Runs
 pub mod Serving

@@ -17,7 +17,7 @@ use Rattle.row_machine.specs.declared.ending.Ran.{Ran}
 use Rattle.row_machine.specs.declared.ending.Ending.{Ending}
 use Rattle.row_machine.specs.declared.ending.Ending.TheVariants.{Fine, ReadFault, WriteFault, NoMemory, InputLimit, DiskFault, Damaged, PageLimit}
 use Rattle.row_machine.specs.Housed.{GoesOnFrom, IsAt, IsHouseEnding, IsVersion, KeepsDevice, MayTake, Settled, SettledBetween, SettledFrom, OnlyBetween, OnlyFrom, input_cost, rows_committed, version_need}
-use Rattle.row_machine.specs.Runs.{WritesPart}
+use Rattle.byte_ports.specs.Written.{WritesPart}
 
 -- a reader that has not stopped, or has stopped at the end of the input
 abbrev pub MayGoOn : Option Line → Type 0

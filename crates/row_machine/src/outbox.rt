@@ -3,7 +3,7 @@ ghost use Rattle.std.specs.Prelude.{◌≡◌, ◌++◌, ◌≤◌, [], false, I
 ghost use Rattle.counts.specs.Count.{Rose};
 ghost use Rattle.csv_rows.specs.Machine.{replied};
 ghost use Rattle.row_machine.specs.Housed.{IsVersion};
-ghost use Rattle.row_machine.specs.Runs.{WritesPart};
+ghost use Rattle.byte_ports.specs.Written.{WritesPart};
 
 use byte_ports::{Failed, Sink};
 use csv_rows::Reply;

@@ -10,7 +10,7 @@ ghost use Rattle.csv_rows.specs.declared.input.Input.{Input};
 ghost use Rattle.csv_rows.specs.Machine.{step, replied};
 ghost use Rattle.line_reader.specs.declared.lines.Line.TheVariants as answered;
 ghost use Rattle.row_machine.specs.Outbox.{gathered};
-ghost use Rattle.row_machine.specs.Runs.{WritesMore, WritesPart};
+ghost use Rattle.byte_ports.specs.Written.{WritesMore, WritesPart};
 ghost use Rattle.row_machine.specs.Housed.{IsHouseEnding, IsVersion, LeavesCommit, MayTake, rows_committed};
 ghost use Rattle.row_machine.specs.Serving.{BreaksOff, Ends, GoesOn, IsBetweenLines, IsFlushed, Lasts, LastsBeyond, LeavesLine, MayGoOn, MayServe, OnServed, SeenEnd, ServesLine, ServesText, device_after, line_cost, state_at};
 

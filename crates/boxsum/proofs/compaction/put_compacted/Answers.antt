@@ -1,5 +1,5 @@
 use Rattle.std.proofs.Common.{rules, ◌≡◌, ℕ, List, refl, ◌∙◌, subst, inl, inr}
-use Rattle.row_machine.specs.Runs.{WritesPart}
+use Rattle.byte_ports.specs.Written.{WritesPart}
 use Rattle.row_machine.proofs.Parts.{writes_front}
 use Rattle.boxsum.specs.Compacting.{compacted_line}
 use Rattle.boxsum.proofs.Exported.{whole_is_part}

@@ -8,7 +8,7 @@ use Rattle.page_disk.specs.Since.{LeavesOnly}
 use Rattle.page_warehouse.specs.Holds.{Holds}
 use Rattle.page_warehouse.specs.Shown.{HoldsHistory, disk_in, meta_in, params_in}
 use Rattle.redo_journal.specs.Settled.{SettlesTo}
-use Rattle.row_machine.specs.Runs.{WritesPart}
+use Rattle.byte_ports.specs.Written.{WritesPart}
 use Rattle.boxsum.specs.Held.{LeavesEach}
 use Rattle.boxsum.specs.Statuses.{status_of_fault}
 use Rattle.boxsum.specs.declared.status.Status.TheVariants as status

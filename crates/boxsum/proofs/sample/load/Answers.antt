@@ -5,7 +5,7 @@ use Rattle.page_disk.specs.Since.{LeavesOnly}
 use Rattle.csv_rows.specs.Machine.{after, begun, text}
 use Rattle.line_reader.specs.Lines.{lines}
 use Rattle.page_warehouse.specs.Needs.{batch_need, pages_charge}
-use Rattle.row_machine.specs.Runs.{WritesPart}
+use Rattle.byte_ports.specs.Written.{WritesPart}
 use Rattle.row_machine.specs.Serving.{lines_need}
 use Rattle.sample_rows.specs.Summary.{answers_in, sample_params, summary_with}
 use Rattle.boxsum.specs.Ends.{ends_sample}

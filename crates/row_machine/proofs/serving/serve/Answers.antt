@@ -2,7 +2,7 @@ use Rattle.std.proofs.Common.{◌≡◌, ◌∙◌, ℕ, List, ◌++◌, inr, ap
 use Rattle.counts.specs.Count.{Rose}
 use Rattle.bw_types.specs.declared.params.Params.{Params}
 use Rattle.row_machine.specs.Outbox.{gathered}
-use Rattle.row_machine.specs.Runs.{WritesPart}
+use Rattle.byte_ports.specs.Written.{WritesPart}
 use Rattle.row_machine.specs.Serving.{LastsBeyond}
 use Rattle.row_machine.specs.declared.desk.Desk.{Desk}
 use Rattle.row_machine.specs.declared.ending.Ending.{Ending}

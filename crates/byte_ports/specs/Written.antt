@@ -1,4 +1,4 @@
--- What a run has written when it ends.
+-- What was written, where it may be a part alone.
 use Rattle.std.specs.Prelude.{◌≡◌, ℕ, List, ◌++◌}
 
 -- From before to after a part of the whole text was written, its front.
