@@ -12,8 +12,8 @@ use Rattle.boxsum.specs.Ends.{may_end}
 use Rattle.boxsum.specs.Ran.{Carried, Compacts, compacted_text}
 use Rattle.boxsum.specs.declared.status.Ran.{Ran}
 use Rattle.boxsum.specs.declared.status.Status.TheVariants.{NoMemory}
-use Rattle.boxsum.proofs.Exported.{nothing_exported, nothing_read}
-use Rattle.boxsum.proofs.Nothing.{nothing_caused, nothing_created, nothing_left, nothing_run, nothing_sampled, nothing_scratched, stays_read}
+use Rattle.boxsum.proofs.Exported.{nothing_exported}
+use Rattle.boxsum.proofs.Nothing.{nothing_caused, nothing_created, nothing_left, nothing_read, nothing_reported, nothing_run, nothing_sampled, nothing_scratched, stays_read}
 use Rattle.boxsum.proofs.Opened.{writes_nothing}
 
 -- each command may end so
@@ -39,6 +39,7 @@ nothing_carried d s k i disk source sink silent goes_on asked = record {
   create = λ params asked. nothing_created d s k i disk source sink params;
   run = λ asked. nothing_run d s k i disk source sink silent goes_on;
   sample = λ start count asked. nothing_sampled d s k i disk source sink start count;
+  report = λ asked. nothing_reported d s k i disk source sink;
   export = λ asked. nothing_exported d k i disk sink s source;
   may_end = any_may_end asked;
   causes = record { ports = nothing_caused s k source sink; disk_fault = λ e. cc };

@@ -14,7 +14,7 @@ use Rattle.boxsum.specs.Statuses.{status_of_fault}
 use Rattle.page_space.specs.declared.refusal.OpenFault.{OpenFault}
 use Rattle.page_space.specs.declared.refusal.OpenFault.TheVariants as fault
 use Rattle.boxsum.specs.declared.status.Status.{Status}
-use Rattle.boxsum.specs.declared.status.Status.TheVariants.{Fine, AlreadyThere, WriteFault, DiskFault, NoMemory, Damaged, PageLimit, NoVersion}
+use Rattle.boxsum.specs.declared.status.Status.TheVariants.{Fine, NoWarehouse, AlreadyThere, WriteFault, DiskFault, NoMemory, Damaged, PageLimit, NoVersion}
 use Rattle.boxsum.proofs.Opened.{writes_nothing}
 
 -- the line is put with one of three statuses
@@ -119,6 +119,16 @@ module _ {E K : Type 0} (k : SinkGhosts K) (last : ℕ) (before after : K) where
   no_journal (made.Damaged second other) s page ends e = (let no : Damaged Journal page ≡ Damaged Pages other = sym e ∙ ends.0 in cc)
   no_journal (made.NoMemory second) s page ends e = (let no : Damaged Journal page ≡ NoMemory = sym e ∙ ends.0 in cc)
   no_journal (made.Disk second) s page ends e = (let no : Damaged Journal page ≡ DiskFault = sym e ∙ ends.0 in cc)
+
+  -- nor is there no warehouse
+  pub no_empty : (r : Compacted E) (s : Status) → EndsAs k last before after r s → s ≢ NoWarehouse
+  no_empty (made.Done second rows) s ends e = three s ends.may_end (λ f. let no : NoWarehouse ≡ Fine = sym e ∙ f in cc) (λ f. let no : NoWarehouse ≡ WriteFault = sym e ∙ f in cc) (λ f. let no : NoWarehouse ≡ NoMemory = sym e ∙ f in cc)
+  no_empty (made.NoVersion second version) s ends e = (let no : NoWarehouse ≡ NoVersion version = sym e ∙ ends.0 in cc)
+  no_empty (made.AlreadyThere second) s ends e = (let no : NoWarehouse ≡ AlreadyThere = sym e ∙ ends.0 in cc)
+  no_empty (made.PageLimit second allotted) s ends e = (let no : NoWarehouse ≡ PageLimit allotted = sym e ∙ ends.0 in cc)
+  no_empty (made.Damaged second page) s ends e = (let no : NoWarehouse ≡ Damaged Pages page = sym e ∙ ends.0 in cc)
+  no_empty (made.NoMemory second) s ends e = (let no : NoWarehouse ≡ NoMemory = sym e ∙ ends.0 in cc)
+  no_empty (made.Disk second) s ends e = (let no : NoWarehouse ≡ DiskFault = sym e ∙ ends.0 in cc)
 
   -- where nothing else can be, the second disk has something on it, or a disk failed
   pub full_end : (r : Compacted E) (s : Status) → EndsAs k last before after r s → ((e : E) (version : ℕ) → r ≢ made.NoVersion e version) → ((e : E) (rows : ℕ) → r ≢ made.Done e rows)

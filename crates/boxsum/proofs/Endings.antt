@@ -1,8 +1,10 @@
 -- The ending of a run, and the fault of an opening, by the status.
-use Rattle.std.proofs.Common.{◌≡◌, ◌≢◌, ◌⊎◌, ℕ, IsTrue, Option, Some, None, inl, inr, refl, sym, ◌∙◌, ap, subst, arith}
+use Rattle.std.proofs.Common.{◌≡◌, ◌≢◌, ◌⊎◌, ℕ, ◌+◌, ◌^◌, IsTrue, length, Option, Some, None, inl, inr, refl, sym, ◌∙◌, ap, subst, arith}
 use Rattle.counts.specs.Count.{Rose}
 use Rattle.std.specs.Prelude.{◌≤◌}
 use Rattle.std.specs.Bool.{MatchBool}
+use Rattle.byte_ports.specs.declared.Source.{Ghosts as SourceGhosts}
+use Rattle.byte_ports.specs.declared.Sink.{Ghosts as SinkGhosts}
 use Rattle.page_disk.specs.declared.disk.Area.{Area}
 use Rattle.page_disk.specs.declared.disk.Area.TheVariants.{Pages, Journal}
 use Rattle.page_space.specs.Faults.{is_disk}
@@ -12,6 +14,7 @@ use Rattle.row_machine.specs.Serving.{IsBetweenLines, IsFlushed, IsInputEnding}
 use Rattle.row_machine.specs.declared.ending.Ending.{Ending}
 use Rattle.row_machine.specs.declared.ending.Ending.TheVariants as ending
 use Rattle.boxsum.specs.Ends.{ends_run, ends_scratch}
+use Rattle.boxsum.specs.Ran.{HasPortCause}
 use Rattle.boxsum.specs.Runs.{IsInputStatus}
 use Rattle.boxsum.specs.Statuses.{status_of, status_of_fault}
 use Rattle.boxsum.specs.declared.status.Status.{Status}
@@ -75,6 +78,17 @@ ending_of e e' s s' is so back = same_some e e' (sym (ending_is_back e) ∙ (ap 
 
 pub no_ending : (e : Ending) (s s' : Status) → s ≡ status_of e → s ≡ s' → ending_back s' ≡ None → ⊥
 no_ending e s s' is so none = some_is_not_none e (sym (ending_is_back e) ∙ (ap ending_back (sym is ∙ so) ∙ none))
+
+-- no ending names a page of the journal
+pub no_journal : (e : Ending) (s : Status) (page : ℕ) → s ≡ status_of e → s ≡ Damaged Journal page → ⊥
+no_journal ending.Fine s page is so = (let no : Fine ≡ Damaged Journal page = sym is ∙ so in cc)
+no_journal ending.ReadFault s page is so = (let no : ReadFault ≡ Damaged Journal page = sym is ∙ so in cc)
+no_journal ending.WriteFault s page is so = (let no : WriteFault ≡ Damaged Journal page = sym is ∙ so in cc)
+no_journal ending.NoMemory s page is so = (let no : NoMemory ≡ Damaged Journal page = sym is ∙ so in cc)
+no_journal (ending.InputLimit taken) s page is so = (let no : InputLimit taken ≡ Damaged Journal page = sym is ∙ so in cc)
+no_journal ending.DiskFault s page is so = (let no : DiskFault ≡ Damaged Journal page = sym is ∙ so in cc)
+no_journal (ending.Damaged p) s page is so = (let no : Damaged Pages p ≡ Damaged Journal page = sym is ∙ so in cc)
+no_journal (ending.PageLimit allotted) s page is so = (let no : PageLimit allotted ≡ Damaged Journal page = sym is ∙ so in cc)
 
 -- so has a fault
 pub fault_of : (f f' : OpenFault) (s s' : Status) → s ≡ status_of_fault f → s ≡ s' → fault_back s' ≡ Some f' → f ≡ f'
@@ -190,3 +204,14 @@ never_falls fault.Empty old new same = omega (arith, same)
 never_falls (fault.Damaged page) old new same = omega (arith, same)
 never_falls fault.NoMemory old new same = omega (arith, same)
 never_falls (fault.BadJournal page) old new same = omega (arith, same)
+
+-- the causes of an ending are those of its status
+pub port_cause : {S K : Type 0} (s : SourceGhosts S) (k : SinkGhosts K) (source source' : S) (sink sink' : K) (e : Ending) (ended : Status) → ended ≡ status_of e
+    → (e ≡ ending.ReadFault → Rose (s.faults source) (s.faults source')) → (e ≡ ending.WriteFault → Rose (k.faults sink) (k.faults sink'))
+    → ((taken : ℕ) → e ≡ ending.InputLimit taken → (taken ≡ 2 ^ 40) × (IsTrue (s.tells source) → length (s.left source) ≡ 2 ^ 40 + length (s.left source')))
+    → HasPortCause s k source source' sink sink' ended
+port_cause s k source source' sink sink' e ended is read write limit = record {
+  read_fault = λ so. read (ending_of e ending.ReadFault ended ReadFault is so refl);
+  write_fault = λ so. write (ending_of e ending.WriteFault ended WriteFault is so refl);
+  input_limit = λ taken so. limit taken (ending_of e (ending.InputLimit taken) ended (InputLimit taken) is so refl);
+}

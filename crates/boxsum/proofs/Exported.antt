@@ -1,5 +1,5 @@
 -- An export: what is printed, what the disk keeps, and where there is no memory to read the words.
-use Rattle.std.proofs.Common.{◌≡◌, ◌≢◌, ◌⊎◌, ℕ, IsTrue, List, [], ◌++◌, drop, take, inl, inr, refl, sym, ◌∙◌, subst}
+use Rattle.std.proofs.Common.{◌≡◌, ◌≢◌, ◌⊎◌, ℕ, IsTrue, List, [], ◌++◌, drop, take, inl, inr, refl, sym, ◌∙◌}
 use Rattle.std.proofs.lemmas.List.{append-nil, take-append-drop}
 use Rattle.byte_ports.specs.declared.Source.{Ghosts as SourceGhosts}
 use Rattle.byte_ports.specs.declared.Sink.{Ghosts as SinkGhosts}
@@ -11,16 +11,13 @@ use Rattle.page_disk.specs.declared.disk.Area.TheVariants.{Pages, Journal}
 use Rattle.page_disk.specs.declared.disk.Disk.{Ghosts as DiskGhosts}
 use Rattle.byte_ports.specs.Written.{WritesPart}
 use Rattle.boxsum.specs.Ends.{ends_export}
-use Rattle.boxsum.specs.Ran.{ExportRan, Exports, ReadsWarehouse}
-use Rattle.page_space.specs.Faults.{AtBadJournal}
-use Rattle.page_space.specs.declared.refusal.OpenFault.{OpenFault}
-use Rattle.page_space.specs.declared.refusal.OpenFault.TheVariants as fault
-use Rattle.boxsum.specs.Statuses.{status_of_fault, status_of_gathering}
+use Rattle.boxsum.specs.Ran.{ExportRan, Exports}
+use Rattle.boxsum.specs.Statuses.{status_of_gathering}
 use Rattle.history_list.specs.declared.gathering.GatherFault.{GatherFault}
 use Rattle.history_list.specs.declared.gathering.GatherFault.TheVariants as gathering
 use Rattle.boxsum.specs.declared.status.Status.{Status}
 use Rattle.boxsum.specs.declared.status.Status.TheVariants.{Fine, Usage, NoWarehouse, AlreadyThere, ReadFault, WriteFault, DiskFault, NoMemory, Damaged, InputLimit, PageLimit, NoVersion}
-use Rattle.boxsum.proofs.Nothing.{nothing_left, stays_read}
+use Rattle.boxsum.proofs.Nothing.{nothing_read}
 use Rattle.boxsum.proofs.Opened.{writes_nothing}
 
 -- a front of a text is a part of it, and so is the whole
@@ -42,14 +39,6 @@ gathers_pages gathering.Disk s page is e = (let no : DiskFault ≡ Damaged Journ
 gathers_pages (gathering.Damaged p) s page is e = (let no : Damaged Pages p ≡ Damaged Journal page = sym is ∙ e in cc)
 gathers_pages gathering.NoMemory s page is e = (let no : NoMemory ≡ Damaged Journal page = sym is ∙ e in cc)
 
--- a journal is called damaged where an opening does
-pub journal_fault : (told : Type 0) (bad : ℕ → Type 0) (f : OpenFault) (s : Status) (page : ℕ) → s ≡ status_of_fault f → s ≡ Damaged Journal page → AtBadJournal f (λ p. told → bad p) → told → bad page
-journal_fault told bad fault.Disk s page is so at t = absurd (let no : DiskFault ≡ Damaged Journal page = sym is ∙ so in cc)
-journal_fault told bad fault.Empty s page is so at t = absurd (let no : NoWarehouse ≡ Damaged Journal page = sym is ∙ so in cc)
-journal_fault told bad (fault.Damaged p) s page is so at t = absurd (let no : Damaged Pages p ≡ Damaged Journal page = sym is ∙ so in cc)
-journal_fault told bad fault.NoMemory s page is so at t = absurd (let no : NoMemory ≡ Damaged Journal page = sym is ∙ so in cc)
-journal_fault told bad (fault.BadJournal p) s page is so at t = subst bad (let same : Damaged Journal p ≡ Damaged Journal page = sym is ∙ so in cc) (at t)
-
 -- with no fault an export is fine, unless memory ran out
 pub exports_whole : (s : Status) → IsTrue (ends_export s) → s ≢ NoWarehouse → s ≢ WriteFault → s ≢ DiskFault → ((area : Area) (page : ℕ) → s ≢ Damaged area page)
     → (s ≡ Fine) ⊎ (s ≡ NoMemory)
@@ -65,18 +54,6 @@ exports_whole (Damaged area page) ends none put disk sound = absurd (sound area 
 exports_whole (InputLimit taken) ends none put disk sound = absurd (cc)
 exports_whole (PageLimit allotted) ends none put disk sound = absurd (cc)
 exports_whole (NoVersion last) ends none put disk sound = absurd (cc)
-
--- where there is no memory to read the words
-pub nothing_read : {D X : Type 0} (d : DiskGhosts D) (i : IndexGhosts X) (disk : D) → ReadsWarehouse d i disk (record { status = NoMemory; disk = disk })
-nothing_read d i disk = record {
-  empty = λ told none. (stays_read d disk, inr (inr refl));
-  empty_only = λ e. cc;
-  bad_journal = λ page e. cc;
-  refused = λ told none. record { cause = tt; moments = λ pages settles. nothing_left _ (d.moments disk); stands = λ other pages settled. settled; left = λ other x now. inl now };
-  only_read = λ told. record { stays = λ pages settles other. settles; moments = λ pages settles. nothing_left _ (d.moments disk); untouched = λ calm. stays_read d disk };
-  holds = λ params h held other. held;
-  moments = λ params h held. nothing_left _ (d.moments disk);
-}
 
 module _ {D K X : Type 0} (d : DiskGhosts D) (k : SinkGhosts K) (i : IndexGhosts X) (disk : D) (sink : K) where
   pub no_export : Exports d k i disk sink sink (record { status = NoMemory; disk = disk })

@@ -5,6 +5,8 @@ pub mod Opened
 pub mod Reading
 pub mod Sampling
 pub mod Scratch
+pub mod AnsweredEach
+pub mod ReadsWarehouse
 mod Exported
 mod Compacting
 mod Carrying

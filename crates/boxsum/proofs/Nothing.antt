@@ -1,5 +1,5 @@
--- Where there is no memory to read the words, nothing is called.
-use Rattle.std.proofs.Common.{◌≡◌, ◌≢◌, ℕ, List, [], inl, inr, refl, sym, arith}
+-- Where there is no memory to read the words, nothing is called; and where a disk is not opened, no line of the input is answered.
+use Rattle.std.proofs.Common.{◌≡◌, ◌≢◌, ◌⊎◌, ◌≤◌, ℕ, List, [], inl, inr, refl, sym, ◌∙◌, subst, arith}
 use Rattle.std.proofs.lemmas.List.{append-nil}
 use Rattle.bw_types.specs.History.{History}
 use Rattle.bw_types.specs.declared.params.Params.{Params}
@@ -15,17 +15,33 @@ use Rattle.dom_index.specs.declared.index.DomIndex.{Ghosts as IndexGhosts}
 use Rattle.row_machine.specs.Ended.{AfterGoesOn, SilentLinesKeep}
 use Rattle.sample_rows.specs.Summary.{summary}
 use Rattle.page_space.specs.Opened.{StaysAsRead}
-use Rattle.boxsum.specs.Ran.{Answers, AnswersFromNothing, CreateRan, HasPortCause, ReadsToTheEnd, RunRan, Samples, SampleRan, ScratchRan, ServesInput}
+use Rattle.grid_report.specs.GridCosts.{grid_line_cost}
+use Rattle.grid_report.specs.GridReplies.{grid_replies}
+use Rattle.boxsum.specs.Answering.{AnswersEach, grids_text}
+use Rattle.boxsum.specs.Ran.{Answers, AnswersFromNothing, CreateRan, HasPortCause, ReadsToTheEnd, ReadsWarehouse, ReportRan, RunRan, Samples, SampleRan, ScratchRan, ServesInput, WritesText}
 use Rattle.boxsum.specs.Runs.{IsInputStatus, history_by}
 use Rattle.boxsum.specs.declared.status.Ran.{Ran}
 use Rattle.boxsum.specs.declared.status.Status.{Status}
-use Rattle.boxsum.specs.declared.status.Status.TheVariants.{Fine, NoMemory}
-use Rattle.boxsum.proofs.Opened.{between_by, between_here, from_here, nothing_replied, writes_nothing}
+use Rattle.boxsum.specs.declared.status.Status.TheVariants.{Fine, DiskFault, NoMemory}
+use Rattle.boxsum.proofs.Opened.{between_by, between_here, from_here, not_damaged, nothing_replied, only_memory, writes_nothing}
 use Rattle.boxsum.proofs.Sampling.{no_summary}
 
 -- want of memory does not come from the input
 no_input_here : IsInputStatus NoMemory → ⊥
 no_input_here why = elim why [ inl e ↦ cc | inr w ↦ (let e = w.1 in cc) ]
+
+-- a run that the disk or the memory stopped is not fine, and its input did not end it
+stopped_not_fine : (s : Status) → (s ≡ DiskFault) ⊎ (s ≡ NoMemory) → s ≢ Fine
+stopped_not_fine s why fine = elim why [
+  | inl disk ↦ (let no : DiskFault ≡ Fine = sym disk ∙ fine in cc)
+  | inr memory ↦ (let no : NoMemory ≡ Fine = sym memory ∙ fine in cc)
+]
+
+stopped_not_input : (s : Status) → (s ≡ DiskFault) ⊎ (s ≡ NoMemory) → IsInputStatus s → ⊥
+stopped_not_input s why input = elim why [
+  | inl disk ↦ elim (subst (λ (x : Status). IsInputStatus x) disk input) [ inl e ↦ cc | inr w ↦ (let e = w.1 in cc) ]
+  | inr memory ↦ no_input_here (subst (λ (x : Status). IsInputStatus x) memory input)
+]
 
 -- nothing more is left
 pub nothing_left : (P : Image → Type 0) (moments : List Moment) → LeavesOnly P moments moments
@@ -33,6 +49,18 @@ nothing_left P moments = record { later = let n : ℕ = clock_of moments in omeg
 
 pub stays_read : {D : Type 0} (d : DiskGhosts D) (disk : D) → StaysAsRead d disk disk
 stays_read d disk = record { image = refl; moments = nothing_left (λ x. x ≡ d.image disk) (d.moments disk) }
+
+-- no warehouse is read
+pub nothing_read : {D X : Type 0} (d : DiskGhosts D) (i : IndexGhosts X) (disk : D) → ReadsWarehouse d i disk (record { status = NoMemory; disk = disk })
+nothing_read d i disk = record {
+  empty = λ told none. (stays_read d disk, inr (inr refl));
+  empty_only = λ e. cc;
+  bad_journal = λ page e. cc;
+  refused = λ told none. record { cause = tt; moments = λ pages settles. nothing_left _ (d.moments disk); stands = λ other pages settled. settled; left = λ other x now. inl now };
+  only_read = λ told. record { stays = λ pages settles other. settles; moments = λ pages settles. nothing_left _ (d.moments disk); untouched = λ calm. stays_read d disk };
+  holds = λ params h held other. held;
+  moments = λ params h held. nothing_left _ (d.moments disk);
+}
 
 module _ {S K : Type 0} (s : SourceGhosts S) (k : SinkGhosts K) (source : S) (sink : K) where
   abbrev pub nothing_served : (ended : Status) (params : Params) (h : History) → ended ≢ Fine → (IsInputStatus ended → ⊥)
@@ -52,14 +80,35 @@ module _ {S K : Type 0} (s : SourceGhosts S) (k : SinkGhosts K) (source : S) (si
     put = λ told still. record { first = []; later = []; more = []; cut = refl; wrote = sym (append-nil (k.written sink)); last = inl (omega arith) };
   }
 
-  pub nothing_answered : (params : Params) (h : History) → Answers s k source source sink sink NoMemory params h
-  nothing_answered params h = record {
-    fine = λ e. cc;
-    part = λ told tells still. writes_nothing (k.written sink) (text params h (s.left source));
-    whole_lines = λ why. absurd (no_input_here why);
-    undamaged = λ area page e. cc;
-    complete = λ told short calm quiet other limit. inr refl;
+  -- where the disk failed or there was no memory before a line was taken
+  pub text_unread : (ended : Status) (text_of : List ℕ → List ℕ) → (ended ≡ DiskFault) ⊎ (ended ≡ NoMemory) → WritesText s k source source sink sink ended text_of
+  text_unread ended text_of why = record {
+    fine = λ fine. absurd (stopped_not_fine ended why fine);
+    part = λ told tells still. writes_nothing (k.written sink) (text_of (s.left source));
+    whole_lines = λ input. absurd (stopped_not_input ended why input);
+    undamaged = λ area page. not_damaged ended area page why;
+    complete = λ told short calm quiet other limit. only_memory ended why other;
   }
+
+  pub each_unread : (ended : Status) (reply : ℕ → List ℕ → List ℕ) (cost : List ℕ → ℕ) (first last : ℕ) → (ended ≡ DiskFault) ⊎ (ended ≡ NoMemory) → last ≤ first
+      → AnswersEach reply cost (s.left source) (s.left source) (s.tells source) ended (k.tells sink) (k.tells sink) (k.written sink) (k.written sink) first last
+  each_unread ended reply cost first last why few = record {
+    answered = [];
+    cut_off = [];
+    rest = lines (s.left source);
+    cut = refl;
+    one = omega arith;
+    none_cut_off = λ ends. refl;
+    all = λ fine. absurd (stopped_not_fine ended why fine);
+    whole_lines = λ input. absurd (stopped_not_input ended why input);
+    read = λ still. record { taken = []; more = []; cut = refl; begins = refl };
+    part = λ told still. writes_nothing (k.written sink) [];
+    wrote = λ put disk told. (told, sym (append-nil (k.written sink)));
+    most = omega (arith, few);
+  }
+
+  pub nothing_answered : (params : Params) (h : History) → Answers s k source source sink sink NoMemory params h
+  nothing_answered params h = text_unread NoMemory (text params h) (inr refl)
 
   pub nothing_ends : ReadsToTheEnd s k source source sink sink NoMemory
   nothing_ends = λ e. cc
@@ -150,4 +199,16 @@ module _ {D S K X : Type 0} (d : DiskGhosts D) (s : SourceGhosts S) (k : SinkGho
     };
     pages = λ params h held. record { lacks = λ allotted e. cc; enough_pages = λ pages allotted told settles fits e. cc };
     at_limit = λ params meta pages allotted told space e. cc;
+  }
+
+  pub nothing_reported : ReportRan d s k i disk source source sink sink nothing_done
+  nothing_reported = record {
+    nothing = λ told none. (refl, refl);
+    warehouse = nothing_read d i disk;
+    answers = λ params h held. record {
+      writes = text_unread s k source sink NoMemory (grids_text params h) (inr refl);
+      answered = λ told. each_unread s k source sink NoMemory (grid_replies params h) (grid_line_cost i.cost params h) _ _ (inr refl) (omega arith);
+    };
+    at_end = nothing_ends s k source sink;
+    surely = λ params h held other x now. inl (refl, (refl, refl), now);
   }

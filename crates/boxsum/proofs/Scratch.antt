@@ -4,7 +4,7 @@ use Rattle.bw_types.specs.History.{History}
 use Rattle.bw_types.specs.declared.params.Params.{Params}
 use Rattle.bw_types.specs.declared.row.Row.{Row}
 use Rattle.line_reader.specs.Lines.{lines}
-use Rattle.csv_rows.specs.Machine.{begun}
+use Rattle.csv_rows.specs.Machine.{begun, text}
 use Rattle.warehouse.specs.declared.house.House.{Ghosts}
 use Rattle.row_machine.specs.declared.ending.Ran.{Ran}
 use Rattle.row_machine.specs.Serving.{Ends, Lasts, MayServe}
@@ -26,7 +26,7 @@ module _ {H D : Type 0} (g : Ghosts H D) (whole tells tells' still : Bool) (inpu
 
   -- the replies to all whole lines are the text of the bytes up to the last line feed
   pub whole_text : (params : Params) (h : History) → tells ≡ true → tells' ≡ true → ServedWhole g whole tells tells' params (begun h) input left ran written written'
-      → WritesWholeLines params h input left written written'
+      → WritesWholeLines (text params h) input left written written'
   whole_text params h told still' s = record { taken = s.taken; cut = s.cut; wrote = s.served.wrote told still' }
 
 module _ {H D : Type 0} (g : Ghosts H D) (ran : Ran D) (h : History) where

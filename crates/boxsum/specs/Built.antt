@@ -3,7 +3,7 @@ use Rattle.std.specs.Prelude.{ℕ, Bool, true, false, List, Option}
 use Rattle.csv_rows.specs.Input.{given, provided}
 use Rattle.command_words.specs.Command.{command_of}
 use Rattle.command_words.specs.declared.command.Command.{Command}
-use Rattle.command_words.specs.declared.command.Command.TheVariants.{Create, Run, Scratch, Sample, Export, Compact}
+use Rattle.command_words.specs.declared.command.Command.TheVariants.{Create, Run, Scratch, Sample, Report, Export, Compact}
 
 -- the command is built already
 abbrev pub is_built : Command → Bool
@@ -11,6 +11,7 @@ is_built (Create params) = true
 is_built Run = true
 is_built (Scratch params) = true
 is_built (Sample start count) = true
+is_built Report = true
 is_built Export = true
 is_built (Compact version) = true
 is_built _ = false

@@ -1,7 +1,7 @@
 -- With which statuses each command may end.
 use Rattle.std.specs.Prelude.{Bool, true, false, Option, Some, None}
 use Rattle.command_words.specs.declared.command.Command.{Command}
-use Rattle.command_words.specs.declared.command.Command.TheVariants.{Create, Run, Scratch, Sample, Export, Compact}
+use Rattle.command_words.specs.declared.command.Command.TheVariants.{Create, Run, Scratch, Sample, Report, Export, Compact}
 use Rattle.boxsum.specs.declared.status.Status.{Status}
 use Rattle.boxsum.specs.declared.status.Status.TheVariants.{Fine, Usage, NoWarehouse, AlreadyThere, ReadFault, WriteFault, DiskFault, NoMemory, Damaged, InputLimit, PageLimit, NoVersion}
 
@@ -36,6 +36,17 @@ ends_sample (Damaged area page) = true
 ends_sample (PageLimit allotted) = true
 ends_sample _ = false
 
+abbrev pub ends_report : Status → Bool
+ends_report Fine = true
+ends_report NoWarehouse = true
+ends_report ReadFault = true
+ends_report WriteFault = true
+ends_report DiskFault = true
+ends_report NoMemory = true
+ends_report (Damaged area page) = true
+ends_report (InputLimit taken) = true
+ends_report _ = false
+
 abbrev pub ends_export : Status → Bool
 ends_export Fine = true
 ends_export NoWarehouse = true
@@ -63,6 +74,7 @@ may_end (Some (Create params)) status = ends_create status
 may_end (Some Run) status = ends_run status
 may_end (Some (Scratch params)) status = ends_scratch status
 may_end (Some (Sample start count)) status = ends_sample status
+may_end (Some Report) status = ends_report status
 may_end (Some Export) status = ends_export status
 may_end (Some (Compact version)) status = ends_compact status
 may_end (Some _) status = ends_nothing status

@@ -37,6 +37,9 @@ use Rattle.byte_ports.specs.Written.{WritesPart}
 use Rattle.row_machine.specs.Serving.{lines_need}
 use Rattle.sample_rows.specs.Generator.{rows}
 use Rattle.sample_rows.specs.Summary.{WritesSummary, sample_history, sample_params, summary}
+use Rattle.grid_report.specs.GridReplies.{grid_replies}
+use Rattle.grid_report.specs.GridCosts.{grid_line_cost}
+use Rattle.boxsum.specs.Answering.{AnswersEach, grids_text}
 use Rattle.boxsum.specs.Compacting.{compacted_line}
 use Rattle.boxsum.specs.Ends as ends
 use Rattle.boxsum.specs.Held.{BeginsWith, CommitsNothing, HoldsBetween, HoldsFrom, HoldsSurely, IsEmptyOrHolds, IsEmptyOrPart, IsNoWarehouse, LeavesEach, MakesAndLoads, Refuses}
@@ -56,22 +59,26 @@ Untouched source source' sink sink' = (source' ≡ source) × (sink' ≡ sink)
 
 -- What is read and printed.
 module _ {S K : Type 0} (s : SourceGhosts S) (k : SinkGhosts K) (source source' : S) (sink sink' : K) (ended : Status) where
-  -- The rows of the source were answered from this history on.
-  pub record Answers (params : Params) (h : History) : Type 0 where
+  -- The lines of the source were answered: this function tells what is to be written for an input.
+  pub record WritesText (text_of : List ℕ → List ℕ) : Type 0 where
     -- The whole text is written.
     pub fine : ended ≡ status.Fine → IsTrue (s.tells source) → IsTrue (k.tells sink)
-        → IsTrue (k.tells sink') × (k.written sink' ≡ k.written sink ++ text params h (s.left source))
+        → IsTrue (k.tells sink') × (k.written sink' ≡ k.written sink ++ text_of (s.left source))
     -- Where the run ends early it is a part of the text; where the input ends it, that of all whole lines that were taken.
     pub part : IsTrue (s.tells source) → IsTrue (k.tells sink) → IsTrue (k.tells sink')
-        → WritesPart (k.written sink) (k.written sink') (text params h (s.left source))
+        → WritesPart (k.written sink) (k.written sink') (text_of (s.left source))
     pub whole_lines : IsInputStatus ended → IsTrue (s.tells source) → IsTrue (s.tells source') → IsTrue (k.tells sink)
-        → IsTrue (k.tells sink') × WritesWholeLines params h (s.left source) (s.left source') (k.written sink) (k.written sink')
+        → IsTrue (k.tells sink') × WritesWholeLines text_of (s.left source) (s.left source') (k.written sink) (k.written sink')
     pub undamaged : (area : Area) (page : ℕ) → ended ≢ status.Damaged area page
     -- With no fault, pages enough and ample memory the run is fine.
     pub complete : IsTrue (s.tells source) → length (s.left source) < 2 ^ 40
         → (Rose (s.faults source) (s.faults source') → ⊥) → (Rose (k.faults sink) (k.faults sink') → ⊥)
         → ended ≢ status.DiskFault → ((allotted : ℕ) → ended ≢ status.PageLimit allotted)
         → (ended ≡ status.Fine) ⊎ (ended ≡ status.NoMemory)
+
+  -- The rows of the source were answered from this history on.
+  abbrev pub Answers : Params → History → Type 0
+  Answers params h = WritesText (text params h)
 
   -- Where the run is fine the input was read to its end, and was no longer than it may be.
   abbrev pub ReadsToTheEnd : Type 0
@@ -365,6 +372,25 @@ module _ {D S K X : Type 0} (d : DiskGhosts D) (s : SourceGhosts S) (k : SinkGho
     pub at_limit : (params : Params) (meta : Meta) (pages : PageMap) (allotted : ℕ) → IsTrue (d.tells disk) → HoldsSpace (d.image disk) params meta pages ⊥
         → ran.status ≡ status.PageLimit allotted → allotted ≡ params.pages
 
+  -- Grids were answered from trees that stand for this history, whatever the table holds.
+  pub record AnswersGrids (params : Params) (h : History) : Type 0 where
+    pub writes : WritesText s k source source' sink sink' ran.status (grids_text params h)
+    -- Which lines were answered, and what was read for them.
+    pub answered : IsTrue (s.tells source) → AnswersEach (grid_replies params h) (grid_line_cost i.cost params h) (s.left source) (s.left source') (s.tells source') ran.status
+        (k.tells sink) (k.tells sink') (k.written sink) (k.written sink') (d.reads disk + 4 + replay_reads (d.image disk)) (d.reads ran.disk)
+
+  -- `report`: the warehouse on the disk was opened, and the grids that the lines of the source ask for were answered.
+  pub record ReportRan : Type 0 where
+    -- Without a warehouse nothing is answered, nor where what is there is none.
+    pub nothing : IsTrue (d.tells disk) → (is_empty (d.image disk) ≡ true) ⊎ IsNoWarehouse i.DIMS (d.image disk) → Untouched source source' sink sink'
+    pub warehouse : ReadsWarehouse d i disk ran
+    pub answers : (params : Params) (h : History) → HoldsHistory d i false disk params h → AnswersGrids params h
+    pub at_end : ReadsToTheEnd s k source source' sink sink' ran.status
+    -- A crash now leaves the history, or, where there was no memory to open the warehouse, what it might have left before.
+    pub surely : (params : Params) (h : History) → HoldsHistory d i true disk params h → ran.status ≢ status.DiskFault
+        → (x : Image) → MayBeLeftNow (d.moments ran.disk) x
+        → ((ran.status ≡ status.NoMemory) × Untouched source source' sink sink' × MayBeLeftNow (d.moments disk) x) ⊎ Holds i x params h
+
   -- This command was carried out.
   pub record Carried (asked : Option Command) : Type 0 where
     -- Where there is none, the words are refused, and nothing is called.
@@ -376,6 +402,7 @@ module _ {D S K X : Type 0} (d : DiskGhosts D) (s : SourceGhosts S) (k : SinkGho
     pub create : (params : Params) → asked ≡ Some (command.Create params) → CreateRan params
     pub run : asked ≡ Some command.Run → RunRan
     pub sample : (start count : ℕ) → asked ≡ Some (command.Sample start count) → SampleRan start count
+    pub report : asked ≡ Some command.Report → ReportRan
     pub export : asked ≡ Some command.Export → ExportRan
     -- With which statuses each may end, and what they come from.
     pub may_end : IsTrue (ends.may_end asked ran.status)

@@ -22,10 +22,10 @@ IsInputStatus status = (status ≡ ReadFault) ⊎ ((taken : ℕ) × (status ≡ 
 
 -- Of the input all was taken but what is left, and what was written is the text of the bytes up to the last line feed
 -- that was taken.
-pub record WritesWholeLines (params : Params) (h : History) (input left before after : List ℕ) : Type 0 where
+pub record WritesWholeLines (text : List ℕ → List ℕ) (input left before after : List ℕ) : Type 0 where
   pub taken : List ℕ
   pub cut : input ≡ taken ++ left
-  pub wrote : after ≡ before ++ text params h (whole_part taken)
+  pub wrote : after ≡ before ++ text (whole_part taken)
 
 -- the state after lines, from this history on
 abbrev pub state_by : Params → History → List (List ℕ) → State

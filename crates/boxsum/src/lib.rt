@@ -23,6 +23,9 @@ mod great_tests;
 #[cfg(test)]
 mod hostile_tests;
 mod index;
+mod report;
+#[cfg(test)]
+mod report_tests;
 mod running;
 mod sample;
 #[cfg(test)]

@@ -12,6 +12,7 @@ ghost use Rattle.boxsum.specs.Ran.{AnswersFromNothing, Carried, Compacts, HasCau
 use crate::compaction::compact_on;
 use crate::export::export_on;
 use crate::index::Index;
+use crate::report::report_on;
 use crate::sample::sample_on;
 use crate::status::{Ran, RanTwo, Status};
 use bw_types::Params;
@@ -30,9 +31,9 @@ use warehouse::ListHouse;
 ///
 /// `create` makes an empty warehouse on the disk. `run` opens the warehouse there and answers the rows of the
 /// source; `scratch` answers them over a history in memory, which begins empty. `sample` makes a warehouse, loads rows that are
-/// drawn, and writes a summary. `export` prints the rows that rebuild the history of the warehouse on the disk. What `run` and
-/// `scratch` write is the text that the definitions give for all the bytes that the source has left, cut in whatever pieces; where the
-/// run ends early it is a part of that text, from its beginning. The disk goes in by value, and comes back at every end. `compact`
+/// drawn, and writes a summary. `report` answers the grids that the lines of the source ask for. `export` prints the rows that rebuild the
+/// history of the warehouse on the disk. What `run`, `scratch` and `report` write is the text that the definitions give for all the bytes
+/// that the source has left, cut in whatever pieces; where the run ends early it is a part of that text, from its beginning. The disk goes in by value, and comes back at every end. `compact`
 /// needs two disks: here it is no command.
 ///
 /// What the words ask for, what each command leaves, and with which statuses it may end, is the record `Carried` of specs/Ran.antt.
@@ -56,6 +57,7 @@ pub fn run<D: Disk + Drop, S: Source, K: Sink>(
         Ok(Command::Sample { start, count }) => {
             sample_on::<Index, D, K>(alloc, disk, start, count, sink)
         }
+        Ok(Command::Report) => report_on::<Index, D, S, K>(alloc, disk, source, sink),
         Ok(Command::Export) => export_on::<Index, D, K>(alloc, disk, sink),
         Ok(_) | Err(WordsFault::Usage) => Ran {
             status: Status::Usage,

@@ -217,7 +217,7 @@ pub(crate) fn words_of(alloc: Global, words: &str) -> Result<Vec<String>, Fail> 
 
 // Runs the words over a disk, on an input that comes in pieces and may fail at a take, with a sink that may fail at a
 // put, both counted from 1. What is written is left in the sink.
-fn run_pieces<D: Disk + Drop>(
+pub(crate) fn run_pieces<D: Disk + Drop>(
     alloc: Global,
     words: &str,
     input: &[u8],
@@ -500,7 +500,7 @@ fn many_objects_at_one_point(rt: HostRuntime) -> Result<(), Fail> {
 #[test]
 fn texts_of_statuses(rt: HostRuntime) -> Result<(), Fail> {
     let usage =
-        "usage: boxsum create D [--degree G] [--events N] [--pages N] [--signed S], run, scratch D [--degree G] [--events N] [--signed S], sample START COUNT, export, compact V";
+        "usage: boxsum create D [--degree G] [--events N] [--pages N] [--signed S], run, scratch D [--degree G] [--events N] [--signed S], sample START COUNT, report, export, compact V";
     let texts = [
         (Status::Usage, 2, usage),
         (Status::NoWarehouse, 3, "no warehouse here"),

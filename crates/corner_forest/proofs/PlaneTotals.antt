@@ -8,13 +8,14 @@ use Rattle.bw_types.specs.Residues.{residue}
 use Rattle.bw_types.specs.declared.params.Params.{Params}
 use Rattle.bw_types.specs.declared.point.Point.{Point}
 use Rattle.bw_types.specs.declared.query.Query.{Query}
+use Rattle.page_layout.specs.Three.{three-is}
 use Rattle.box_corners.specs.Corners.{integral_corner}
 use Rattle.box_corners.specs.Subsets.{residue_signed_by}
 use Rattle.box_corners.specs.Sums.{residue_sum_below}
 use Rattle.box_corners.specs.SumLaws.{sum_below_of_equal}
 use Rattle.poly_moments.specs.Integrals.{query_corner}
 use Rattle.poly_moments.specs.Planes.{plane_count, planes_value}
-use Rattle.poly_moments.specs.PlaneSums.{Entered, EnteredFits, IntegralByPlanes, integral_at, plane_points, summed_planes}
+use Rattle.poly_moments.specs.PlaneSums.{BelowByPlanes, Entered, EnteredFits, IntegralByPlanes, entered_below, integral_at, plane_points, summed_planes}
 use Rattle.corner_forest.specs.Corners.{planes_at}
 use Rattle.corner_forest.specs.Entries.{corner_count, root_points}
 use Rattle.corner_forest.proofs.Newness.{length_root}
@@ -41,6 +42,18 @@ integral_by_corners law params q version es total n range degree fits all is_n i
     let same : (k : ℕ) → k < corner_count params → f k ≡ h k = λ k lt.
     ap (λ (planes : List ℕ). residue_signed_by k (residue (planes_value params planes (query_corner q k)))) (planes_summed params q version es k) in
     is_total ∙ ap (λ (m : ℕ). residue_sum_below m f) is_n ∙ sum_below_of_equal (corner_count params) f h same ∙ law params q version es range degree fits all
+
+-- At the subset of no dimension the corner is the high one.
+high_corner : (q : Query) → length q.high ≡ 3 → query_corner q 0 ≡ q.high
+high_corner q three = three-is q.high three
+
+pub below_by_corner : BelowByPlanes → (params : Params) (q : Query) (version : ℕ) (es : List Entered) (value : ℕ) → IsInRange params → IsSome params.degree
+    → All (EnteredFits params) es → length q.high ≡ 3
+    → value ≡ residue (planes_value params (planes_at params (root_points params es) (integral_corner params.dims q 0) version) (query_corner q 0))
+    → value ≡ residue (entered_below params q.high version es)
+below_by_corner law params q version es value range degree all three is_value =
+    is_value ∙ ap (λ (planes : List ℕ). residue (planes_value params planes (query_corner q 0))) (planes_summed params q version es 0) ∙ law params q version es 0 range degree all
+    ∙ ap (λ (corner : List ℕ). residue (entered_below params corner version es)) (high_corner q three)
 
 pub planed_count : (params : Params) (es : List Entered) (plane : ℕ) → plane < plane_count params → length (root_points params es (corner_count params + plane)) ≡ length es * corner_count params
 planed_count params es plane lt =

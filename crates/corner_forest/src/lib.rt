@@ -25,4 +25,4 @@ pub use batch::enter;
 pub use entry::Entry;
 pub use forest::Forest;
 pub use meet::{count, met, sum};
-pub use planes::integral;
+pub use planes::{below, integral};

@@ -1,4 +1,4 @@
-//! Integrals over a query box.
+//! Integrals over a query box, and below a corner.
 ghost use Rattle.std.specs.Prelude.{◌≡◌, ◌≢◌, ◌+◌, ◌*◌, ◌^◌, ◌<◌, ◌≤◌, ◌≤ℤ◌, ◌<ℤ◌, ℕ, true, List, length, pos, neg_ℤ, Err, IsTrue, IsSome, IfOk};
 ghost use Rattle.bw_types.specs.Fits.{IsInRange, ends_fit};
 ghost use Rattle.bw_types.specs.Residues.{residue, signed_of};
@@ -7,9 +7,9 @@ ghost use Rattle.page_ports.specs.Calls.{OnlyReads};
 ghost use Rattle.box_corners.specs.Corners.{integral_corner as corner_of_integral, query_end as end_of_query};
 ghost use Rattle.poly_moments.specs.Integrals.{query_corner as corner_of_query};
 ghost use Rattle.poly_moments.specs.Planes.{plane_count, planes_value};
-ghost use Rattle.poly_moments.specs.PlaneSums.{Entered, integral_at};
+ghost use Rattle.poly_moments.specs.PlaneSums.{Entered, entered_below, integral_at};
 ghost use Rattle.dom_index.specs.Points.{AreKeysBelow};
-ghost use Rattle.corner_forest.specs.Corners.{planes_at};
+ghost use Rattle.corner_forest.specs.Corners.{keys_below, planes_at};
 ghost use Rattle.corner_forest.specs.Damage.{IsDamagedForIntegral, IsDamagedInPlanes};
 ghost use Rattle.corner_forest.specs.Entries.{corner_count as count_of_corners, root_count};
 ghost use Rattle.corner_forest.specs.Stands.{AreBalanced, ForestStands};
@@ -19,10 +19,10 @@ use crate::forest::{Forest, corner_count};
 use arrayvec::ArrayVec;
 use box_corners::{integral_corner, sign};
 use bw_types::residue_laws::residues_are_signed;
-use bw_types::{Query, res_add, res_signed};
+use bw_types::{Kind, Query, res_add, res_signed};
 use dom_index::DomIndex;
 use page_ports::{PageFault, Pages};
-use poly_moments::integrals::integral_by_planes;
+use poly_moments::integrals::{below_by_planes, integral_by_planes};
 use poly_moments::{eval, plane_count};
 
 /// The total at a version of the integrals of the entries' value functions over their common parts with the query,
@@ -67,6 +67,44 @@ pub fn integral<X: DomIndex, P: Pages>(
         total = res_add(total, sign(subset, value));
     }
     Ok(res_signed(total))
+}
+
+/// The total at a version of the integrals of the entries' value functions over the parts of their boxes below a corner of stored numbers,
+/// times 6 for each dimension, modulo `2^128`.
+///
+/// The forest has a degree, and the corner's numbers are in range; what holds of `sum` holds of it.
+pub fn below<X: DomIndex, P: Pages>(
+    pages: &mut P,
+    forest: &Forest,
+    at: &[u32; 3],
+    version: u32,
+) -> Result<u128, PageFault>
+    requires in_range { IsInRange forest.now.params }
+    requires dims { forest.now.params.dims ≤ X.DIMS }
+    requires degree { IsSome forest.now.params.degree }
+    requires roots { length forest.now.roots.items ≡ root_count forest.now.params }
+    requires at { ends_fit forest.now.params at.now at.now ≡ true }
+    ensures below { IfOk result (λ value. IsTrue (P.tells pages.old) → (entries : List Entered)
+        → ForestStands X.DomIndex (P.map pages.old) forest.now.params forest.now.roots.items entries
+        → value ≡ residue (entered_below forest.now.params at.now version entries)) }
+    ensures damaged { (page : ℕ) → result ≡ Err (PageFault.Damaged page) → IsTrue (P.tells pages.old)
+        → IsDamagedInPlanes X.DomIndex (P.map pages.old) forest.now.params forest.now.roots.items (keys_below forest.now.params at.now) version page }
+    ensures sound { (entries : List Entered) (page : ℕ) → IsTrue (P.tells pages.old)
+        → ForestStands X.DomIndex (P.map pages.old) forest.now.params forest.now.roots.items entries → result ≢ Err (PageFault.Damaged page) }
+    ensures reads { OnlyReads P.Pages (P.gets pages.new) pages.old pages.new result }
+    ensures cost { IsTrue (P.tells pages.old) → (entries : List Entered)
+        → ForestStands X.DomIndex (P.map pages.old) forest.now.params forest.now.roots.items entries
+        → AreBalanced X.DomIndex (P.map pages.old) forest.now.params forest.now.roots.items
+        → P.gets pages.new ≤ P.gets pages.old
+        + plane_count forest.now.params * X.cost forest.now.params.dims (length entries * count_of_corners forest.now.params) }
+{
+    below_by_planes();
+    let query = Query {
+        kind: Kind::Integral,
+        low: *at,
+        high: *at,
+    };
+    value_at::<X, P>(pages, forest, &query, version, 0)
 }
 
 // The value, at the query's corner of the subset, of the polynomial whose coefficients are the planes' sums there.

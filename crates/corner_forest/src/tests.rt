@@ -6,7 +6,7 @@ ghost use Rattle.corner_forest.specs.Enters.{CanEnter};
 ghost use Rattle.corner_forest.specs.Entries.{root_count as count_of_roots};
 
 use crate::forest::root_count;
-use crate::{Entry, Forest, count, enter, integral, sum};
+use crate::{Entry, Forest, below, count, enter, integral, sum};
 use bw_types::{Kind, Object, Params, Query, object_fits, query_fits};
 use dom_index::PointList;
 use page_ports::{MemStage, Stage, StageFault};
@@ -189,6 +189,52 @@ fn integrals_of_powers(rt: HostRuntime) -> Result<(), Fail> {
     assert!(rt; put(&mut plane, &product, false, 1));
     let part = query_of(Kind::Integral, [1, 0, 0], [2, 1, 0]);
     assert_eq!(rt; ask(&mut plane, &part, 1), Some(27));
+    Ok(())
+}
+
+// What is below a corner, modulo 2^128.
+fn ask_below(entered: &mut Entered, at: [u32; 3], version: u32) -> Option<u128> {
+    let point = Query {
+        kind: Kind::Integral,
+        low: at,
+        high: at,
+    };
+    if !is_sound(&entered.forest) || !query_fits(&point, &entered.forest.params) {
+        return None;
+    }
+    below::<PointList, MemStage>(&mut entered.stage, &entered.forest, &at, version).ok()
+}
+
+// The integral over a box of two dimensions, by what is below its four corners.
+fn by_corners(entered: &mut Entered, query: &Query, version: u32) -> Option<i128> {
+    let (low, high) = (query.low, query.high);
+    let whole = ask_below(entered, high, version)?;
+    let left = ask_below(entered, [low[0], high[1], 0], version)?;
+    let under = ask_below(entered, [high[0], low[1], 0], version)?;
+    let both = ask_below(entered, low, version)?;
+    let total = whole
+        .wrapping_sub(left)
+        .wrapping_sub(under)
+        .wrapping_add(both);
+    Some(total.cast_signed())
+}
+
+#[test]
+fn integrals_by_corners(rt: HostRuntime) -> Result<(), Fail> {
+    let mut plane = empty(rt.alloc(), &params_of(2, Some(1)));
+    let mut product = object_of([0, 0, 0], [2, 2, 0], 1);
+    product.coeffs[3] = 1;
+    let mut constant = object_of([0, 0, 0], [4, 4, 0], 1);
+    constant.coeffs[0] = -1;
+    assert!(rt; put(&mut plane, &product, false, 1));
+    assert!(rt; put(&mut plane, &constant, false, 2));
+    let part = query_of(Kind::Integral, [1, 1, 0], [3, 3, 0]);
+    assert_eq!(rt; ask_below(&mut plane, [3, 3, 0], 1), Some(144));
+    assert_eq!(rt; by_corners(&mut plane, &part, 1), Some(81));
+    assert_eq!(rt; ask(&mut plane, &part, 1), Some(81));
+    assert_eq!(rt; ask_below(&mut plane, [3, 3, 0], 2), Some(u128::MAX - 179));
+    assert_eq!(rt; by_corners(&mut plane, &part, 2), Some(-63));
+    assert_eq!(rt; ask(&mut plane, &part, 2), Some(-63));
     Ok(())
 }
 

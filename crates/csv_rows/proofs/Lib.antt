@@ -3,5 +3,5 @@ mod PlainLines
 mod QuotedParts
 mod CsvReads
 mod FeedLemmas
-mod GivenValues
+pub mod GivenValues
 mod LineEnds

@@ -138,6 +138,10 @@ row_of params fields =
 abbrev pub longest_line : ℕ
 longest_line = 4096
 
+-- the fields of a line that is no longer than a line may be
+abbrev pub fields_of_line : List ℕ → Option (List (List ℕ))
+fields_of_line line = if nat_le (length line) longest_line then line_fields line else None
+
 -- what a line spells, or None where it is bad
 abbrev pub input : Params → List ℕ → Option Input
 input params line = if nat_le (length line) longest_line then given (line_fields line) (row_of params) else None

@@ -2,7 +2,7 @@
 
 ghost use Rattle.std.specs.Prelude.{◌≡◌, ◌<◌, ◌≤◌, IfOk, IfSome, IsTrue, length};
 ghost use Rattle.bw_types.specs.Fits.{IsInRange, object_fits as fits_object};
-ghost use Rattle.csv_rows.specs.Input.{InputFits, asked as asked_of, input, object_of as object_at, row_of as row_in, session_alone, session_and_object, staged_object, staged_withdrawal};
+ghost use Rattle.csv_rows.specs.Input.{InputFits, asked as asked_of, fields_of_line, input, object_of as object_at, row_of as row_in, session_alone, session_and_object, staged_object, staged_withdrawal};
 ghost use Rattle.bw_types.specs.declared.params.Params.{Params as Bounds};
 ghost use Rattle.bw_types.specs.declared.row.Row.TheVariants as row;
 
@@ -168,13 +168,30 @@ impl RowReader {
         ensures long { 4096 < length line.now → result ≡ Ok None }
         ensures fits { IfOk result (λ read. IfSome read (InputFits params.now)) }
     {
-        if line.len() > LONGEST_LINE {
-            return Ok(None);
-        }
-        match cut(self, alloc, line, ahead)? {
+        match self.read_fields(alloc, line, ahead)? {
             None => Ok(None),
             Some(fields) => Ok(row_of(params, &fields)),
         }
+    }
+
+    /// Cuts a line into its fields. None exactly where it has none: where it is longer than 4096 bytes, holds a carriage return or a line
+    /// feed, or has a field that is not quoted as a whole.
+    ///
+    /// What stands in `ahead` changes no answer, as in [`RowReader::read_row`].
+    pub fn read_fields(
+        &mut self,
+        alloc: Global,
+        line: &[u8],
+        ahead: &[u8],
+    ) -> Result<Option<Fields>, NoMemory>
+        ensures fields { IfOk result (λ read. read ≡ fields_of_line line.now) }
+        // A line that is too long takes no memory.
+        ensures long { 4096 < length line.now → result ≡ Ok None }
+    {
+        if line.len() > LONGEST_LINE {
+            return Ok(None);
+        }
+        cut(self, alloc, line, ahead)
     }
 }
 

@@ -1,5 +1,5 @@
 -- What holds of a house holds of it as it is now, if it is as before.
-use Rattle.std.proofs.Common.{◌≡◌, ℕ, true, List, None, refl, sym, ◌∙◌, ap, subst, IsPermutation}
+use Rattle.std.proofs.Common.{◌≡◌, ℕ, true, List, [], refl, sym, ◌∙◌, ap, subst, IsPermutation}
 use Rattle.std.proofs.lemmas.List.Sorted.{IsPermutation-sym, IsPermutation-trans}
 use Rattle.bw_types.specs.History.{History}
 use Rattle.bw_types.specs.Lives.{lives}
@@ -8,7 +8,7 @@ use Rattle.bw_types.specs.declared.params.Params.{Params}
 use Rattle.page_disk.specs.Image.{Image}
 use Rattle.page_disk.specs.declared.disk.Disk.{Ghosts}
 use Rattle.dom_index.specs.declared.index.DomIndex.{Ghosts as IndexGhosts}
-use Rattle.object_table.specs.Lives.{first_from}
+use Rattle.object_table.specs.Lives.{AreNext}
 use Rattle.warehouse.specs.Left.{IsAsBefore}
 use Rattle.page_warehouse.specs.Shown.{HasNewForm, HoldsHistory, disk_charge, disk_in, params_in}
 use Rattle.page_warehouse.specs.Table.{IsTableOf, KeepsLives, TablesKeepLives}
@@ -41,13 +41,13 @@ module _ {D X : Type 0} (d : Ghosts D) (g : IndexGhosts X) where
       (subst (λ (x : Image). KeepsLives g x (params_in old) h kept) (sym stay.image) keeps)
 
   -- All lives were passed: these are the events.
-  pub all_passed : TablesKeepLives g → (house : Warehouse D X d g) (h : History) (k : ℕ) (events : List Event) → HoldsHistory d g true (disk_in house) (params_in house) h
+  pub all_passed : TablesKeepLives g → (house : Warehouse D X d g) (h : History) (k : ℕ) (events : List Event) (found : List Dated) → HoldsHistory d g true (disk_in house) (params_in house) h
       → ((kept : List Dated) → IsTableOf g (d.image (disk_in house)) (params_in house) h kept → events ≡ events_of_lives (lives_before k kept))
-      → ((kept : List Dated) → IsTableOf g (d.image (disk_in house)) (params_in house) h kept → first_from k kept ≡ None)
+      → ((kept : List Dated) → IsTableOf g (d.image (disk_in house)) (params_in house) h kept → AreNext found k kept) → found ≡ []
       → (kept : List Dated) × (IsPermutation kept (lives h)) × (events ≡ events_of_lives kept)
-  all_passed tables house h k events held so_far ends =
+  all_passed tables house h k events found held so_far next none =
       let table = tables (d.image (disk_in house)) (params_in house) h held.1 in
-      (table.0, table.1.all, so_far table.0 table.1 ∙ ap events_of_lives (walk_ends k table.0 (ends table.0 table.1)))
+      (table.0, table.1.all, so_far table.0 table.1 ∙ ap events_of_lives (walk_ends k table.0 found table.1.ascend (next table.0 table.1) none))
 
 -- the events of all lives, in any order
 pub events_all : (h : History) (kept : List Dated) (events sorted : List Event) → IsPermutation kept (lives h) → events ≡ events_of_lives kept → IsPermutation events sorted

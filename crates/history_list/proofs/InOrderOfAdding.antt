@@ -1,5 +1,5 @@
 -- The lives of a history, in order of their add events, are its lives.
-use Rattle.std.proofs.Common.{◌≡◌, ℕ, zero, suc, ◌+◌, List, [], ◌∷◌, ◌++◌, get_or, map, refl, sym, ◌∙◌, ap, subst, arith, IsPermutation, Some, Bool, true, if◌then◌else◌}
+use Rattle.std.proofs.Common.{◌≡◌, ℕ, zero, suc, ◌+◌, List, [], ◌∷◌, ◌++◌, get_or, map, refl, sym, ◌∙◌, ap, subst, arith, IsPermutation, Bool, true, if◌then◌else◌}
 use Rattle.std.proofs.lemmas.List.{length-map}
 use Rattle.std.proofs.lemmas.List.Sorted.{IsNonDecreasingBy-from_default, IsNonDecreasingBy-short, IsPermutation-map, IsPermutation-sym, IsPermutation-trans, length_permutation}
 use Rattle.std.specs.List.Sorted.{IsNonDecreasingBy}
@@ -9,7 +9,7 @@ use Rattle.bw_types.specs.declared.change.Change.TheVariants as change
 use Rattle.bw_types.specs.declared.dated.Dated.{Dated}
 use Rattle.bw_types.specs.declared.object.Object.{Object}
 use Rattle.object_table.specs.Laws.{Ascend}
-use Rattle.object_table.specs.Lives.{first_from}
+use Rattle.object_table.specs.Lives.{AreNext}
 use Rattle.object_table.specs.Keys.{key}
 use Rattle.told_history.proofs.Batches.{events_rise}
 use Rattle.told_history.proofs.InOrder.{From, Rising, in_order_is}
@@ -20,10 +20,11 @@ use Rattle.history_list.proofs.Walked.{lives_before, walk_on}
 pub pushed : {X : Type 0} (b : Bool) (x l m : X) → b ≡ true → x ≡ (if b then l else m) → x ≡ l
 pushed b x l m so is = is ∙ ap (λ (c : Bool). if c then l else m) so
 
--- a walk goes on by one life
-pub life_on : (found more : List Dated) (k : ℕ) (ds : List Dated) (d : Dated) → Ascend ds → first_from k ds ≡ Some d → found ≡ lives_before k ds
-    → more ≡ found ++ d ∷ [] → more ≡ lives_before (key d + 1) ds
-life_on found more k ds d asc is so_far pushed = pushed ∙ (ap (λ (l : List Dated). l ++ d ∷ []) so_far ∙ sym (walk_on k ds d asc is))
+-- a walk goes on by the lives that are next
+pub lives_on : (found more : List Dated) (k : ℕ) (ds leaf row front : List Dated) (last : Dated) → Ascend ds → AreNext leaf k ds → leaf ≡ front ++ last ∷ [] → found ≡ lives_before k ds
+    → row ≡ leaf → more ≡ found ++ row → more ≡ lives_before (key last + 1) ds
+lives_on found more k ds leaf row front last asc next is so_far same pushed =
+    pushed ∙ ap (λ (l : List Dated). l ++ row) so_far ∙ ap (λ (l : List Dated). lives_before k ds ++ l) same ∙ sym (walk_on k ds leaf front last asc next is)
 
 -- A life as a change that is numbered by its add event. One of its numbers stands for the version.
 module _ (part : Dated → ℕ) where

@@ -76,12 +76,26 @@ pub fn gather<D: Disk, X: DomIndex>(
     lives_name_changes();
     let mut events = Vec::new(alloc);
     let mut after = None;
-    while let Some(dated) = house.walk(after)? {
-        push_events(&mut events, &dated)?;
-        after = Some((dated.object.id, dated.life));
+    loop {
+        let leaf = house.walk_leaf(after)?;
+        let Some(last) = leaf.as_slice().last().copied() else {
+            break;
+        };
+        after = Some((last.object.id, last.life));
+        push_all(&mut events, leaf.as_slice())?;
     }
     events.sort_unstable_by_key(|event| event.event);
     Ok(events)
+}
+
+// Puts the events of these lives behind the events, one life after the other.
+fn push_all(events: &mut Vec<Event>, lives: &[Dated]) -> Result<(), AllocError>
+    ensures { OnOk result (events.new.items ≡ events.old.items ++ events_of_lives lives.now) }
+{
+    for dated in lives {
+        push_events(events, dated)?;
+    }
+    Ok(())
 }
 
 // Puts the add of a life behind the events, and then its withdrawal where it has one.

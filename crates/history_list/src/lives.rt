@@ -34,12 +34,13 @@ pub fn gather_lives<D: Disk, X: DomIndex>(
     tables_keep_lives::<X>();
     let mut found = Vec::new(alloc);
     let mut after = None;
-    while let Some(dated) = house.walk(after)? {
-        match found.push(dated) {
-            Ok(()) => {}
-            Err(_) => return Err(GatherFault::NoMemory),
-        }
-        after = Some((dated.object.id, dated.life));
+    loop {
+        let leaf = house.walk_leaf(after)?;
+        let Some(last) = leaf.as_slice().last().copied() else {
+            break;
+        };
+        after = Some((last.object.id, last.life));
+        found.extend_from_slice(leaf.as_slice())?;
     }
     found.sort_unstable_by_key(|dated| dated.add_event);
     Ok(found)

@@ -17,6 +17,7 @@ pub mod LastLives
 pub mod LastOnes
 pub mod Low
 pub mod MarkSteps
+pub mod Nexts
 pub mod Nodes
 pub mod Onward
 pub mod Order

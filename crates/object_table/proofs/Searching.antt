@@ -1,14 +1,11 @@
 -- Searches through lists of objects.
-use Rattle.std.proofs.Common.{◌≡◌, ℕ, suc, ◌+◌, ◌<◌, ◌≤◌, ◌==◌, nat_le, true, false, List, [], ◌∷◌, ◌++◌, length, get_or, take, Option, Some, None, refl, sym, ap, ◌∙◌, arith, reverse, drop, drop-cons}
+use Rattle.std.proofs.Common.{◌≡◌, ℕ, suc, ◌==◌, true, false, List, [], ◌∷◌, ◌++◌, Option, Some, None, refl, sym, ap, ◌∙◌, arith, reverse}
 use Rattle.std.specs.List.{All, find}
 use Rattle.std.specs.Option.{option_or}
-use Rattle.std.proofs.lemmas.Bool.{lt-leb, le-leb}
-use Rattle.std.proofs.lemmas.List.{reverse-append, take_more, take-append-drop}
-use Rattle.std.proofs.lemmas.List.Elements.{All-cons, All-nil}
+use Rattle.std.proofs.lemmas.List.{reverse-append}
 use Rattle.std.proofs.lemmas.List.Folds.{find-append}
 use Rattle.bw_types.specs.declared.dated.Dated.{Dated}
-use Rattle.object_table.specs.Keys.{key}
-use Rattle.object_table.specs.Lives.{last_life, first_from}
+use Rattle.object_table.specs.Lives.{last_life}
 
 pub All-head : {X : Type 0} (P : X → Type 0) (x : X) (xs : List X) → All P (x ∷ xs) → P x
 All-head P x xs all = all 0 x (omega arith)
@@ -46,31 +43,3 @@ last_life-none id (d ∷ ds) all =
     last_life-append id (d ∷ []) ds
     ∙ ap (λ (o : Option Dated). option_or o (last_life id (d ∷ []))) (last_life-none id ds (All-tail (λ (d : Dated). (d.object.id == id) ≡ false) d ds all))
     ∙ last_life-other id d (All-head (λ (d : Dated). (d.object.id == id) ≡ false) d ds all)
-
-pub first_from-append : (least : ℕ) (xs ys : List Dated) → first_from least (xs ++ ys) ≡ option_or (first_from least xs) (first_from least ys)
-first_from-append least xs ys = find-append (λ (d : Dated). nat_le least (key d)) xs ys
-
-pub first_from-none : (least : ℕ) (ds : List Dated) → All (λ d. key d < least) ds → first_from least ds ≡ None
-first_from-none least [] all = refl
-first_from-none least (d ∷ ds) all =
-    let here : nat_le least (key d) ≡ false = lt-leb least (key d) (All-head (λ (d : Dated). key d < least) d ds all) in
-    rw here (first_from-none least ds (All-tail (λ (d : Dated). key d < least) d ds all))
-
-pub first_from-first : (least : ℕ) (d : Dated) (ds : List Dated) → least ≤ key d → first_from least (d ∷ ds) ≡ Some d
-first_from-first least d ds from =
-    let here : nat_le least (key d) ≡ true = le-leb least (key d) from in
-    rw here refl
-
-pub first_from-more : (least : ℕ) (ds : List Dated) (i : ℕ) (e : Dated) → i < length ds → first_from least (take i ds) ≡ None → key (get_or ds i e) < least
-    → first_from least (take (i + 1) ds) ≡ None
-first_from-more least ds i e h none below =
-    let one : first_from least (get_or ds i e ∷ []) ≡ None = first_from-none least (get_or ds i e ∷ []) (All-cons (λ (d : Dated). key d < least) (get_or ds i e) [] below (All-nil (λ (d : Dated). key d < least))) in
-    ap (first_from least) (take_more ds i e h) ∙ first_from-append least (take i ds) (get_or ds i e ∷ [])
-    ∙ ap (λ (o : Option Dated). option_or o (first_from least (get_or ds i e ∷ []))) none ∙ one
-
-pub first_from-at : (least : ℕ) (ds : List Dated) (i : ℕ) (e : Dated) → i < length ds → first_from least (take i ds) ≡ None → least ≤ key (get_or ds i e)
-    → first_from least ds ≡ Some (get_or ds i e)
-first_from-at least ds i e h none from =
-    let whole : ds ≡ take i ds ++ (get_or ds i e ∷ drop (suc i) ds) = sym (take-append-drop i ds) ∙ ap (λ (xs : List Dated). take i ds ++ xs) (drop-cons ds i e h) in
-    ap (first_from least) whole ∙ first_from-append least (take i ds) (get_or ds i e ∷ drop (suc i) ds)
-    ∙ ap (λ (o : Option Dated). option_or o (first_from least (get_or ds i e ∷ drop (suc i) ds))) none ∙ first_from-first least (get_or ds i e) (drop (suc i) ds) from

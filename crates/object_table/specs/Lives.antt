@@ -1,6 +1,6 @@
 -- What an object table keeps, as the pages of the map tell it.
-use Rattle.std.specs.Prelude.{ℕ, zero, suc, ◌==◌, nat_le, List, [], ◌∷◌, reverse, Option, Some, None, ◌+◌}
-use Rattle.std.specs.List.{flat_map, find}
+use Rattle.std.specs.Prelude.{◌≡◌, ℕ, zero, suc, ◌==◌, nat_le, List, [], ◌∷◌, ◌++◌, reverse, Option, Some, None, ◌+◌}
+use Rattle.std.specs.List.{flat_map, filter, find}
 use Rattle.bw_types.specs.declared.dated.Dated.{Dated}
 use Rattle.bw_types.specs.declared.tree.Tree.{Tree}
 use Rattle.page_ports.specs.Pages.{PageMap}
@@ -35,6 +35,16 @@ last_life id lives = find (λ d. d.object.id == id) (reverse lives)
 -- the first object of which the key is at least so great
 abbrev pub first_from : ℕ → List Dated → Option Dated
 first_from least lives = find (λ d. nat_le least (key d)) lives
+
+-- the objects of which the key is at least so great
+abbrev pub lives_from : ℕ → List Dated → List Dated
+lives_from least lives = filter (λ d. nat_le least (key d)) lives
+
+-- These are the first of the objects from a key on: some, unless there are none.
+pub record AreNext (found : List Dated) (least : ℕ) (lives : List Dated) : Type 0 where
+  pub later : List Dated
+  pub cut : lives_from least lives ≡ found ++ later
+  pub some : found ≡ [] → later ≡ []
 
 -- the least key that comes after an id and a life, or the least of all
 abbrev pub from_life : Option (ℕ × ℕ) → ℕ

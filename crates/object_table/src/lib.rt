@@ -35,4 +35,4 @@ pub use form::Form;
 pub use freeing::free_old;
 pub use laws::{last_life_laws, table_laws};
 pub use marking::mark_withdrawn;
-pub use walking::{walk, walk_old};
+pub use walking::{walk, walk_leaf, walk_old};

@@ -1,5 +1,5 @@
 //! Tables in memory, of pages that the tests write.
-use crate::{find, find_old, free_old, walk, walk_old};
+use crate::{find, find_old, free_old, walk, walk_leaf, walk_old};
 use arrayvec::ArrayVec;
 use bw_types::{Dated, Object, Tree};
 use page_access::make_page;
@@ -91,6 +91,37 @@ fn walks(stage: &mut MemStage, table: &Tree, count: u64) -> Result<bool, PageFau
     Ok(walk(stage, table, after)?.is_none())
 }
 
+// Whether a walk leaf by leaf gives the first lives of these ids, and no more.
+fn walks_by_leaves(stage: &mut MemStage, table: &Tree, count: u64) -> Result<bool, PageFault> {
+    let mut after = None;
+    let mut next = 0;
+    for _ in 0..=count {
+        let found = walk_leaf(stage, table, after)?;
+        if found.is_empty() {
+            return Ok(next == count);
+        }
+        for life in found.as_slice() {
+            if next >= count || *life != dated(next, 1, false) {
+                return Ok(false);
+            }
+            after = Some((next, 1));
+            next += 1;
+        }
+    }
+    Ok(false)
+}
+
+// The first lives of these ids, as many as a leaf takes.
+fn first_lives(from: u64, to: u64) -> ArrayVec<Dated, 14> {
+    let mut lives = ArrayVec::new();
+    for id in from..to {
+        if !lives.is_full() {
+            lives.push(dated(id, 1, false));
+        }
+    }
+    lives
+}
+
 #[test]
 fn sixteen_objects(rt: HostRuntime) -> Result<(), Fail> {
     let mut stage = MemStage::new(rt.alloc(), 10);
@@ -104,6 +135,34 @@ fn sixteen_objects(rt: HostRuntime) -> Result<(), Fail> {
     }
     assert_eq!(rt; find(&mut stage, &table, 16), Ok(None));
     assert_eq!(rt; find(&mut stage, &table, u64::MAX), Ok(None));
+    Ok(())
+}
+
+#[test]
+fn leaf_by_leaf(rt: HostRuntime) -> Result<(), Fail> {
+    let mut stage = MemStage::new(rt.alloc(), 10);
+    let first = leaf(&mut stage, 0, 7)?;
+    let second = leaf(&mut stage, 7, 21)?;
+    let root = index(&mut stage, first, (7, 1), second)?;
+    let table = table_of(root, 2, 21);
+    assert!(rt; walks_by_leaves(&mut stage, &table, 21)?);
+    assert_eq!(rt; walk_leaf(&mut stage, &table, None), Ok(first_lives(0, 7)));
+    // From the middle of a leaf on there is the rest of it, and from its end on the next leaf.
+    assert_eq!(rt;
+        walk_leaf(&mut stage, &table, Some((3, 1))),
+        Ok(first_lives(4, 7))
+    );
+    assert_eq!(rt;
+        walk_leaf(&mut stage, &table, Some((6, 1))),
+        Ok(first_lives(7, 21))
+    );
+    assert_eq!(rt;
+        walk_leaf(&mut stage, &table, Some((20, 1))),
+        Ok(first_lives(0, 0))
+    );
+    // A table without pages.
+    let empty = table_of(0, 0, 0);
+    assert_eq!(rt; walk_leaf(&mut stage, &empty, None), Ok(first_lives(0, 0)));
     Ok(())
 }
 
@@ -214,6 +273,10 @@ fn damage_is_found(rt: HostRuntime) -> Result<(), Fail> {
     assert_eq!(rt; find(&mut stage, &table, 8), Err(PageFault::Damaged(first)));
     assert_eq!(rt;
         walk(&mut stage, &table, Some((6, 1))),
+        Err(PageFault::Damaged(first))
+    );
+    assert_eq!(rt;
+        walk_leaf(&mut stage, &table, Some((6, 1))),
         Err(PageFault::Damaged(first))
     );
     // A root of another level, and a page that is missing.

@@ -1,18 +1,24 @@
 -- A query of the trees that a space has.
-use Rattle.std.proofs.Common.{◌≡◌, ℕ, ◌+◌, ◌≤◌, true, false, Bool, IsTrue, List, length, Result, Ok, Err, IfOk, ℤ, sym, ◌∙◌, ap, subst}
+use Rattle.std.proofs.Common.{◌≡◌, ℕ, ◌+◌, ◌*◌, ◌≤◌, true, false, Bool, IsTrue, List, length, Result, Ok, Err, IfOk, ℤ, sym, ◌∙◌, ap, subst}
 use Rattle.bw_types.specs.Answers.{answer, answer_of}
+use Rattle.bw_types.specs.Below.{below_at, integral_below}
 use Rattle.bw_types.specs.History.{History, changes}
+use Rattle.bw_types.specs.Residues.{residue}
 use Rattle.bw_types.specs.declared.params.Params.{Params}
 use Rattle.bw_types.specs.declared.query.Kind.{Kind}
 use Rattle.bw_types.specs.declared.query.Query.{Query}
 use Rattle.bw_types.specs.declared.tree.Tree.{Tree}
 use Rattle.page_ports.specs.Pages.{PageMap}
 use Rattle.dom_index.specs.declared.index.DomIndex.{Ghosts}
+use Rattle.corner_forest.specs.Entries.{corner_count}
 use Rattle.corner_forest.specs.Stands.{AreBalanced, ForestStands}
 use Rattle.corner_forest.specs.declared.forest.Forest.{Forest}
+use Rattle.history_entries.specs.Answers.{EntriesCountLive}
 use Rattle.history_entries.specs.Entries.{history_entries}
+use Rattle.poly_moments.specs.Planes.{plane_count}
+use Rattle.poly_moments.specs.PlaneSums.{entered_below}
 use Rattle.page_disk.specs.declared.disk.Disk.{Ghosts as DiskGhosts}
-use Rattle.page_warehouse.specs.Costs.{kind_cost, query_cost}
+use Rattle.page_warehouse.specs.Costs.{below_cost, kind_cost, query_cost}
 use Rattle.page_warehouse.specs.Holds.{Holds, HoldsTrees, TreesStand}
 use Rattle.page_warehouse.specs.Shown.{HoldsHistory}
 use Rattle.page_warehouse.proofs.Answered.{IsSmall}
@@ -54,6 +60,20 @@ module _ {X : Type 0} (g : Ghosts X) (params : Params) (map : PageMap) (roots : 
       subst (λ (k : Kind). after ≤ before + kind_cost cost params (length (changes h)) k) (sym is)
       (subst (λ (n : ℕ). after ≤ before + kind_cost cost params n kind) entries
       (subst (λ (p : Params). after ≤ before + kind_cost cost p (length (history_entries h)) kind) same most))
+
+  -- what is below a corner, from what the forest gives
+  pub below_given : EntriesCountLive → (h : History) (version : ℕ) (at : List ℕ) (value : ℕ)
+      → value ≡ residue (entered_below forest.params at version (history_entries h)) → value ≡ residue (below_at params h version at)
+  below_given live h version at value given =
+      subst (λ (p : Params). value ≡ residue (entered_below p at version (history_entries h))) same given ∙ ap residue (live (integral_below params at) h version)
+
+  -- what it reads
+  pub below_at_most : (cost : ℕ → ℕ → ℕ) (h : History) (before after : ℕ) → length (history_entries h) ≡ length (changes h)
+      → after ≤ before + plane_count forest.params * cost forest.params.dims (length (history_entries h) * corner_count forest.params)
+      → after ≤ before + below_cost cost params h
+  below_at_most cost h before after entries most =
+      subst (λ (n : ℕ). after ≤ before + plane_count params * cost params.dims (n * corner_count params)) entries
+      (subst (λ (p : Params). after ≤ before + plane_count p * cost p.dims (length (history_entries h) * corner_count p)) same most)
 
 module _ {D X : Type 0} (d : DiskGhosts D) (g : Ghosts X) where
   -- a disk that holds a history, whole or not, holds it as far as queries read

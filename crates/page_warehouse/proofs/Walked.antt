@@ -1,7 +1,8 @@
 -- A walk through the object table of a disk that holds a history.
-use Rattle.std.proofs.Common.{◌≡◌, ℕ, suc, ◌-◌, ◌^◌, ◌<◌, ◌≤◌, nat_le, Bool, ◌==◌, List, [], ◌∷◌, Option, Some, None, SomeIff, refl, sym, ◌∙◌, ap, subst, arith, inl, inr, if◌then◌else◌}
+use Rattle.std.proofs.Common.{◌≡◌, ℕ, suc, ◌-◌, ◌^◌, ◌<◌, ◌≤◌, nat_le, Bool, ◌==◌, List, [], ◌∷◌, ◌++◌, Option, Some, None, SomeIff, refl, sym, ◌∙◌, ap, subst, arith, inl, inr, if◌then◌else◌}
 use Rattle.std.proofs.lemmas.Bool.{cases_Bool, leb-false, leb-true, le-leb, ne_eqb}
 use Rattle.std.specs.List.{All}
+use Rattle.std.specs.Option.{option_to_list}
 use Rattle.bw_types.specs.History.{History}
 use Rattle.bw_types.specs.declared.dated.Dated.{Dated}
 use Rattle.bw_types.specs.declared.params.Params.{Params}
@@ -12,7 +13,7 @@ use Rattle.page_space.specs.Laws.{HoldsOne}
 use Rattle.page_space.specs.Space.{HoldsSpace}
 use Rattle.object_table.specs.Keys.{key}
 use Rattle.object_table.specs.Laws.{LivesAscend}
-use Rattle.object_table.specs.Lives.{first_from, from_id, from_life}
+use Rattle.object_table.specs.Lives.{AreNext, first_from, from_id, from_life, lives_from}
 use Rattle.object_table.specs.Stands.{TableStands}
 use Rattle.object_table.specs.declared.form.Form.{Form}
 use Rattle.object_table.specs.declared.form.Form.TheVariants.{ByIds, ByLives}
@@ -97,3 +98,16 @@ pub from_before : (id life : ℕ) (found : Option ℕ) (kept : List Dated) → l
 from_before id life None kept first_life none first = first_alike (from_id None) (from_life (Some (id, life))) kept (λ d one. (λ a. omega (arith, one, first_life, none), λ b. omega arith)) first
 from_before id life (Some before) kept first_life is first =
     first_alike (from_id (Some before)) (from_life (Some (id, life))) kept (λ d one. (λ a. omega (arith, one, first_life, is.0, is.1, a), λ b. omega (arith, one, first_life, is.0, is.1, b))) first
+
+-- The first life from a key on is next, alone.
+first_alone : (least : ℕ) (kept : List Dated) → (later : List Dated) × (lives_from least kept ≡ option_to_list (first_from least kept) ++ later) × (option_to_list (first_from least kept) ≡ [] → later ≡ [])
+first_alone least [] = ([], refl, λ none. refl)
+first_alone least (d ∷ kept) = elim (cases_Bool (nat_le least (key d))) [
+  | inl here ↦ rw here (lives_from least kept, refl, λ none. absurd cc)
+  | inr below ↦ rw below (first_alone least kept)
+]
+
+pub next_alone : (least : ℕ) (kept : List Dated) (found : Option Dated) (row : List Dated) → row ≡ option_to_list found → found ≡ first_from least kept → AreNext row least kept
+next_alone least kept found row alone is =
+    let begins = first_alone least kept in
+    subst (λ (ds : List Dated). AreNext ds least kept) (sym (alone ∙ ap option_to_list is)) (record { later = begins.0; cut = begins.1; some = begins.2 })

@@ -18,3 +18,7 @@ kind_cost cost params entries Integral = corner_count params * (plane_count para
 -- the most reads of a query on a history, from its adds and withdrawals, where a sum over trees of some dimensions and points has this cost
 abbrev pub query_cost : (ℕ → ℕ → ℕ) → Params → History → Query → ℕ
 query_cost cost params h q = kind_cost cost params (length (changes h)) q.kind
+
+-- the most reads of the integral below a corner: one sum a plane
+abbrev pub below_cost : (ℕ → ℕ → ℕ) → Params → History → ℕ
+below_cost cost params h = plane_count params * cost params.dims (length (changes h) * corner_count params)

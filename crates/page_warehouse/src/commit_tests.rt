@@ -33,7 +33,7 @@ const LINE: Params = Params {
     origin: 0,
 };
 
-const SIGNED_LINE: Params = Params {
+pub const SIGNED_LINE: Params = Params {
     dims: 1,
     degree: Some(2),
     events: 1000000,
@@ -59,7 +59,7 @@ const ROOM: Params = Params {
 
 // What became of a batch, without the house.
 #[derive(Clone, Copy, PartialEq, Eq, Debug)]
-enum Outcome {
+pub enum Outcome {
     // The rows are no batch of such a warehouse.
     Unfit,
     Done(u32),
@@ -89,7 +89,7 @@ fn rows_fit(params: &Params, rows: &[Row]) -> bool
 }
 
 // Commits the rows; the house comes back, or after a failure what lasts of it.
-fn put<H: House>(house: H, rows: &[Row]) -> (Result<H, H::Device>, Outcome) {
+pub fn put<H: House>(house: H, rows: &[Row]) -> (Result<H, H::Device>, Outcome) {
     if rows.len() > 4096 || !rows_fit(&house.params(), rows) {
         return (Ok(house), Outcome::Unfit);
     }
@@ -107,7 +107,7 @@ fn put<H: House>(house: H, rows: &[Row]) -> (Result<H, H::Device>, Outcome) {
 }
 
 // The house that came back, and what became of the batch; a failure of the device is one of the test.
-fn came_back<H, D: Drop>(ended: (Result<H, D>, Outcome)) -> Result<(H, Outcome), Failed> {
+pub fn came_back<H, D: Drop>(ended: (Result<H, D>, Outcome)) -> Result<(H, Outcome), Failed> {
     let (back, outcome) = ended;
     match back {
         Ok(house) => Ok((house, outcome)),
@@ -123,7 +123,7 @@ fn asked<H: House>(house: &mut H, query: &Query, version: u32) -> Option<Result<
 }
 
 // A disk with a new warehouse.
-fn made(alloc: Global, params: &Params) -> MemDisk
+pub fn made(alloc: Global, params: &Params) -> MemDisk
     requires { IsInRange params.now }
 {
     match create(MemDisk::blank(alloc), params) {
@@ -344,7 +344,7 @@ fn three_hundred_objects(rt: HostRuntime) -> Result<(), Fail> {
 }
 
 // An interval with these coefficients.
-fn interval(id: u64, low: u32, high: u32, weight: i64, coeffs: [i64; 3]) -> Object {
+pub fn interval(id: u64, low: u32, high: u32, weight: i64, coeffs: [i64; 3]) -> Object {
     let mut all = [0; 27];
     all[0] = coeffs[0];
     all[1] = coeffs[1];

@@ -1,18 +1,20 @@
 //! Queries, which read the trees alone.
-ghost use Rattle.std.specs.Prelude.{◌≡◌, ◌≢◌, ◌+◌, ◌<◌, ◌≤◌, ℕ, Bool, Ok, Err, IsTrue, IfOk};
+ghost use Rattle.std.specs.Prelude.{◌≡◌, ◌≢◌, ◌+◌, ◌<◌, ◌≤◌, ℕ, Bool, true, Ok, Err, IsSome, IsTrue, IfOk};
 ghost use Rattle.bw_types.specs.Answers.{answer};
-ghost use Rattle.bw_types.specs.Fits.{query_fits};
+ghost use Rattle.bw_types.specs.Below.{below_at};
+ghost use Rattle.bw_types.specs.Fits.{ends_fit, query_fits};
 ghost use Rattle.bw_types.specs.History.{History};
+ghost use Rattle.bw_types.specs.Residues.{residue};
 ghost use Rattle.counts.specs.Count.{Rose};
 ghost use Rattle.page_ports.specs.Calls.{OnlyReads};
 ghost use Rattle.warehouse.specs.Committed.{Answers};
 ghost use Rattle.warehouse.specs.Left.{IsAsBefore};
-ghost use Rattle.page_warehouse.specs.Costs.{query_cost};
+ghost use Rattle.page_warehouse.specs.Costs.{below_cost, query_cost};
 ghost use Rattle.page_warehouse.specs.Holds.{HoldsTrees};
 
 use crate::Warehouse;
 use bw_types::{Kind, Query};
-use corner_forest::{count, integral, sum};
+use corner_forest::{below, count, integral, sum};
 use dom_index::DomIndex;
 use history_entries::{entries_are_changes, entries_give_answers};
 use history_laws::{answers_are_bounded, lawful_histories_have_room};
@@ -79,6 +81,42 @@ impl<D: Disk, X: DomIndex> Warehouse<D, X> {
             return Err(QueryFault::NoVersion(last));
         }
         match self.total(query, version) {
+            Ok(value) => Ok(value),
+            Err(PageFault::Disk) => Err(QueryFault::Disk),
+            Err(PageFault::Damaged(page)) => Err(QueryFault::Damaged(page)),
+        }
+    }
+
+    /// The integral at a version of the objects live there over the parts of their boxes below a corner of stored numbers, times 6 for each
+    /// dimension, modulo `2^128`. Boxes that share a corner share it.
+    ///
+    /// The warehouse has a degree, and the corner's numbers are in range; what holds of `query` holds of it.
+    pub fn below(&mut self, at: &[u32; 3], version: u32) -> Result<u128, QueryFault>
+        requires degree { IsSome (params_in self.old).degree }
+        requires at { ends_fit (params_in self.old) at.now at.now ≡ true }
+        ensures below { IfOk result (λ value. (whole : Bool) (h : History) → HoldsHistory D.Disk X.DomIndex whole (disk_in self.old) (params_in self.old) h
+            → value ≡ residue (below_at (params_in self.old) h version at.now)) }
+        ensures sound { (whole : Bool) (h : History) (page : ℕ) → HoldsHistory D.Disk X.DomIndex whole (disk_in self.old) (params_in self.old) h
+            → result ≢ Err (QueryFault.Damaged page) }
+        ensures kept { IsAsBefore params_in disk_in (HoldsHistory D.Disk X.DomIndex) (HasNewForm D.Disk) D.tells D.image D.moments (disk_charge D.Disk) self.old self.new }
+        ensures above { (meta_in self.old).version < version → (result ≡ Err (QueryFault.NoVersion (meta_in self.old).version)) × (self.new ≡ self.old) }
+        ensures within { (last : ℕ) → version ≤ (meta_in self.old).version → result ≢ Err (QueryFault.NoVersion last) }
+        ensures meta { meta_in self.new ≡ meta_in self.old }
+        ensures disk { result ≡ Err QueryFault.Disk → Rose (D.faults (disk_in self.old)) (D.faults (disk_in self.new)) }
+        ensures faults { D.faults (disk_in self.old) ≤ D.faults (disk_in self.new) }
+        ensures reads { (whole : Bool) (h : History) → HoldsHistory D.Disk X.DomIndex whole (disk_in self.old) (params_in self.old) h
+            → D.reads (disk_in self.new) ≤ D.reads (disk_in self.old) + below_cost X.cost (params_in self.old) h }
+        ensures no_reads { (last : ℕ) → result ≡ Err (QueryFault.NoVersion last) → D.reads (disk_in self.new) ≡ D.reads (disk_in self.old) }
+    {
+        holds_one();
+        entries_give_answers();
+        entries_are_changes();
+        self.space.is_held();
+        let last = self.last();
+        if version > last {
+            return Err(QueryFault::NoVersion(last));
+        }
+        match below::<X, Space<D>>(&mut self.space, &self.forest, at, version) {
             Ok(value) => Ok(value),
             Err(PageFault::Disk) => Err(QueryFault::Disk),
             Err(PageFault::Damaged(page)) => Err(QueryFault::Damaged(page)),

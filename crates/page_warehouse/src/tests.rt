@@ -1,7 +1,8 @@
 //! Warehouses on a recording disk: made, opened, queried, and stopped after each call.
 
+use crate::commit_tests::{Outcome, SIGNED_LINE, came_back, interval, made as made_for, put};
 use crate::{Created, Warehouse, create};
-use bw_types::{Kind, Params, Query, query_fits};
+use bw_types::{Kind, Params, Query, Row, query_fits};
 use dom_index::PointList;
 use page_disk::{Area, Disk, MemDisk, Torn};
 use page_ports::{Page, blank_page};
@@ -88,6 +89,50 @@ fn a_new_warehouse_is_empty(rt: HostRuntime) -> Result<(), Fail> {
     assert!(rt; asked(&mut house, &sum, 1) == Some(Err(QueryFault::NoVersion(0))));
     // An integral is asked only where there is a degree.
     assert!(rt; asked(&mut house, &everywhere(Kind::Integral), 0) == None);
+    Ok(())
+}
+
+// What is below a stored number, where an integral at it may be asked.
+fn asked_below(
+    house: &mut Warehouse<MemDisk, PointList>,
+    number: u32,
+    version: u32,
+) -> Option<Result<u128, QueryFault>> {
+    let at = [number, 0, 0];
+    let point = Query {
+        kind: Kind::Integral,
+        low: at,
+        high: at,
+    };
+    if !query_fits(&point, &house.params()) {
+        return None;
+    }
+    Some(house.below(&at, version))
+}
+
+#[test]
+fn integrals_below_a_number(rt: HostRuntime) -> Result<(), Fail> {
+    let zero = 2147483647;
+    let line = interval(1, zero - 3, zero + 3, 1, [0, 1, 0]);
+    let square = interval(2, zero, zero + 2, 1, [0, 0, 1]);
+    let house = opened(rt.alloc(), made_for(rt.alloc(), &SIGNED_LINE))?;
+    let (house, first) = came_back(put(house, &[Row::Add(line), Row::Add(square)]))?;
+    let (mut house, second) = came_back(put(house, &[Row::Withdraw(1)]))?;
+    assert_eq!(rt; first, Outcome::Done(1));
+    assert_eq!(rt; second, Outcome::Done(2));
+    assert!(rt; asked_below(&mut house, zero + 1, 0) == Some(Ok(0)));
+    assert!(rt; asked_below(&mut house, zero - 5, 1) == Some(Ok(0)));
+    // Six times (1 - 9) / 2 and six times 1 / 3 are together -22.
+    assert!(rt; asked_below(&mut house, zero + 1, 1) == Some(Ok(u128::MAX - 21)));
+    assert!(rt; asked_below(&mut house, zero + 3, 1) == Some(Ok(16)));
+    let between = Query {
+        kind: Kind::Integral,
+        low: [zero + 1, 0, 0],
+        high: [zero + 3, 0, 0],
+    };
+    assert!(rt; asked(&mut house, &between, 1) == Some(Ok(38)));
+    assert!(rt; asked_below(&mut house, zero + 1, 2) == Some(Ok(2)));
+    assert!(rt; asked_below(&mut house, zero + 1, 3) == Some(Err(QueryFault::NoVersion(2))));
     Ok(())
 }
 

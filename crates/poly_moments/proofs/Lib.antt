@@ -11,3 +11,5 @@ mod ObjectLaw
 mod ResidueSums
 mod ListLaw
 mod Corners
+mod BelowCorner
+mod CornerDifferences

@@ -127,14 +127,14 @@ by_exponents params g q version subset entries plane has =
     (λ corner. ap (λ d. if corner_is_below params.dims e.object corner q subset then option_map_or (λ g. corner_weight params e.object g corner (slice_index_or (plane_exponents params.dims g) plane [])) d (pos 0) else pos 0) has)))
 
 -- the value of the summed planes at the query's corner
-abbrev entries_value : Params → ℕ → Query → ℕ → ℕ → List Entered → ℤ
+abbrev pub entries_value : Params → ℕ → Query → ℕ → ℕ → List Entered → ℤ
 entries_value params g q version subset entries = int_sum_by (λ e. counts_at version e *ℤ value_at_corner params e.object g q subset) entries
 
 each-any : {X : Type 0} (xs : List X) → EachOf (λ (x : X). Unit {0}) xs
 each-any [] = tt
 each-any (x ∷ xs) = (tt, each-any xs)
 
-value_is : (params : Params) (g : ℕ) (q : Query) (version subset : ℕ) (entries : List Entered) → IsInRange params → params.degree ≡ Some g → g ≤ 2 → EachOf (EnteredFits params) entries
+pub value_is : (params : Params) (g : ℕ) (q : Query) (version subset : ℕ) (entries : List Entered) → IsInRange params → params.degree ≡ Some g → g ≤ 2 → EachOf (EnteredFits params) entries
     → residue (planes_value params (summed_planes params q version entries subset) (query_corner q subset)) ≡ residue (entries_value params g q version subset entries)
 value_is params g q version subset entries range has small fits =
     let lists : List (List ℕ) = plane_exponents params.dims g in

@@ -18,18 +18,18 @@ use Rattle.poly_moments.specs.Integrals.{query_corner, corner_is_below, value_at
 use Rattle.poly_moments.proofs.Whole.{times_assoc}
 use Rattle.poly_moments.proofs.Digits.{at_one}
 use Rattle.poly_moments.proofs.ListSums.{sum-equal, sum-times, times-sum, sum-exchange, sum-zip, product-equal, product-products, product-tested, distribute, exponents-small}
-use Rattle.poly_moments.proofs.OneDimension.{polynomial, reached_between, moment_between}
-use Rattle.poly_moments.proofs.SubsetSums.{below-equal, below-times, times-below, below-exchange, signed-sum, times-signed, taken-times, taken-sum, times-taken, signed_products}
+use Rattle.poly_moments.proofs.OneDimension.{polynomial, reached, reached_between, moment_between}
+use Rattle.poly_moments.proofs.SubsetSums.{below-equal, below-times, below-exchange, signed-sum, signed-multiples, taken-times, taken-sum, times-taken, signed_products}
 
 -- an end of a corner is that of its dimension
-end_of : (f : ℕ → ℕ) (i : ℕ) → i < 3 → slice_index (of_dimensions f) i ≡ f i
+pub end_of : (f : ℕ → ℕ) (i : ℕ) → i < 3 → slice_index (of_dimensions f) i ≡ f i
 end_of f zero h = refl
 end_of f (suc zero) h = refl
 end_of f (suc (suc zero)) h = refl
 end_of f (suc (suc (suc i))) h = absurd (omega arith)
 
 -- the antiderivative of a term's factor in a dimension, of a stored number
-abbrev antiderivative : Params → List ℕ → ℕ → ℕ → ℤ
+abbrev pub antiderivative : Params → List ℕ → ℕ → ℕ → ℤ
 antiderivative params es i n = primitive (slice_index es i) (coordinate params n)
 
 -- what a term of the value function gives at a corner of the query for a corner of the object
@@ -73,7 +73,7 @@ corner_polynomial params o g corner q at few small =
     ∙ ap (λ z. c *ℤ z) (term_polynomial params o g corner q at es few small each))
 
 -- the value at a corner of the query: each corner of the object that is at or below it gives its terms, with its sign
-value_of_corners : (params : Params) (o : Object) (g : ℕ) (q : Query) (at : ℕ) → params.dims ≤ 3 → g ≤ 2
+pub value_of_corners : (params : Params) (o : Object) (g : ℕ) (q : Query) (at : ℕ) → params.dims ≤ 3 → g ≤ 2
     → value_at_corner params o g q at
     ≡ int_sum_below (2 ^ params.dims) (λ corner. signed_by corner (if corner_is_below params.dims o corner q at then terms_at params o g corner q at else pos 0))
 value_of_corners params o g q at few small =
@@ -92,13 +92,43 @@ value_of_corners params o g q at few small =
     ∙ ap (signed_by corner) (taken-sum (below corner) (λ fs. sum corner fs *ℤ m fs) planes)
     ∙ ap (λ z. signed_by corner (if below corner then z else pos 0)) (corner_polynomial params o g corner q at few small))
 
+-- what a term gives at a corner of the query: each corner of the object that is at or below it, with its sign
+abbrev pub term_reached : Params → Object → Query → ℕ → List ℕ → ℤ
+term_reached params o q at es =
+    int_sum_below (2 ^ params.dims) (λ corner. signed_by corner (if corner_is_below params.dims o corner q at then term_at params o corner q at es else pos 0))
+
+-- it is a product of what the two ends of each dimension give
+pub term_reached_is : (params : Params) (o : Object) (q : Query) (at : ℕ) (es : List ℕ) → 1 ≤ params.dims → params.dims ≤ 3
+    → term_reached params o q at es ≡ int_product_below params.dims (λ i. reached (antiderivative params es i) (slice_index o.low i) (slice_index o.high i) (query_end q at i))
+term_reached_is params o q at es some few =
+    let p : ℕ → ℕ → ℤ = λ i. antiderivative params es i in
+    let end : ℕ → Bool → ℕ = λ i t. if t then slice_index o.high i else slice_index o.low i in
+    let part : ℕ → Bool → ℤ = λ i t. if nat_le (end i t) (query_end q at i) then p i (query_end q at i) -ℤ p i (end i t) else pos 0 in
+    below-equal (2 ^ params.dims) (λ corner. signed_by corner (if corner_is_below params.dims o corner q at then term_at params o corner q at es else pos 0))
+    (λ corner. signed_by corner (int_product_below params.dims (λ i. part i (is_in_subset i corner))))
+    (λ corner. ap (signed_by corner) (product-tested params.dims (λ i. nat_le (object_end o corner i) (query_end q at i)) (λ i. p i (query_end q at i) -ℤ p i (object_end o corner i))))
+    ∙ signed_products params.dims part some few
+
+-- so for the value function, term by term
+pub terms_reached : (params : Params) (o : Object) (g : ℕ) (q : Query) (at : ℕ)
+    → int_sum_below (2 ^ params.dims) (λ corner. signed_by corner (if corner_is_below params.dims o corner q at then terms_at params o g corner q at else pos 0))
+    ≡ int_sum_by (λ (c, es). c *ℤ term_reached params o q at es) (zip o.coeffs (exponent_lists params.dims g))
+terms_reached params o g q at =
+    let n = 2 ^ params.dims in
+    let terms : List (ℤ × List ℕ) = zip o.coeffs (exponent_lists params.dims g) in
+    let below : ℕ → Bool = λ corner. corner_is_below params.dims o corner q at in
+    let taken : ℕ → ℤ × List ℕ → ℤ = λ corner z. if below corner then term_at params o corner q at z.1 else pos 0 in
+    below-equal n (λ corner. signed_by corner (if below corner then terms_at params o g corner q at else pos 0)) (λ corner. signed_by corner (int_sum_by (λ z. z.0 *ℤ taken corner z) terms))
+    (λ corner. ap (signed_by corner) (sym (taken-sum (below corner) (λ z. z.0 *ℤ term_at params o corner q at z.1) terms)
+    ∙ sum-equal (λ z. if below corner then z.0 *ℤ term_at params o corner q at z.1 else pos 0) (λ z. z.0 *ℤ taken corner z) terms (λ z. times-taken (below corner) z.0 (term_at params o corner q at z.1))))
+    ∙ signed-multiples n (λ z. z.0) taken terms
+
 -- the signed values of one term
 abbrev term_value : Params → Object → Query → List ℕ → ℤ
-term_value params o q es =
-    int_sum_below (2 ^ params.dims) (λ at. signed_by at (int_sum_below (2 ^ params.dims) (λ corner. signed_by corner (if corner_is_below params.dims o corner q at then term_at params o corner q at es else pos 0))))
+term_value params o q es = int_sum_below (2 ^ params.dims) (λ at. signed_by at (term_reached params o q at es))
 
 -- the ends are in order in each dimension
-ordered_at : (params : Params) (low high : List ℕ) (i : ℕ) → ends_fit params low high ≡ true → i < params.dims → slice_index low i ≤ slice_index high i
+pub ordered_at : (params : Params) (low high : List ℕ) (i : ℕ) → ends_fit params low high ≡ true → i < params.dims → slice_index low i ≤ slice_index high i
 ordered_at params low high i fits h =
     let both = at_one params.dims i (λ i. nat_le (slice_index low i) (slice_index high i) && nat_le (slice_index high i) (greatest_number params)) fits h in
     leb-true (slice_index low i) (slice_index high i) (and_parts _ _ both).0
@@ -107,54 +137,25 @@ ordered_at params low high i fits h =
 term_value_is : (params : Params) (o : Object) (q : Query) (es : List ℕ) → 1 ≤ params.dims → params.dims ≤ 3 → ends_fit params o.low o.high ≡ true → ends_fit params q.low q.high ≡ true
     → term_value params o q es ≡ common_moment params q o es
 term_value_is params o q es some few fo fq =
-    let n = 2 ^ params.dims in
     let p : ℕ → ℕ → ℤ = λ i. antiderivative params es i in
     let above : ℕ → Bool → ℕ = λ i s. if s then slice_index q.low i else slice_index q.high i in
-    let end : ℕ → Bool → ℕ = λ i t. if t then slice_index o.high i else slice_index o.low i in
-    let part : ℕ → Bool → Bool → ℤ = λ i s t. if nat_le (end i t) (above i s) then p i (above i s) -ℤ p i (end i t) else pos 0 in
-    let at_corner : ℕ → ℤ = λ at. int_sum_below n (λ corner. signed_by corner (if corner_is_below params.dims o corner q at then term_at params o corner q at es else pos 0)) in
-    below-equal n (λ at. signed_by at (at_corner at)) (λ at. signed_by at (int_product_below params.dims (λ i. part i (is_in_subset i at) false -ℤ part i (is_in_subset i at) true)))
-    (λ at. ap (signed_by at) (below-equal n (λ corner. signed_by corner (if corner_is_below params.dims o corner q at then term_at params o corner q at es else pos 0))
-    (λ corner. signed_by corner (int_product_below params.dims (λ i. part i (is_in_subset i at) (is_in_subset i corner))))
-    (λ corner. ap (signed_by corner) (product-tested params.dims (λ i. nat_le (object_end o corner i) (query_end q at i)) (λ i. p i (query_end q at i) -ℤ p i (object_end o corner i))))
-    ∙ signed_products params.dims (λ i t. part i (is_in_subset i at) t) some few))
-    ∙ signed_products params.dims (λ i s. part i s false -ℤ part i s true) some few
-    ∙ product-equal params.dims (λ i. part i false false -ℤ part i false true -ℤ (part i true false -ℤ part i true true)) (λ i. moment (slice_index es i) (common_low params q o i) (common_high params q o i))
+    let part : ℕ → Bool → ℤ = λ i s. reached (p i) (slice_index o.low i) (slice_index o.high i) (above i s) in
+    below-equal (2 ^ params.dims) (λ at. signed_by at (term_reached params o q at es)) (λ at. signed_by at (int_product_below params.dims (λ i. part i (is_in_subset i at))))
+    (λ at. ap (signed_by at) (term_reached_is params o q at es some few))
+    ∙ signed_products params.dims part some few
+    ∙ product-equal params.dims (λ i. part i false -ℤ part i true) (λ i. moment (slice_index es i) (common_low params q o i) (common_high params q o i))
     (λ i h. reached_between (p i) (slice_index o.low i) (slice_index o.high i) (slice_index q.low i) (slice_index q.high i) (ordered_at params o.low o.high i fo h) (ordered_at params q.low q.high i fq h)
     ∙ moment_between (slice_index es i) params.origin (slice_index o.low i) (slice_index o.high i) (slice_index q.low i) (slice_index q.high i))
-
--- the signed values of the value function are the sum over its terms
-signed_terms : (params : Params) (o : Object) (g : ℕ) (q : Query)
-    → int_sum_below (2 ^ params.dims) (λ at. signed_by at (int_sum_below (2 ^ params.dims) (λ corner. signed_by corner (if corner_is_below params.dims o corner q at then terms_at params o g corner q at else pos 0))))
-    ≡ int_sum_by (λ (c, es). c *ℤ term_value params o q es) (zip o.coeffs (exponent_lists params.dims g))
-signed_terms params o g q =
-    let n = 2 ^ params.dims in
-    let terms : List (ℤ × List ℕ) = zip o.coeffs (exponent_lists params.dims g) in
-    let below : ℕ → ℕ → Bool = λ at corner. corner_is_below params.dims o corner q at in
-    let taken : ℕ → ℕ → List ℕ → ℤ = λ at corner es. signed_by corner (if below at corner then term_at params o corner q at es else pos 0) in
-    let inner : ℕ → List ℕ → ℤ = λ at es. int_sum_below n (λ corner. taken at corner es) in
-    below-equal n (λ at. signed_by at (int_sum_below n (λ corner. signed_by corner (if below at corner then terms_at params o g corner q at else pos 0)))) (λ at. int_sum_by (λ z. z.0 *ℤ signed_by at (inner at z.1)) terms)
-    (λ at. ap (signed_by at) (below-equal n (λ corner. signed_by corner (if below at corner then terms_at params o g corner q at else pos 0)) (λ corner. int_sum_by (λ z. z.0 *ℤ taken at corner z.1) terms)
-    (λ corner. ap (signed_by corner) (sym (taken-sum (below at corner) (λ z. z.0 *ℤ term_at params o corner q at z.1) terms))
-    ∙ sym (signed-sum corner (λ z. if below at corner then z.0 *ℤ term_at params o corner q at z.1 else pos 0) terms)
-    ∙ sum-equal (λ z. signed_by corner (if below at corner then z.0 *ℤ term_at params o corner q at z.1 else pos 0)) (λ z. z.0 *ℤ taken at corner z.1) terms
-    (λ z. ap (signed_by corner) (times-taken (below at corner) z.0 (term_at params o corner q at z.1)) ∙ times-signed corner z.0 (if below at corner then term_at params o corner q at z.1 else pos 0)))
-    ∙ sym (below-exchange n (λ z corner. z.0 *ℤ taken at corner z.1) terms)
-    ∙ sum-equal (λ z. int_sum_below n (λ corner. z.0 *ℤ taken at corner z.1)) (λ z. z.0 *ℤ inner at z.1) terms (λ z. times-below n z.0 (λ corner. taken at corner z.1)))
-    ∙ sym (signed-sum at (λ z. z.0 *ℤ inner at z.1) terms)
-    ∙ sum-equal (λ z. signed_by at (z.0 *ℤ inner at z.1)) (λ z. z.0 *ℤ signed_by at (inner at z.1)) terms (λ z. times-signed at z.0 (inner at z.1)))
-    ∙ sym (below-exchange n (λ z at. z.0 *ℤ signed_by at (inner at z.1)) terms)
-    ∙ sum-equal (λ z. int_sum_below n (λ at. z.0 *ℤ signed_by at (inner at z.1))) (λ z. z.0 *ℤ term_value params o q z.1) terms (λ z. times-below n z.0 (λ at. signed_by at (inner at z.1)))
 
 pub object_integral_of_degree : (params : Params) (q : Query) (o : Object) (g : ℕ) → 1 ≤ params.dims → params.dims ≤ 3 → g ≤ 2 → ends_fit params o.low o.high ≡ true → ends_fit params q.low q.high ≡ true
     → int_sum_below (2 ^ params.dims) (λ at. signed_by at (value_at_corner params o g q at)) ≡ integral_of_degree params q o g
 object_integral_of_degree params q o g some few small fo fq =
     let n = 2 ^ params.dims in
-    below-equal n (λ at. signed_by at (value_at_corner params o g q at))
-    (λ at. signed_by at (int_sum_below n (λ corner. signed_by corner (if corner_is_below params.dims o corner q at then terms_at params o g corner q at else pos 0))))
-    (λ at. ap (signed_by at) (value_of_corners params o g q at few small))
-    ∙ signed_terms params o g q
-    ∙ sum-equal (λ z. z.0 *ℤ term_value params o q z.1) (λ z. z.0 *ℤ common_moment params q o z.1) (zip o.coeffs (exponent_lists params.dims g))
+    let terms : List (ℤ × List ℕ) = zip o.coeffs (exponent_lists params.dims g) in
+    below-equal n (λ at. signed_by at (value_at_corner params o g q at)) (λ at. signed_by at (int_sum_by (λ z. z.0 *ℤ term_reached params o q at z.1) terms))
+    (λ at. ap (signed_by at) (value_of_corners params o g q at few small ∙ terms_reached params o g q at))
+    ∙ signed-multiples n (λ z. z.0) (λ at z. term_reached params o q at z.1) terms
+    ∙ sum-equal (λ z. z.0 *ℤ term_value params o q z.1) (λ z. z.0 *ℤ common_moment params q o z.1) terms
     (λ z. ap (λ m. z.0 *ℤ m) (term_value_is params o q z.1 some few fo fq))
 
 pub object_integral_by_planes : ObjectIntegralByPlanes

@@ -71,16 +71,16 @@ greater a b = if nat_lt b a then a else b
 abbrev pub lesser : ℕ → ℕ → ℕ
 lesser a b = if nat_lt b a then b else a
 
-reached_below : (p : ℕ → ℤ) (low high x : ℕ) → low ≤ high → x < low → reached p low high x ≡ pos 0
+pub reached_below : (p : ℕ → ℤ) (low high x : ℕ) → low ≤ high → x < low → reached p low high x ≡ pos 0
 reached_below p low high x o h = rw (lt-leb low x h, lt-leb high x (omega arith)) refl
 
-reached_inside : (p : ℕ → ℤ) (low high x : ℕ) → low ≤ x → x < high → reached p low high x ≡ p x -ℤ p low
+pub reached_inside : (p : ℕ → ℤ) (low high x : ℕ) → low ≤ x → x < high → reached p low high x ≡ p x -ℤ p low
 reached_inside p low high x l h = rw (le-leb low x l, lt-leb high x h) (omega (arith, ints))
 
-reached_above : (p : ℕ → ℤ) (low high x : ℕ) → low ≤ high → high ≤ x → reached p low high x ≡ p high -ℤ p low
+pub reached_above : (p : ℕ → ℤ) (low high x : ℕ) → low ≤ high → high ≤ x → reached p low high x ≡ p high -ℤ p low
 reached_above p low high x o h = rw (le-leb low x (omega arith), le-leb high x h) (omega (arith, ints))
 
-between_ordered : (p : ℕ → ℤ) (a b : ℕ) → a ≤ b → between p a b ≡ p b -ℤ p a
+pub between_ordered : (p : ℕ → ℤ) (a b : ℕ) → a ≤ b → between p a b ≡ p b -ℤ p a
 between_ordered p a b h = elim (cases_lt a b) [
   | inl lt ↦ rw (lt-ltb a b lt) refl
   | inr ge ↦
@@ -89,19 +89,19 @@ between_ordered p a b h = elim (cases_lt a b) [
       rw (le-ltb a b ge) (omega (arith, ints))
 ]
 
-between_reversed : (p : ℕ → ℤ) (a b : ℕ) → b ≤ a → between p a b ≡ pos 0
+pub between_reversed : (p : ℕ → ℤ) (a b : ℕ) → b ≤ a → between p a b ≡ pos 0
 between_reversed p a b h = rw (le-ltb a b h) refl
 
-greater_first : (a b : ℕ) → b < a → greater a b ≡ a
+pub greater_first : (a b : ℕ) → b < a → greater a b ≡ a
 greater_first a b h = rw (lt-ltb b a h) refl
 
-greater_second : (a b : ℕ) → a ≤ b → greater a b ≡ b
+pub greater_second : (a b : ℕ) → a ≤ b → greater a b ≡ b
 greater_second a b h = rw (le-ltb b a h) refl
 
-lesser_first : (a b : ℕ) → a ≤ b → lesser a b ≡ a
+pub lesser_first : (a b : ℕ) → a ≤ b → lesser a b ≡ a
 lesser_first a b h = rw (le-ltb b a h) refl
 
-lesser_second : (a b : ℕ) → b < a → lesser a b ≡ b
+pub lesser_second : (a b : ℕ) → b < a → lesser a b ≡ b
 lesser_second a b h = rw (lt-ltb b a h) refl
 
 -- the two corners of a query, the high one less the low one, give what lies between them

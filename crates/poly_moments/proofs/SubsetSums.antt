@@ -7,7 +7,7 @@ use Rattle.bw_types.specs.Tally.{int_product_below, int_sum_by}
 use Rattle.box_corners.specs.Subsets.{is_in_subset, is_odd_subset, signed_by}
 use Rattle.box_corners.specs.Sums.{int_sum_below}
 use Rattle.poly_moments.proofs.Whole.{times_sum, sum_times, times_opposite, opposite_times, times_difference, difference_times}
-use Rattle.poly_moments.proofs.ListSums.{sum-zeros, sum-sums}
+use Rattle.poly_moments.proofs.ListSums.{sum-equal, sum-zeros, sum-sums}
 
 pub below-equal : (n : ℕ) (f g : ℕ → ℤ) → ((k : ℕ) → f k ≡ g k) → int_sum_below n f ≡ int_sum_below n g
 below-equal zero f g e = refl
@@ -44,6 +44,14 @@ times-signed subset k x = by_sign (is_odd_subset subset)
     by_sign : (odd : Bool) → (if odd then neg_ℤ (k *ℤ x) else k *ℤ x) ≡ k *ℤ (if odd then neg_ℤ x else x)
     by_sign true = sym (times_opposite k x)
     by_sign false = refl
+
+-- the signed sums of sums of multiples are those multiples of the signed sums
+pub signed-multiples : {X : Type 0} (n : ℕ) (c : X → ℤ) (f : ℕ → X → ℤ) (xs : List X) → int_sum_below n (λ k. signed_by k (int_sum_by (λ x. c x *ℤ f k x) xs)) ≡ int_sum_by (λ x. c x *ℤ int_sum_below n (λ k. signed_by k (f k x))) xs
+signed-multiples n c f xs =
+    below-equal n (λ k. signed_by k (int_sum_by (λ x. c x *ℤ f k x) xs)) (λ k. int_sum_by (λ x. c x *ℤ signed_by k (f k x)) xs)
+    (λ k. sym (signed-sum k (λ x. c x *ℤ f k x) xs) ∙ sum-equal (λ x. signed_by k (c x *ℤ f k x)) (λ x. c x *ℤ signed_by k (f k x)) xs (λ x. times-signed k (c x) (f k x)))
+    ∙ sym (below-exchange n (λ x k. c x *ℤ signed_by k (f k x)) xs)
+    ∙ sum-equal (λ x. int_sum_below n (λ k. c x *ℤ signed_by k (f k x))) (λ x. c x *ℤ int_sum_below n (λ k. signed_by k (f k x))) xs (λ x. times-below n (c x) (λ k. signed_by k (f k x)))
 
 -- a weight that is taken or not, with its sign, times another
 pub taken-times : (subset : ℕ) (t : Bool) (w m : ℤ) → (if t then signed_by subset w else pos 0) *ℤ m ≡ signed_by subset (if t then w *ℤ m else pos 0)

@@ -3,6 +3,9 @@
 use Rattle.std.specs.Prelude.{◌≡◌, ℕ, ◌^◌, Bool, true, nat_le, if◌then◌else◌, List, Some, ℤ, pos, ◌*ℤ◌}
 use Rattle.bw_types.specs.Tally.{each_below, int_sum_by}
 use Rattle.bw_types.specs.Fits.{IsInRange, ends_fit, object_fits}
+use Rattle.bw_types.specs.Below.{below_at}
+use Rattle.bw_types.specs.Answers.{integral_at}
+use Rattle.bw_types.specs.History.{History}
 use Rattle.bw_types.specs.Integral.{integral_over}
 use Rattle.bw_types.specs.declared.params.Params.{Params}
 use Rattle.bw_types.specs.declared.object.Object.{Object}
@@ -35,3 +38,9 @@ abbrev pub ObjectIntegralByPlanes : Type 0
 ObjectIntegralByPlanes = (params : Params) (q : Query) (o : Object) (g : ℕ) → IsInRange params → params.degree ≡ Some g
     → object_fits params o ≡ true → ends_fit params q.low q.high ≡ true
     → int_sum_below (2 ^ params.dims) (λ at. signed_by at (value_at_corner params o g q at)) ≡ integral_over params q o
+
+-- The signed integrals below the corners of a query come to the integral over it: those of an object below the query's corners of all
+-- subsets, the sign telling how many dimensions are taken at the low end.
+abbrev pub IntegralByCorners : Type 0
+IntegralByCorners = (params : Params) (h : History) (version : ℕ) (q : Query) → IsInRange params → ends_fit params q.low q.high ≡ true
+    → int_sum_below (2 ^ params.dims) (λ at. signed_by at (below_at params h version (query_corner q at))) ≡ integral_at params h version q

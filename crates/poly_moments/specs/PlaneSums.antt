@@ -3,6 +3,7 @@ use Rattle.std.specs.Prelude.{◌≡◌, ℕ, ◌+◌, ◌*◌, ◌^◌, ◌<◌
 use Rattle.std.specs.List.{All, flat_map, range_with_len}
 use Rattle.bw_types.specs.Tally.{int_sum_by}
 use Rattle.bw_types.specs.Fits.{IsInRange, ends_fit, object_fits}
+use Rattle.bw_types.specs.Below.{integral_below}
 use Rattle.bw_types.specs.Integral.{integral_over}
 use Rattle.bw_types.specs.Residues.{residue, opposite_residue}
 use Rattle.bw_types.specs.Dominance.{dominance_sum}
@@ -66,3 +67,15 @@ IntegralByPlanes = (params : Params) (q : Query) (version : ℕ) (entries : List
     → ends_fit params q.low q.high ≡ true → All (EnteredFits params) entries
     → residue_sum_below (2 ^ params.dims) (λ subset. residue_signed_by subset (residue (planes_value params (summed_planes params q version entries subset) (query_corner q subset))))
     ≡ residue (integral_at params q version entries)
+
+-- the total at a version of the integrals of the entries below a corner of stored numbers
+abbrev pub entered_below : Params → List ℕ → ℕ → List Entered → ℤ
+entered_below params at version entries = int_sum_by (λ e. counts_at version e *ℤ integral_below params at e.object) entries
+
+-- The value, at one corner of a query, of the polynomial whose coefficients are the planes' dominance sums there comes to the total integral
+-- below that corner, modulo 2^128.
+abbrev pub BelowByPlanes : Type 0
+BelowByPlanes = (params : Params) (q : Query) (version : ℕ) (entries : List Entered) (subset : ℕ) → IsInRange params → IsSome params.degree
+    → All (EnteredFits params) entries
+    → residue (planes_value params (summed_planes params q version entries subset) (query_corner q subset))
+    ≡ residue (entered_below params (query_corner q subset) version entries)

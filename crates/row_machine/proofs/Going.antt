@@ -83,7 +83,7 @@ come_passes reader left may seen = passes_at reader.stopped may seen
     passes_at (Some answer) m e = ([], sym (e (ap Some m)))
 
 -- where a run ends between two lines, what was to come was passed, or nothing was
-passes_between : (ending : Ending) (come left : List ℕ) → IsBetweenLines ending → (ending ≡ Fine → come ≡ left) → (IsInputEnding ending → PassesNoLineFeed come left) → (passed : List ℕ) × (come ≡ passed ++ left)
+pub passes_between : (ending : Ending) (come left : List ℕ) → IsBetweenLines ending → (ending ≡ Fine → come ≡ left) → (IsInputEnding ending → PassesNoLineFeed come left) → (passed : List ℕ) × (come ≡ passed ++ left)
 passes_between Fine come left b fine input = ([], fine refl)
 passes_between ReadFault come left b fine input = ((input tt).passed, (input tt).cut)
 passes_between (InputLimit taken) come left b fine input = ((input tt).passed, (input tt).cut)
@@ -94,7 +94,7 @@ passes_between (Damaged page) come left b fine input = absurd b
 passes_between (PageLimit allotted) come left b fine input = absurd b
 
 -- the end is seen as before, or it is seen now
-seen_after : (source source' source'' : Port) (reader reader' : ReaderState) → MayGoOn reader.stopped → Calm source source' → SeenEnd reader source.tells source'.bytes
+pub seen_after : (source source' source'' : Port) (reader reader' : ReaderState) → MayGoOn reader.stopped → Calm source source' → SeenEnd reader source.tells source'.bytes
     → (reader.stopped ≡ None → SeenEnd reader' source'.tells source''.bytes)
     → (reader.stopped ≡ Some End → (reader' ≡ reader) × (source''.bytes ≡ source'.bytes))
     → SeenEnd reader' source.tells source''.bytes
@@ -281,7 +281,7 @@ closes_same ended ran c s other e = elim c.ending [
   | inr wrote ↦ absurd (other (sym wrote.0 ∙ e))
 ]
 
-ended_by_input : {D : Type 0} (ended ran : Ran D) → Closes ended ran → IsInputEnding ran.ending → IsInputEnding ended.ending
+pub ended_by_input : {D : Type 0} (ended ran : Ran D) → Closes ended ran → IsInputEnding ran.ending → IsInputEnding ended.ending
 ended_by_input ended ran c i = elim c.ending [
   | inl same ↦ subst (λ (s : Ending). IsInputEnding s) same i
   | inr wrote ↦ absurd (subst (λ (s : Ending). IsInputEnding s) wrote.0 i)
@@ -293,7 +293,7 @@ house_both ended ran c w = elim c.ending [
   | inr wrote ↦ absurd (subst (λ (s : Ending). IsHouseEnding s) wrote.0 w)
 ]
 
-between_both : {D : Type 0} (ended ran : Ran D) → Closes ended ran → IsHouseEnding ended.ending → IsBetweenLines ran.ending → ⊥
+pub between_both : {D : Type 0} (ended ran : Ran D) → Closes ended ran → IsHouseEnding ended.ending → IsBetweenLines ran.ending → ⊥
 between_both ended ran c w b = elim c.ending [
   | inl same ↦ not_both ended.ending w (subst (λ (s : Ending). IsBetweenLines s) same b)
   | inr wrote ↦ subst (λ (s : Ending). IsBetweenLines s) wrote.0 b

@@ -14,3 +14,6 @@ pub mod Serviced
 pub mod Staged
 pub mod Lasting
 pub mod Acknowledging
+pub mod GivenLines
+pub mod AnsweredLines
+pub mod LineAfterLine

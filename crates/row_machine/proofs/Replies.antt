@@ -19,7 +19,7 @@ state_after-append params n s (x ∷ xs) ys =
     state_after-append params (n + 1) (step params n s x).state xs ys
     ∙ ap (λ (k : ℕ). state_after params k (state_after params (n + 1) (step params n s x).state xs) ys) (omega arith)
 
-one_more : (n k : ℕ) → n + 1 + k ≡ n + suc k
+pub one_more : (n k : ℕ) → n + 1 + k ≡ n + suc k
 one_more n k = omega arith
 
 -- after some lines the sum goes on from the state and the number that these lines leave

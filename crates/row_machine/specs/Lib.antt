@@ -1,3 +1,5 @@
+pub mod AnsweredLine
+pub mod Answering
 pub mod DeskState
 pub mod Ended
 pub mod Housed

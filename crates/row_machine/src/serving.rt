@@ -203,7 +203,7 @@ fn serve_commit<H: House>(
 }
 
 // Puts the replies where they are due. False where the sink failed.
-fn put_due<K: Sink>(outbox: &mut Outbox, ahead: &[u8], sink: &mut K) -> bool
+pub(crate) fn put_due<K: Sink>(outbox: &mut Outbox, ahead: &[u8], sink: &mut K) -> bool
     ensures same { result ≡ true → IsTrue (K.tells sink.old) → K.written sink.new ++ gathered outbox.new ≡ K.written sink.old ++ gathered outbox.old }
     // Where nothing was put, none of the replies is urgent; else all were put.
     ensures due { result ≡ true → ((sink.new ≡ sink.old) × (outbox.new ≡ outbox.old) × (outbox.old.is_urgent ≡ false))

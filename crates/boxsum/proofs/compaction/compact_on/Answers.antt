@@ -1,4 +1,4 @@
-use Rattle.std.proofs.Common.{rules, ◌≡◌, ℕ, List, true, false, ◌++◌, refl, sym, ◌∙◌, ap, ap₂, subst, inl, inr, arith}
+use Rattle.std.proofs.Common.{◌≡◌, ℕ, List, true, false, ◌++◌, refl, sym, ◌∙◌, ap, ap₂, subst, inl, inr, arith}
 use Rattle.counts.specs.Count.{Rose}
 use Rattle.bw_types.specs.History.{last_version}
 use Rattle.bw_types.specs.declared.params.Params.{Params}
@@ -6,47 +6,25 @@ use Rattle.compact_store.specs.Compacted.{LeavesPart, second_out}
 use Rattle.compact_store.specs.Kept.{kept}
 use Rattle.compact_store.specs.declared.compacting.Compacted.{Compacted as CompactedName}
 use Rattle.compact_store.specs.declared.compacting.Compacted.TheVariants as made
-use Rattle.page_disk.specs.Image.{Image}
-use Rattle.page_disk.specs.Moment.{Moment}
-use Rattle.page_disk.specs.Since.{LeavesOnly}
 use Rattle.page_space.specs.declared.refusal.OpenFault.TheVariants as fault
-use Rattle.page_warehouse.specs.Holds.{Holds}
-use Rattle.page_warehouse.specs.Shown.{HoldsHistory, disk_in, meta_in, params_in}
-use Rattle.redo_journal.specs.Settled.{SettlesTo}
+use Rattle.page_warehouse.specs.Shown.{disk_in, meta_in}
 use Rattle.boxsum.specs.Compacting.{EndsAs, compacted_line}
-use Rattle.boxsum.specs.Held.{LeavesEach}
 use Rattle.boxsum.specs.Ran.{Compacts, compacted_text}
-use Rattle.boxsum.specs.Statuses.{status_of_fault}
 use Rattle.boxsum.specs.declared.status.Status.TheVariants as status
-use Rattle.boxsum.proofs.Compacting.{damaged, done, failed, fails, full_end, full_there, limited, may_end, no_journal, none_there, part_end, put_end, refused_may_end, silent_end, whole_end}
-use Rattle.boxsum.proofs.Exported.{journal_fault}
+use Rattle.boxsum.proofs.Compacting.{damaged, done, failed, fails, full_end, full_there, limited, may_end, no_empty, no_journal, none_there, part_end, put_end, refused_may_end, silent_end, whole_end}
 use Rattle.boxsum.proofs.Endings.{fault_of, never_falls, no_fault, rises}
 use Rattle.boxsum.proofs.Nothing.{nothing_left, stays_read}
-use Rattle.boxsum.proofs.Opened.{for_queries, not_damaged, only_memory, opened, refused_status, refuses, settled_holds, writes_nothing}
+use Rattle.boxsum.proofs.Opened.{for_queries, not_damaged, only_memory, refused_status, writes_nothing}
+use Rattle.boxsum.proofs.ReadsWarehouse.{GivesBack, holds_on, never_empty, never_none, reads_opened, reads_refused, stands_here}
 use Rattle.boxsum.proofs.compaction.compact_on.Goals as goal
 
 pub returns-in-Err : goal.returns-in-Err
 returns-in-Err g c = record {
   compacts = record {
     silent = λ fine put. refl;
-    reads = record {
-      empty = search rules;
-      empty_only = search rules;
-      refused = λ told none.
-          refuses g.D.Disk g.X.DomIndex.DIMS c.args.disk c.in-Err.refused.fault (record { status = c.from.result; disk = c.in-Err.refused.disk }) told c.from.ensures
-          c.in-Err.ensures.refused.empty c.in-Err.ensures.refused.bad_journal c.in-Err.ensures.refused.damaged (c.in-Err.ensures.stands_on told) c.in-Err.ensures.refused.stands c.in-Err.ensures.refused.settled;
-      bad_journal = λ page so told. journal_fault _ _ c.in-Err.refused.fault c.from.result page c.from.ensures so c.in-Err.ensures.refused.bad_journal told;
-      only_read = λ told. record {
-        stays = λ pages settles other. c.in-Err.ensures.refused.stands (λ so. other (c.from.ensures ∙ ap status_of_fault so) (rises c.in-Err.refused.fault _ _ c.in-Err.ensures.writes.faults so)) told pages settles;
-        moments = λ pages settles. c.in-Err.ensures.stands_on told pages settles;
-        untouched = λ calm. let u = c.in-Err.ensures.untouched told calm in record { image = u.image; moments = u.moments };
-      };
-      holds = λ params h held other. (
-        c.in-Err.ensures.writes.tells ∙ held.0,
-        c.in-Err.ensures.refused.kept (λ so. other (c.from.ensures ∙ ap status_of_fault so) (rises c.in-Err.refused.fault _ _ c.in-Err.ensures.writes.faults so)) held.0 params h held.1,
-      );
-      moments = λ params h held. c.in-Err.ensures.any_moment held.0 params h held.1;
-    };
+    reads = reads_refused g.D.Disk g.X.DomIndex c.args.disk c.in-Err.refused.fault (record { status = c.from.result; disk = c.in-Err.refused.disk }) c.from.ensures
+        (record { tells = c.in-Err.ensures.writes.tells; any_moment = c.in-Err.ensures.any_moment; stands_on = c.in-Err.ensures.stands_on; untouched = c.in-Err.ensures.untouched })
+        c.in-Err.ensures.refused c.in-Err.ensures.writes.faults;
     leaves = record {
       unopened = λ told why. refl;
       no_version = λ params h held above.
@@ -104,56 +82,36 @@ returns g c =
     let r = c.compact-compacted.result in
     let s = c.ended-status.result.0 in
     let ends = c.ended-status.ensures.status in
-    let image : g.D.Disk.image c.into_disk-disk.result ≡ g.D.Disk.image (disk_in c.in-Ok.house) = ap g.D.Disk.image c.into_disk-disk.ensures ∙ c.compact-compacted.ensures.kept.image in
-    let moments : g.D.Disk.moments c.into_disk-disk.result ≡ g.D.Disk.moments (disk_in c.in-Ok.house) = ap g.D.Disk.moments c.into_disk-disk.ensures ∙ c.compact-compacted.ensures.kept.moments in
-    let tells : g.D.Disk.tells c.into_disk-disk.result ≡ g.D.Disk.tells (disk_in c.in-Ok.house) = ap g.D.Disk.tells c.into_disk-disk.ensures ∙ c.compact-compacted.ensures.kept.tells in
-    let faults : g.D.Disk.faults c.into_disk-disk.result ≡ g.D.Disk.faults (disk_in c.compact-compacted.new.house) = ap g.D.Disk.faults c.into_disk-disk.ensures in
+    let e = c.in-Ok.ensures in
+    let o = e.opened in
+    let before = c.in-Ok.house in
+    let after = c.compact-compacted.new.house in
+    let kept_as = c.compact-compacted.ensures.kept in
+    let back : GivesBack g.D.Disk g.X.DomIndex c.args.disk (disk_in before) = record { tells = e.writes.tells; any_moment = e.any_moment; stands_on = e.stands_on; untouched = e.untouched } in
     record {
-      compacts = subst (λ (back : g.row.E.Denot). Compacts g.D.Disk g.E.Disk g.K.Sink g.X.DomIndex c.args.disk c.args.second c.args.sink.now c.ended-status.new.sink
-          (record { status = s; disk = c.into_disk-disk.result; second = back }) c.args.version) (sym c.ended-status.ensures.second)
+      compacts = subst (λ (first : g.row.D.Denot). Compacts g.D.Disk g.E.Disk g.K.Sink g.X.DomIndex c.args.disk c.args.second c.args.sink.now c.ended-status.new.sink
+          (record { status = s; disk = first; second = c.ended-status.result.1 }) c.args.version) (sym c.into_disk-disk.ensures)
+          (subst (λ (second : g.row.E.Denot). Compacts g.D.Disk g.E.Disk g.K.Sink g.X.DomIndex c.args.disk c.args.second c.args.sink.now c.ended-status.new.sink
+          (record { status = s; disk = disk_in after; second = second }) c.args.version) (sym c.ended-status.ensures.second)
           (record {
             silent = silent_end g.K.Sink c.last-last.result c.args.sink.now c.ended-status.new.sink r s ends;
-            reads = record {
-              empty = search rules;
-              empty_only = search rules;
-              refused = λ told none.
-                  let whole = c.in-Ok.ensures.opened.whole told in
-                  absurd (none (params_in c.in-Ok.house) (meta_in c.in-Ok.house) whole.0 whole.1 c.in-Ok.ensures.opened.numbers.0 c.in-Ok.ensures.opened.numbers.1);
-              bad_journal = λ page so told. absurd (no_journal g.K.Sink c.last-last.result c.args.sink.now c.ended-status.new.sink r s page ends so);
-              only_read = λ told. record {
-                stays = λ pages settles other. subst (λ (x : Image). SettlesTo x pages) (sym image) (c.in-Ok.ensures.opened.stands told pages settles);
-                moments = λ pages settles.
-                    subst (λ (ms : List Moment). LeavesOnly (λ x. SettlesTo x pages) (g.D.Disk.moments c.args.disk) ms) (sym moments) (c.in-Ok.ensures.stands_on told pages settles);
-                untouched = λ calm. let u = c.in-Ok.ensures.untouched told calm in record {
-                  image = image ∙ u.image;
-                  moments = subst (λ (ms : List Moment). LeavesOnly (λ x. x ≡ g.D.Disk.image c.args.disk) (g.D.Disk.moments c.args.disk) ms) (sym moments) u.moments;
-                };
-              };
-              holds = λ params h held other.
-                  let o = opened g.D.Disk g.X.DomIndex true c.args.disk (disk_in c.in-Ok.house) (params_in c.in-Ok.house) params h c.in-Ok.ensures.opened.holds c.in-Ok.ensures.opened.holds_trees c.in-Ok.ensures.writes.tells held in
-                  (tells ∙ o.1.0, subst (λ (x : Image). Holds g.X.DomIndex x params h) (sym image) o.1.1);
-              moments = λ params h held.
-                  subst (λ (ms : List Moment). LeavesOnly (λ x. Holds g.X.DomIndex x params h) (g.D.Disk.moments c.args.disk) ms) (sym moments) (c.in-Ok.ensures.any_moment held.0 params h held.1);
-            };
+            reads = reads_opened g.D.Disk g.X.DomIndex c.args.disk before o back after kept_as s
+                (no_empty g.K.Sink c.last-last.result c.args.sink.now c.ended-status.new.sink r s ends) (λ page so. no_journal g.K.Sink c.last-last.result c.args.sink.now c.ended-status.new.sink r s page ends so);
             leaves = record {
-              unopened = λ told why.
-                  let whole = c.in-Ok.ensures.opened.whole told in
-                  absurd (elim why [
-                    | inl empty ↦ (let no : ⊥ = search rules in no)
-                    | inr none ↦ none (params_in c.in-Ok.house) (meta_in c.in-Ok.house) whole.0 whole.1 c.in-Ok.ensures.opened.numbers.0 c.in-Ok.ensures.opened.numbers.1
-                  ]);
+              unopened = λ told why. absurd (elim why [
+                | inl none ↦ never_empty g.D.Disk g.X.DomIndex c.args.disk before o told none
+                | inr none ↦ never_none g.D.Disk g.X.DomIndex c.args.disk before o told none
+              ]);
               no_version = λ params h held above.
-                  let o = opened g.D.Disk g.X.DomIndex true c.args.disk (disk_in c.in-Ok.house) (params_in c.in-Ok.house) params h c.in-Ok.ensures.opened.holds c.in-Ok.ensures.opened.holds_trees c.in-Ok.ensures.writes.tells held in
-                  let here = subst (λ (p : Params). HoldsHistory g.D.Disk g.X.DomIndex true (disk_in c.in-Ok.house) p h) (sym o.0) o.1 in
-                  let last : (meta_in c.in-Ok.house).version ≡ last_version h = sym c.last-last.ensures.value ∙ c.last-last.ensures.held true h here in
+                  let here = stands_here g.D.Disk g.X.DomIndex c.args.disk before o back true params h held in
+                  let last : (meta_in before).version ≡ last_version h = sym c.last-last.ensures.value ∙ c.last-last.ensures.held true h here.1 in
                   let is = c.compact-compacted.ensures.above (omega (arith, last, above)) in (
                     ap (λ (q : CompactedName g.row.E.Denot). second_out q) is,
                     inl ((subst (λ (q : CompactedName g.row.E.Denot). EndsAs g.K.Sink c.last-last.result c.args.sink.now c.ended-status.new.sink q s) is ends).0 ∙ ap status.NoVersion last),
                   );
               no_version_only = λ params h last held so.
-                  let o = opened g.D.Disk g.X.DomIndex true c.args.disk (disk_in c.in-Ok.house) (params_in c.in-Ok.house) params h c.in-Ok.ensures.opened.holds c.in-Ok.ensures.opened.holds_trees c.in-Ok.ensures.writes.tells held in
-                  let here = subst (λ (p : Params). HoldsHistory g.D.Disk g.X.DomIndex true (disk_in c.in-Ok.house) p h) (sym o.0) o.1 in
-                  let same : (meta_in c.in-Ok.house).version ≡ last_version h = sym c.last-last.ensures.value ∙ c.last-last.ensures.held true h here in
+                  let here = stands_here g.D.Disk g.X.DomIndex c.args.disk before o back true params h held in
+                  let same : (meta_in before).version ≡ last_version h = sym c.last-last.ensures.value ∙ c.last-last.ensures.held true h here.1 in
                   let found = none_there g.K.Sink c.last-last.result c.args.sink.now c.ended-status.new.sink r s last ends so in
                   let none = c.compact-compacted.ensures.no_version found.0 last found.1 in
                   (none.0 ∙ same, none.1);
@@ -165,9 +123,8 @@ returns g c =
                     (λ allotted so. stays.1.1.0 (second_out r) allotted (limited g.K.Sink c.last-last.result c.args.sink.now c.ended-status.new.sink r s allotted ends so)),
                   );
               there_held = λ params h held within told full.
-                  let o = opened g.D.Disk g.X.DomIndex true c.args.disk (disk_in c.in-Ok.house) (params_in c.in-Ok.house) params h c.in-Ok.ensures.opened.holds c.in-Ok.ensures.opened.holds_trees c.in-Ok.ensures.writes.tells held in
-                  let here = subst (λ (p : Params). HoldsHistory g.D.Disk g.X.DomIndex true (disk_in c.in-Ok.house) p h) (sym o.0) o.1 in
-                  let same : (meta_in c.in-Ok.house).version ≡ last_version h = sym c.last-last.ensures.value ∙ c.last-last.ensures.held true h here in
+                  let here = stands_here g.D.Disk g.X.DomIndex c.args.disk before o back true params h held in
+                  let same : (meta_in before).version ≡ last_version h = sym c.last-last.ensures.value ∙ c.last-last.ensures.held true h here.1 in
                   let stays = c.compact-compacted.ensures.full.there told full in
                   full_end g.K.Sink c.last-last.result c.args.sink.now c.ended-status.new.sink r s ends
                   (λ e version is. let found = c.compact-compacted.ensures.no_version e version is in omega (arith, found.0, found.1, same, within)) stays.1.0 stays.1.1.0 stays.1.1.1.0 stays.1.1.1.1;
@@ -175,12 +132,11 @@ returns g c =
                   let found = full_there g.K.Sink c.last-last.result c.args.sink.now c.ended-status.new.sink r s ends so in
                   c.compact-compacted.ensures.full.only found.0 found.1 told;
               makes = λ params h held within told none.
-                  let o = opened g.D.Disk g.X.DomIndex true c.args.disk (disk_in c.in-Ok.house) (params_in c.in-Ok.house) params h c.in-Ok.ensures.opened.holds c.in-Ok.ensures.opened.holds_trees c.in-Ok.ensures.writes.tells held in
-                  let here = subst (λ (p : Params). HoldsHistory g.D.Disk g.X.DomIndex true (disk_in c.in-Ok.house) p h) (sym o.0) o.1 in
-                  let last : c.last-last.result ≡ last_version h = c.last-last.ensures.held true h here in
-                  let same : (meta_in c.in-Ok.house).version ≡ last_version h = sym c.last-last.ensures.value ∙ last in
-                  let left = subst (λ (p : Params). LeavesPart g.E.Disk g.X.DomIndex p (kept h c.args.version) c.args.second r) o.0 (c.compact-compacted.ensures.leaves h here within told none) in
-                  let lawful = c.kept_laws.ensures.lawful params h c.args.version o.1.1.lawful within in
+                  let here = stands_here g.D.Disk g.X.DomIndex c.args.disk before o back true params h held in
+                  let last : c.last-last.result ≡ last_version h = c.last-last.ensures.held true h here.1 in
+                  let same : (meta_in before).version ≡ last_version h = sym c.last-last.ensures.value ∙ last in
+                  let left = subst (λ (p : Params). LeavesPart g.E.Disk g.X.DomIndex p (kept h c.args.version) c.args.second r) here.0 (c.compact-compacted.ensures.leaves h here.1 within told none) in
+                  let lawful = c.kept_laws.ensures.lawful params h c.args.version held.1.lawful within in
                   let line = λ (e : g.row.E.Denot) (rows : ℕ) (is : r ≡ made.Done e rows). ap₂ compacted_line (last ∙ sym lawful.1) (left.done e rows is).0 in
                   record {
                     done = λ why.
@@ -192,12 +148,8 @@ returns g c =
                         let wrote = whole.1.1.fine fine before in
                         (wrote.0, wrote.1 ∙ ap (λ (text : List ℕ). g.K.Sink.written c.args.sink.now ++ text) (line (second_out r) whole.0 whole.1.0));
                     last = λ so. lawful.1;
-                    alike = λ later q so from to. (c.kept_laws.ensures.alike params h c.args.version later q o.1.1.lawful from to).1;
-                    first = λ why. record {
-                      holds = (tells ∙ o.1.0, subst (λ (x : Image). Holds g.X.DomIndex x params h) (sym image) o.1.1);
-                      left = subst (λ (ms : List Moment). LeavesEach (λ x. Holds g.X.DomIndex x params h) ms) (sym moments)
-                          (settled_holds g.X.DomIndex params h (g.D.Disk.moments (disk_in c.in-Ok.house)) (g.D.Disk.image (disk_in c.in-Ok.house)) c.in-Ok.ensures.opened.settled o.1.1);
-                    };
+                    alike = λ later q so from to. (c.kept_laws.ensures.alike params h c.args.version later q held.1.lawful from to).1;
+                    first = λ why. holds_on g.D.Disk g.X.DomIndex c.args.disk before o back after kept_as params h held;
                     part = part_end g.K.Sink c.last-last.result c.args.sink.now c.ended-status.new.sink r s (compacted_text (kept h c.args.version)) ends line;
                     stays = λ other. left.now (λ e is. other (fails g.K.Sink c.last-last.result c.args.sink.now c.ended-status.new.sink r s e ends is));
                     moments = left.moments;
@@ -215,14 +167,13 @@ returns g c =
               may_end = may_end g.K.Sink c.last-last.result c.args.sink.now c.ended-status.new.sink r s ends;
               write_fault = put_end g.K.Sink c.last-last.result c.args.sink.now c.ended-status.new.sink r s ends;
               disk_fault = λ so. elim (c.compact-compacted.ensures.disk (second_out r) (failed g.K.Sink c.last-last.result c.args.sink.now c.ended-status.new.sink r s ends so)) [
-                | inl rose ↦ inl (subst (λ (n : ℕ). Rose n (g.D.Disk.faults c.into_disk-disk.result)) c.in-Ok.ensures.writes.faults
-                    (subst (λ (n : ℕ). Rose (g.D.Disk.faults (disk_in c.in-Ok.house)) n) (sym faults) rose))
+                | inl rose ↦ inl (subst (λ (n : ℕ). Rose n (g.D.Disk.faults (disk_in after))) e.writes.faults rose)
                 | inr rose ↦ inr rose
               ];
-              tells = tells ∙ c.in-Ok.ensures.writes.tells;
-              faults = let more = c.compact-compacted.ensures.faults in let opened : g.D.Disk.faults (disk_in c.in-Ok.house) ≡ g.D.Disk.faults c.args.disk = c.in-Ok.ensures.writes.faults in omega (arith, more, opened, faults);
+              tells = kept_as.tells ∙ e.writes.tells;
+              faults = let more = c.compact-compacted.ensures.faults in let opened : g.D.Disk.faults (disk_in before) ≡ g.D.Disk.faults c.args.disk = e.writes.faults in omega (arith, more, opened);
               second_tells = c.compact-compacted.ensures.tells;
               second_faults = c.compact-compacted.ensures.second_faults;
             };
-          });
+          }));
     }

@@ -15,6 +15,7 @@ returns-in-Ok-Create g c = record {
         record { untouched = (refl, refl); makes = created_by _ _ _ _ c.in-Ok-Create.params params same c.create_on.ensures.makes };
     run = search rules;
     sample = search rules;
+    report = search rules;
     export = search rules;
     may_end = search rules;
     causes = search rules;
@@ -32,6 +33,7 @@ returns-in-Ok-Run g c = record {
     create = search rules;
     run = λ asked. c.run_on.ensures.ran;
     sample = search rules;
+    report = search rules;
     export = search rules;
     may_end = search rules;
     causes = c.run_on.ensures.causes;
@@ -51,6 +53,7 @@ returns-in-Ok-Scratch g c = record {
     create = search rules;
     run = search rules;
     sample = search rules;
+    report = search rules;
     export = search rules;
     may_end = search rules;
     causes = search rules;
@@ -70,11 +73,30 @@ returns-in-Ok-Sample g c = record {
     sample = λ start count asked.
         let same = same_sample (map string_bytes c.args.words.now) c.in-Ok-Sample.field-0 c.in-Ok-Sample.start c.in-Ok-Sample.count start count c.in-Ok-Sample.ensures.read c.in-Ok-Sample.field-0-is (one_is_built (map string_bytes c.args.words.now) (Sample start count) asked) in
         record { source_stays = refl; samples = sampled_by _ _ _ _ _ _ _ c.in-Ok-Sample.start c.in-Ok-Sample.count start count same c.sample_on.ensures.samples };
+    report = search rules;
     export = search rules;
     may_end = search rules;
     causes = search rules;
     tells = c.sample_on.ensures.tells;
     faults = c.sample_on.ensures.faults;
+  };
+}
+
+pub returns-in-Ok-Report : goal.returns-in-Ok-Report
+returns-in-Ok-Report g c = record {
+  carried = record {
+    usage = search rules;
+    usage_only = search rules;
+    scratch = search rules;
+    create = search rules;
+    run = search rules;
+    sample = search rules;
+    report = λ asked. c.report_on.ensures.ran;
+    export = search rules;
+    may_end = search rules;
+    causes = c.report_on.ensures.causes;
+    tells = c.report_on.ensures.tells;
+    faults = c.report_on.ensures.faults;
   };
 }
 
@@ -87,6 +109,7 @@ returns-in-Ok-Export g c = record {
     create = search rules;
     run = search rules;
     sample = search rules;
+    report = search rules;
     export = λ asked. record { source_stays = refl; exports = c.export_on.ensures.exports };
     may_end = search rules;
     causes = record {
@@ -107,6 +130,7 @@ returns-in-Ok g c = record {
     create = search rules;
     run = search rules;
     sample = search rules;
+    report = search rules;
     export = search rules;
     may_end = search rules;
     causes = search rules;

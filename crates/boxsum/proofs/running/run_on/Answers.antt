@@ -20,9 +20,9 @@ use Rattle.boxsum.specs.Held.{BeginsWith, HoldsBetween, HoldsFrom}
 use Rattle.boxsum.specs.Runs.{history_by, state_by}
 use Rattle.boxsum.specs.Statuses.{status_of, status_of_fault}
 use Rattle.boxsum.specs.declared.status.Status.TheVariants as status
-use Rattle.boxsum.proofs.Endings.{ending_of, ends_between, fault_of, flushes, input_ending, input_flushes, never_falls, no_ending, no_fault, no_input, only_fine, rises, run_ends}
-use Rattle.boxsum.proofs.Nothing.{nothing_served}
-use Rattle.boxsum.proofs.Opened.{between_here, for_queries, from_here, goes_on_same, goes_on_twice, goes_with, lacks_next, left_only, need_within, not_damaged, nothing_replied, only_memory, opened, refused_status, refuses, settled_holds, some_way, stretched, wider, writes_nothing}
+use Rattle.boxsum.proofs.Endings.{ending_of, ends_between, fault_of, flushes, input_ending, input_flushes, never_falls, no_ending, no_fault, no_input, only_fine, port_cause, rises, run_ends}
+use Rattle.boxsum.proofs.Nothing.{nothing_served, text_unread}
+use Rattle.boxsum.proofs.Opened.{between_here, for_queries, from_here, goes_on_same, goes_on_twice, goes_with, lacks_next, left_only, need_within, nothing_replied, opened, refused_status, refuses, settled_holds, some_way, stretched, wider}
 use Rattle.boxsum.proofs.Reading.{may_within, no_version_next}
 use Rattle.boxsum.proofs.Scratch.{ends_at, lasts_at, whole_text}
 use Rattle.boxsum.proofs.running.run_on.Goals as goal
@@ -37,21 +37,11 @@ returns-in-Err-clause-ran g c =
         refuses g.D.Disk g.X.DomIndex.DIMS c.args.disk c.in-Err.refused.fault (record { status = c.from.result; disk = c.in-Err.refused.disk }) told c.from.ensures
             c.in-Err.ensures.refused.empty c.in-Err.ensures.refused.bad_journal c.in-Err.ensures.refused.damaged (c.in-Err.ensures.stands_on told) c.in-Err.ensures.refused.stands c.in-Err.ensures.refused.settled,
       );
-      answers = λ params h b. record {
-        fine = λ fine told tells. absurd (no_fault c.in-Err.refused.fault c.from.result status.Fine c.from.ensures fine refl);
-        part = λ told tells still. writes_nothing (g.K.Sink.written c.args.sink.now) (text params h (g.S.Source.left c.args.source.now));
-        whole_lines = λ why told left_told tells. absurd (no_input c.in-Err.refused.fault c.from.result c.from.ensures why);
-        undamaged = λ area page.
-            let w = some_way g.D.Disk g.X.DomIndex c.machine_laws.ensures.may (g.S.Source.tells c.args.source.now) c.args.disk (g.S.Source.left c.args.source.now) params h b in
-            let known = for_queries g.D.Disk g.X.DomIndex c.holding_laws.ensures.queries w.0 c.args.disk params h w.1.1 in
-            let why = refused_status g.D.Disk g.X.DomIndex c.in-Err.refused.fault c.from.result c.from.ensures (c.in-Err.ensures.refused.sound known.0 params h known.1) in
-            not_damaged c.from.result area page why;
-        complete = λ told short source sink other limit.
-            let w = some_way g.D.Disk g.X.DomIndex c.machine_laws.ensures.may (g.S.Source.tells c.args.source.now) c.args.disk (g.S.Source.left c.args.source.now) params h b in
-            let known = for_queries g.D.Disk g.X.DomIndex c.holding_laws.ensures.queries w.0 c.args.disk params h w.1.1 in
-            let why = refused_status g.D.Disk g.X.DomIndex c.in-Err.refused.fault c.from.result c.from.ensures (c.in-Err.ensures.refused.sound known.0 params h known.1) in
-            only_memory c.from.result why other;
-      };
+      answers = λ params h b.
+          let w = some_way g.D.Disk g.X.DomIndex c.machine_laws.ensures.may (g.S.Source.tells c.args.source.now) c.args.disk (g.S.Source.left c.args.source.now) params h b in
+          let known = for_queries g.D.Disk g.X.DomIndex c.holding_laws.ensures.queries w.0 c.args.disk params h w.1.1 in
+          let why = refused_status g.D.Disk g.X.DomIndex c.in-Err.refused.fault c.from.result c.from.ensures (c.in-Err.ensures.refused.sound known.0 params h known.1) in
+          text_unread g.S.Source g.K.Sink c.args.source.now c.args.sink.now c.from.result (text params h) why;
       at_end = λ fine told. absurd (no_fault c.in-Err.refused.fault c.from.result status.Fine c.from.ensures fine refl);
       history = λ params h held. record {
         kept = λ fine told. absurd (no_fault c.in-Err.refused.fault c.from.result status.Fine c.from.ensures fine refl);
@@ -398,11 +388,8 @@ returns-in-Err-clause-causes g c = record {
 
 pub returns-clause-causes : goal.returns-clause-causes
 returns-clause-causes g c = record {
-  ports = record {
-    read_fault = λ so. c.serve-ran.ensures.read_fault (ending_of c.serve-ran.result.ending ending.ReadFault c.from-2.result status.ReadFault c.from-2.ensures so refl);
-    write_fault = λ so. c.serve-ran.ensures.write_fault (ending_of c.serve-ran.result.ending ending.WriteFault c.from-2.result status.WriteFault c.from-2.ensures so refl);
-    input_limit = λ taken so. c.serve-ran.ensures.input_limit taken (ending_of c.serve-ran.result.ending (ending.InputLimit taken) c.from-2.result (status.InputLimit taken) c.from-2.ensures so refl);
-  };
+  ports = port_cause g.S.Source g.K.Sink c.args.source.now c.serve-ran.new.source c.args.sink.now c.serve-ran.new.sink
+      c.serve-ran.result.ending c.from-2.result c.from-2.ensures c.serve-ran.ensures.read_fault c.serve-ran.ensures.write_fault c.serve-ran.ensures.input_limit;
   disk_fault = search rules;
 }
 

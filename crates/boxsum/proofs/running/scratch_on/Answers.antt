@@ -5,7 +5,7 @@ use Rattle.row_machine.specs.declared.ending.Ending.{Ending}
 use Rattle.row_machine.specs.declared.ending.Ending.TheVariants as ending
 use Rattle.row_machine.specs.Serving.{IsFlushed}
 use Rattle.boxsum.specs.declared.status.Status.TheVariants as status
-use Rattle.boxsum.proofs.Endings.{ending_of, ends_between, flushes, input_ending, input_flushes, no_ending, only_fine, run_ends, scratch_ends}
+use Rattle.boxsum.proofs.Endings.{ending_of, ends_between, flushes, input_ending, input_flushes, no_ending, only_fine, port_cause, run_ends, scratch_ends}
 use Rattle.boxsum.proofs.Scratch.{ends_at, whole_text}
 use Rattle.boxsum.proofs.running.scratch_on.Goals as goal
 
@@ -18,11 +18,8 @@ returns-clause-may_end g c =
     (λ allotted so. (lasts.page_limit allotted so).2)
 
 pub returns-clause-causes : goal.returns-clause-causes
-returns-clause-causes g c = record {
-  read_fault = λ so. c.serve.ensures.read_fault (ending_of c.serve.result.ending ending.ReadFault c.from.result status.ReadFault c.from.ensures so refl);
-  write_fault = λ so. c.serve.ensures.write_fault (ending_of c.serve.result.ending ending.WriteFault c.from.result status.WriteFault c.from.ensures so refl);
-  input_limit = λ taken so. c.serve.ensures.input_limit taken (ending_of c.serve.result.ending (ending.InputLimit taken) c.from.result (status.InputLimit taken) c.from.ensures so refl);
-}
+returns-clause-causes g c = port_cause g.S.Source g.K.Sink c.args.source.now c.serve.new.source c.args.sink.now c.serve.new.sink
+    c.serve.result.ending c.from.result c.from.ensures c.serve.ensures.read_fault c.serve.ensures.write_fault c.serve.ensures.input_limit
 
 pub returns-clause-answers : goal.returns-clause-answers
 returns-clause-answers g c =

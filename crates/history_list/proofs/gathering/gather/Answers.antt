@@ -1,4 +1,5 @@
-use Rattle.std.proofs.Common.{rules, ◌≡◌, true, IsTrue, List, Err, IsPermutation, refl, sym, ◌∙◌, ap, subst}
+use Rattle.std.proofs.Common.{rules, arith, ◌≡◌, true, IsTrue, List, Err, IsPermutation, refl, sym, ◌∙◌, ap, subst}
+use Rattle.std.specs.Option.{option_copied}
 use Rattle.std.proofs.lemmas.Result.{err_from_is_err_and}
 use Rattle.std.proofs.lemmas.List.Sorted.{IsNonDecreasingBy-from_sort_by_key}
 use Rattle.bw_types.specs.History.{History}
@@ -11,7 +12,7 @@ use Rattle.history_list.specs.declared.event.Event.{Event}
 use Rattle.history_list.proofs.Faults.{read_damaged}
 use Rattle.history_list.proofs.Houses.{all_passed, events_all, holds_now, keeps_now, stays, stays_on}
 use Rattle.history_list.proofs.InOrder.{are_events}
-use Rattle.history_list.proofs.Walked.{events_on, first_walk}
+use Rattle.history_list.proofs.Walked.{events_on, first_walk, last_from, last_of, none_of}
 use Rattle.history_list.proofs.gathering.gather.Given
 use Rattle.history_list.proofs.gathering.gather.Goals as goal
 
@@ -25,25 +26,31 @@ loop-events-init g c = record {
 
 pub loop-events-preserved : goal.loop-events-preserved
 loop-events-preserved g c = record {
-  stays = stays_on g.D.Disk g.X.DomIndex c.args.house.now c.loop-events.house c.walk.new.self c.loop-events.invariant.stays c.walk.ensures.kept;
-  meta = c.walk.ensures.meta ∙ c.loop-events.invariant.meta;
+  stays = stays_on g.D.Disk g.X.DomIndex c.args.house.now c.loop-events.house c.walk_leaf.new.self c.loop-events.invariant.stays c.walk_leaf.ensures.kept;
+  meta = c.walk_leaf.ensures.meta ∙ c.loop-events.invariant.meta;
   faults = search rules;
   events = λ told h kept table.
       let now = subst IsTrue (sym c.loop-events.invariant.stays.tells) told in
       let here = keeps_now g.D.Disk g.X.DomIndex c.args.house.now c.loop-events.house h kept c.loop-events.invariant.stays table.keeps in
-      let at = sym (c.in_ok-dated.ensures.next h kept now here) ∙ c.in-Some.is in
-      events_on c.loop-events.events.items c.push_events.new.events.items (from_life c.loop-events.after) kept c.in-Some.dated table.ascend at
-      (c.loop-events.invariant.events told h kept table) c.in_ok-push_events.ensures;
+      let last = last_of c.in_ok-leaf.leaf.items c.as_slice.result.now (option_copied c.last.result) c.copied.result c.as_slice.ensures.value c.last.ensures.value c.copied.ensures c.in-Some.last c.in-Some.is in
+      events_on c.loop-events.events.items c.push_all.new.events.items (from_life c.loop-events.after) kept c.in_ok-leaf.leaf.items c.as_slice-in-loop-events.result.now last.0 c.in-Some.last table.ascend (c.in_ok-leaf.ensures.next h kept now here) last.1
+      (c.loop-events.invariant.events told h kept table) c.as_slice-in-loop-events.ensures.value c.in_ok-push_all.ensures;
 }
+
+pub loop-events-smaller : goal.loop-events-smaller
+loop-events-smaller g c =
+    let from = last_from c.in_ok-leaf.leaf.items c.as_slice.result.now (option_copied c.last.result) c.copied.result c.as_slice.ensures.value c.last.ensures.value c.copied.ensures (from_life c.loop-events.after) c.in-Some.last c.in-Some.is c.in_ok-leaf.ensures.above in
+    omega (arith, from)
 
 -- the lives that the table keeps, which were all passed
 passed : (g : Given.Over) (c : goal.After-sort_unstable_by_key g) → (h : History) → HoldsHistory g.D.Disk g.X.DomIndex true (disk_in c.args.house.now) (params_in c.args.house.now) h
     → (kept : List Dated) × (IsPermutation kept (lives h)) × (c.loop-events.events.items ≡ events_of_lives kept)
 passed g c h held =
     let now = subst IsTrue (sym c.loop-events.invariant.stays.tells) held.0 in
-    all_passed g.D.Disk g.X.DomIndex c.tables_keep_lives.ensures c.args.house.now h (from_life c.loop-events.after) c.loop-events.events.items held
+    all_passed g.D.Disk g.X.DomIndex c.tables_keep_lives.ensures c.args.house.now h (from_life c.loop-events.after) c.loop-events.events.items c.in_ok-leaf.leaf.items held
     (λ kept table. c.loop-events.invariant.events held.0 h kept table)
-    (λ kept table. sym (c.in_ok-dated.ensures.next h kept now (keeps_now g.D.Disk g.X.DomIndex c.args.house.now c.loop-events.house h kept c.loop-events.invariant.stays table.keeps)) ∙ c.in_default.is)
+    (λ kept table. c.in_ok-leaf.ensures.next h kept now (keeps_now g.D.Disk g.X.DomIndex c.args.house.now c.loop-events.house h kept c.loop-events.invariant.stays table.keeps))
+    (none_of c.in_ok-leaf.leaf.items c.as_slice.result.now (option_copied c.last.result) c.copied.result c.as_slice.ensures.value c.last.ensures.value c.copied.ensures c.in_default.is)
 
 pub returns-clause-events : goal.returns-clause-events
 returns-clause-events g c = λ h held.
@@ -57,16 +64,16 @@ returns-clause-lives g c = λ h held.
     events_all h all.0 c.loop-events.events.items c.sort_unstable_by_key.new.self.items all.1 all.2 c.sort_unstable_by_key.ensures.permutation
 
 pub returns-clause-kept : goal.returns-clause-kept
-returns-clause-kept g c = stays_on g.D.Disk g.X.DomIndex c.args.house.now c.loop-events.house c.walk.new.self c.loop-events.invariant.stays c.walk.ensures.kept
+returns-clause-kept g c = stays_on g.D.Disk g.X.DomIndex c.args.house.now c.loop-events.house c.walk_leaf.new.self c.loop-events.invariant.stays c.walk_leaf.ensures.kept
 
-pub returns-in_err-dated-clause-kept : goal.returns-in_err-dated-clause-kept
-returns-in_err-dated-clause-kept g c = stays_on g.D.Disk g.X.DomIndex c.args.house.now c.loop-events.house c.walk.new.self c.loop-events.invariant.stays c.walk.ensures.kept
+pub returns-in_err-leaf-clause-kept : goal.returns-in_err-leaf-clause-kept
+returns-in_err-leaf-clause-kept g c = stays_on g.D.Disk g.X.DomIndex c.args.house.now c.loop-events.house c.walk_leaf.new.self c.loop-events.invariant.stays c.walk_leaf.ensures.kept
 
-pub returns-in_err-push_events-clause-kept : goal.returns-in_err-push_events-clause-kept
-returns-in_err-push_events-clause-kept g c = stays_on g.D.Disk g.X.DomIndex c.args.house.now c.loop-events.house c.walk.new.self c.loop-events.invariant.stays c.walk.ensures.kept
+pub returns-in_err-push_all-clause-kept : goal.returns-in_err-push_all-clause-kept
+returns-in_err-push_all-clause-kept g c = stays_on g.D.Disk g.X.DomIndex c.args.house.now c.loop-events.house c.walk_leaf.new.self c.loop-events.invariant.stays c.walk_leaf.ensures.kept
 
-pub returns-in_err-dated-clause-sound : goal.returns-in_err-dated-clause-sound
-returns-in_err-dated-clause-sound g c = λ h page held e.
+pub returns-in_err-leaf-clause-sound : goal.returns-in_err-leaf-clause-sound
+returns-in_err-leaf-clause-sound g c = λ h page held e.
     let told = err_from_is_err_and c.from_residual.result c.from_residual.ensures.1 in
-    let same = read_damaged c.from_residual.result c.in_err-dated.field-0.0 page told e in
-    c.in_err-dated.ensures.sound h page (holds_now g.D.Disk g.X.DomIndex c.args.house.now c.loop-events.house h c.loop-events.invariant.stays held) (ap Err same)
+    let same = read_damaged c.from_residual.result c.in_err-leaf.field-0.0 page told e in
+    c.in_err-leaf.ensures.sound h page (holds_now g.D.Disk g.X.DomIndex c.args.house.now c.loop-events.house h c.loop-events.invariant.stays held) (ap Err same)

@@ -1,0 +1,8 @@
+use Rattle.std.proofs.Common.{◌+◌, ◌*◌}
+use Rattle.csv_rows.specs.Fields.{field_at}
+use Rattle.grid_report.specs.GridRows.{extent_of}
+use Rattle.csv_rows.proofs.GivenValues.{HoldsGiven}
+use Rattle.grid_report.proofs.rows.extents_at.Given as goal
+
+abbrev pub invariant-loop-i : goal.invariant-loop-i
+invariant-loop-i l = HoldsGiven l.i (λ i. extent_of (field_at l.fields (l.place + 3 * i))) 3 0 l.extents

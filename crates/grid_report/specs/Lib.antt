@@ -1,0 +1,9 @@
+pub mod Corners
+pub mod Desk
+pub mod GridCosts
+pub mod Grids
+pub mod GridRows
+pub mod GridReplies
+pub mod Indexes
+pub mod CellsAddUp
+pub mod Worked
