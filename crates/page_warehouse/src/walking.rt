@@ -1,4 +1,4 @@
-//! Walking through the object table, life by life.
+//! Walking through the object table, life by life or leaf by leaf.
 ghost use Rattle.std.specs.Prelude.{◌≡◌, ◌≤◌, ◌<◌, ◌^◌, ℕ, List, true, IsTrue, IfOk, IfSome, Err};
 ghost use Rattle.std.specs.List.{All};
 ghost use Rattle.std.specs.Option.{option_to_list};
@@ -51,7 +51,7 @@ impl<D: Disk, X: DomIndex> Warehouse<D, X> {
     /// The life after this id and life in the object table, or the first of all, and those behind it in its leaf; none where
     /// there is none. Where each id has its first life alone, in the earlier form, it is one life at a time.
     ///
-    /// It leaves and refuses what `walk` does.
+    /// It takes no memory, changes neither history nor image, and is refused as `walk` is.
     pub fn walk_leaf(&mut self, after: Option<(u64, u32)>) -> Result<ArrayVec<Dated, 14>, PageFault>
         ensures next { IfOk result (λ found. (h : History) (kept : List Dated) → IsTrue (D.tells (disk_in self.old))
             → KeepsLives X.DomIndex (D.image (disk_in self.old)) (params_in self.old) h kept → AreNext found.items (from_life after) kept) }
