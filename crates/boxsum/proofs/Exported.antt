@@ -1,10 +1,9 @@
 -- An export: what is printed, what the disk keeps, and where there is no memory to read the words.
-use Rattle.std.proofs.Common.{◌≡◌, ◌≢◌, ◌⊎◌, ℕ, IsTrue, List, [], ◌++◌, drop, take, inl, inr, refl, sym, ◌∙◌}
-use Rattle.std.proofs.lemmas.List.{append-nil, take-append-drop}
+use Rattle.std.proofs.Common.{◌≡◌, ◌≢◌, ◌⊎◌, ℕ, IsTrue, List, [], ◌++◌, inl, inr, refl, sym, ◌∙◌}
+use Rattle.std.proofs.lemmas.List.{append-nil}
 use Rattle.byte_ports.specs.declared.Source.{Ghosts as SourceGhosts}
 use Rattle.byte_ports.specs.declared.Sink.{Ghosts as SinkGhosts}
 use Rattle.dom_index.specs.declared.index.DomIndex.{Ghosts as IndexGhosts}
-use Rattle.history_text.specs.Put.{PutsFront}
 use Rattle.history_text.specs.Rows.{rows_of}
 use Rattle.page_disk.specs.declared.disk.Area.{Area}
 use Rattle.page_disk.specs.declared.disk.Area.TheVariants.{Pages, Journal}
@@ -20,10 +19,7 @@ use Rattle.boxsum.specs.declared.status.Status.TheVariants.{Fine, Usage, NoWareh
 use Rattle.boxsum.proofs.Nothing.{nothing_read}
 use Rattle.boxsum.proofs.Opened.{writes_nothing}
 
--- a front of a text is a part of it, and so is the whole
-pub front_is_part : (before after bytes : List ℕ) → PutsFront before after bytes → WritesPart before after bytes
-front_is_part before after bytes f = record { out = take f.count bytes; rest = drop f.count bytes; wrote = f.put; part = sym (take-append-drop f.count bytes) }
-
+-- the whole of a text is a part of it
 pub whole_is_part : (before after bytes : List ℕ) → after ≡ before ++ bytes → WritesPart before after bytes
 whole_is_part before after bytes e = record { out = bytes; rest = []; wrote = e; part = sym (append-nil bytes) }
 

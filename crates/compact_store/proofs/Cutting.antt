@@ -1,19 +1,20 @@
 -- Lists of events that are cut into batches.
-use Rattle.std.proofs.Common.{◌≡◌, ℕ, zero, suc, ◌+◌, ◌-◌, ◌≤◌, ◌==◌, nat_le, min, Bool, true, false, List, [], ◌∷◌, ◌++◌, length, map, take, drop, refl, sym, ◌∙◌, ap, subst, arith, cond, inl, inr}
-use Rattle.std.proofs.lemmas.Bool.{cases_lt, eq-eqb, le-leb, lt-leb, ne_eqb}
+use Rattle.std.proofs.Common.{◌≡◌, ℕ, zero, suc, ◌+◌, ◌-◌, ◌≤◌, nat_le, min, List, [], ◌∷◌, ◌++◌, length, map, take, drop, refl, sym, ◌∙◌, ap, subst, arith, inl, inr}
+use Rattle.std.proofs.lemmas.Bool.{cases_lt, le-leb, lt-leb}
 use Rattle.std.proofs.lemmas.List.{drop-drop, drop-map, drop_all, length-append, length-drop, length-map, take-map, take_min}
 use Rattle.std.proofs.lemmas.List.Concat.{flat_map-append}
-use Rattle.std.specs.List.{prefix_len}
 use Rattle.bw_types.specs.History.{History, changes, last_version, live}
 use Rattle.bw_types.specs.Lawful.{IsLawful}
-use Rattle.bw_types.specs.Lives.{Numbered, numbered_batch, numbered_from}
+use Rattle.bw_types.specs.Lives.{numbered_batch, numbered_from}
 use Rattle.bw_types.specs.declared.change.Change.{Change}
 use Rattle.bw_types.specs.declared.change.Change.TheVariants as change
 use Rattle.bw_types.specs.declared.object.Object.{Object}
 use Rattle.bw_types.specs.declared.params.Params.{Params}
+use Rattle.history_list.proofs.CutByVersion.{batches_are, both_cons, passes, stops}
+use Rattle.history_list.specs.Batches.{batches_from}
 use Rattle.history_list.specs.Events.{change_in, numbered_in}
 use Rattle.history_list.specs.declared.event.Event.{Event}
-use Rattle.compact_store.specs.Cuts.{batches_by_size, batches_from, count_of, count_to}
+use Rattle.compact_store.specs.Cuts.{batches_by_size, count_to}
 use Rattle.compact_store.specs.Keeping.{IsKept}
 use Rattle.compact_store.specs.Kept.{kept, most_adds}
 use Rattle.compact_store.proofs.KeptLaws.{adds_of}
@@ -33,9 +34,6 @@ drop_few n events = elim (cases_lt (length events) n) [
   | inr ge ↦ (let some : min (length events) n ≡ n = omega (arith, ge) in ap (λ (k : ℕ). drop k events) some)
 ]
 
-both_cons : {X : Type 0} {x y : X} {xs ys : List X} → x ≡ y → xs ≡ ys → x ∷ xs ≡ y ∷ ys
-both_cons e f = cc
-
 -- the next batch by size, and the later ones
 pub by_size_step : (n m k : ℕ) (batch rest events : List Event) → n ≡ suc m → k ≡ min (length events) most_adds → batch ≡ take k events → rest ≡ drop k events
     → batches_by_size n events ≡ map change_in batch ∷ batches_by_size m rest
@@ -43,15 +41,6 @@ by_size_step n m k batch rest events more size front back =
     let own : take most_adds events ≡ batch = sym (front ∙ (ap (λ (x : ℕ). take x events) size ∙ take_few most_adds events)) in
     let left : drop most_adds events ≡ rest = sym (back ∙ (ap (λ (x : ℕ). drop x events) size ∙ drop_few most_adds events)) in
     ap (λ (x : ℕ). batches_by_size x events) more ∙ both_cons (ap (map change_in) own) (ap (batches_by_size m) left)
-
--- the next batch by version, and the later ones
-pub from_step : (v n m k : ℕ) (batch rest events : List Event) → n ≡ suc m → k ≡ count_of v events → batch ≡ take k events → rest ≡ drop k events
-    → batches_from v n events ≡ map change_in batch ∷ batches_from (v + 1) m rest
-from_step v n m k batch rest events more size front back =
-    ap (λ (x : ℕ). batches_from v x events) more
-    ∙ (ap (λ (x : ℕ). map change_in (take x events) ∷ batches_from (v + 1) m (drop x events)) (sym size)
-    ∙ (ap (λ (es : List Event). map change_in es ∷ batches_from (v + 1) m (drop k events)) (sym front)
-    ∙ ap (λ (es : List Event). map change_in batch ∷ batches_from (v + 1) m es) (sym back)))
 
 -- adds of objects, cut by size, are pieces of the objects
 by_size_is : (n : ℕ) (adds : List Event) (objects : List Object) → map change_in adds ≡ map change.Add objects → batches_by_size n adds ≡ pieces objects n
@@ -62,51 +51,6 @@ by_size_is (suc n) adds objects are =
     let left : map change_in (drop most_adds adds) ≡ map change.Add (drop most_adds objects) =
     sym (drop-map change_in most_adds adds) ∙ (ap (λ (cs : List Change). drop most_adds cs) are ∙ drop-map change.Add most_adds objects) in
     both_cons own (by_size_is n (drop most_adds adds) (drop most_adds objects) left)
-
--- The events begin with those of a batch whose version passes, and these changes are left.
-record Passes (p : ℕ → Bool) (events : List Event) (batch : List Change) (left : List Numbered) : Type 0 where
-  count : prefix_len (λ (e : Event). p e.version) events ≡ length batch + prefix_len (λ (e : Event). p e.version) (drop (length batch) events)
-  batch_is : map change_in (take (length batch) events) ≡ batch
-  left_is : map numbered_in (drop (length batch) events) ≡ left
-
-passes : (p : ℕ → Bool) (batch : List Change) (v e : ℕ) (events : List Event) (ns : List Numbered) → p v ≡ true → map numbered_in events ≡ numbered_batch v e batch ++ ns
-    → Passes p events batch ns
-passes p [] v e events ns so is = record { count = omega arith; batch_is = refl; left_is = is }
-passes p (c ∷ cs) v e [] ns so is = absurd (cc)
-passes p (c ∷ cs) v e (x ∷ xs) ns so is =
-    let first : numbered_in x ≡ record { version = v; event = e; change = c } = cc in
-    let more : map numbered_in xs ≡ numbered_batch v (e + 1) cs ++ ns = cc in
-    let r = passes p cs v (e + 1) xs ns so more in
-    let own : p x.version ≡ true = ap (λ (n : Numbered). p n.version) first ∙ so in
-    let counted : prefix_len (λ (y : Event). p y.version) (x ∷ xs) ≡ 1 + prefix_len (λ (y : Event). p y.version) xs =
-    ap (λ (b : Bool). cond b (1 + prefix_len (λ (y : Event). p y.version) xs) 0) own in
-    record {
-      count = counted ∙ (let sum : 1 + prefix_len (λ (y : Event). p y.version) xs ≡ suc (length cs) + prefix_len (λ (y : Event). p y.version) (drop (length cs) xs) = omega (arith, r.count) in sum);
-      batch_is = both_cons (ap (λ (n : Numbered). n.change) first) r.batch_is;
-      left_is = r.left_is;
-    }
-
--- no event passes where the versions from there on do not
-stops : (p : ℕ → Bool) (h : History) (v e : ℕ) (events : List Event) → ((u : ℕ) → v ≤ u → p u ≡ false) → map numbered_in events ≡ numbered_from v e h
-    → prefix_len (λ (x : Event). p x.version) events ≡ 0
-stops p [] v e [] none is = refl
-stops p [] v e (x ∷ xs) none is = absurd (cc)
-stops p ([] ∷ h) v e events none is = stops p h (v + 1) (e + 0) events (λ u le. none u (omega (arith, le))) is
-stops p ((c ∷ cs) ∷ h) v e [] none is = absurd (cc)
-stops p ((c ∷ cs) ∷ h) v e (x ∷ xs) none is =
-    let first : numbered_in x ≡ record { version = v; event = e; change = c } = cc in
-    let own : p x.version ≡ false = ap (λ (n : Numbered). p n.version) first ∙ none v (omega arith) in
-    ap (λ (b : Bool). cond b (1 + prefix_len (λ (y : Event). p y.version) xs) 0) own
-
--- the events of batches, cut by version, are the batches
-from_is : (h : History) (v e : ℕ) (events : List Event) → map numbered_in events ≡ numbered_from v e h → batches_from v (length h) events ≡ h
-from_is [] v e events is = refl
-from_is (batch ∷ h) v e events is =
-    let r = passes (λ w. w == v) batch v e events (numbered_from (v + 1) (e + length batch) h) (eq-eqb v v refl) is in
-    let stop = stops (λ w. w == v) h (v + 1) (e + length batch) (drop (length batch) events) (λ u le. ne_eqb u v (λ same. omega (arith, same, le))) r.left_is in
-    let count : length batch ≡ count_of v events = omega (arith, r.count, stop) in
-    subst (λ (k : ℕ). map change_in (take k events) ∷ batches_from (v + 1) (length h) (drop k events) ≡ batch ∷ h) count
-    (both_cons r.batch_is (from_is h (v + 1) (e + length batch) (drop (length batch) events) r.left_is))
 
 -- the events after a version are those of the later batches
 after_is : (h : History) (k v w e : ℕ) (events : List Event) → w + k ≡ v + 1 → map numbered_in events ≡ numbered_from w e h
@@ -150,7 +94,7 @@ kept_cut h version last adds events all is =
     let rest : List Event = drop (count_to version events) events in
     let size : length (drop version h) ≡ last - version = length-drop version h ∙ ap (λ (n : ℕ). n - version) (sym all) in
     let later : batches_from (version + 1) (last - version) rest ≡ drop version h =
-    subst (λ (n : ℕ). batches_from (version + 1) n rest ≡ drop version h) size (from_is (drop version h) (version + 1) after.0 rest after.1) in
+    subst (λ (n : ℕ). batches_from (version + 1) n rest ≡ drop version h) size (batches_are (drop version h) (version + 1) after.0 rest after.1) in
     kept_is h version
     ∙ (ap (λ (bs : History). bs ++ drop version h) (sym (by_size_is version adds (live h version) is.adds_are)) ∙ ap (λ (bs : History). batches_by_size version adds ++ bs) (sym later))
 

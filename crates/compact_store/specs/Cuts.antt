@@ -1,24 +1,14 @@
--- How lists of events are cut into batches.
-use Rattle.std.specs.Prelude.{ℕ, zero, suc, ◌+◌, ◌==◌, nat_le, List, [], ◌∷◌, map, take, drop}
+-- How lists of events are cut: behind a version, and into batches by size.
+use Rattle.std.specs.Prelude.{ℕ, zero, suc, nat_le, List, [], ◌∷◌, map, take, drop}
 use Rattle.std.specs.List.{prefix_len}
 use Rattle.bw_types.specs.History.{History}
 use Rattle.history_list.specs.Events.{change_in}
 use Rattle.history_list.specs.declared.event.Event.{Event}
 use Rattle.compact_store.specs.Kept.{most_adds}
 
--- how many events from the first on are of this version
-abbrev pub count_of : ℕ → List Event → ℕ
-count_of version events = prefix_len (λ e. e.version == version) events
-
 -- how many events from the first on are of versions up to this one
 abbrev pub count_to : ℕ → List Event → ℕ
 count_to version events = prefix_len (λ e. nat_le e.version version) events
-
--- the batches of so many versions, from this one on
-abbrev pub batches_from : ℕ → ℕ → List Event → History
-batches_from version zero events = []
-batches_from version (suc count) events =
-    map change_in (take (count_of version events) events) ∷ batches_from (version + 1) count (drop (count_of version events) events)
 
 -- so many batches, each of the next 4096 events
 abbrev pub batches_by_size : ℕ → List Event → History

@@ -4,8 +4,9 @@ ghost use Rattle.bw_types.specs.History.{History, changes};
 ghost use Rattle.bw_types.specs.Fits.{IsInRange};
 ghost use Rattle.bw_types.specs.declared.params.Params.{Params};
 ghost use Rattle.counts.specs.Count.{Rose};
+ghost use Rattle.history_list.specs.Batches.{batches_from};
 ghost use Rattle.compact_store.specs.Compacted.{LeavesPart, second_out};
-ghost use Rattle.compact_store.specs.Cuts.{batches_by_size, batches_from};
+ghost use Rattle.compact_store.specs.Cuts.{batches_by_size};
 ghost use Rattle.compact_store.specs.Ended.{refusal_of};
 ghost use Rattle.compact_store.specs.Putting.{CountsItsPages, Puts, StandsBefore, is_written};
 

@@ -1,17 +1,18 @@
 //! Batches that are put on a second disk, one after the other.
-ghost use Rattle.std.specs.Prelude.{◌≡◌, ◌∷◌, ◌-◌, ◌+◌, ◌≤◌, [], List, length, map};
+ghost use Rattle.std.specs.Prelude.{◌≡◌, ◌∷◌, ◌-◌, ◌+◌, ◌≤◌, [], List, map};
 ghost use Rattle.bw_types.specs.Lawful.{staged_rows};
 ghost use Rattle.bw_types.specs.declared.change.Change.{Change};
+ghost use Rattle.history_list.specs.Batches.{batches_from};
 ghost use Rattle.history_list.specs.Events.{change_in};
 ghost use Rattle.page_warehouse.specs.Shown.{disk_in};
-ghost use Rattle.compact_store.specs.Cuts.{batches_by_size, batches_from, count_of};
+ghost use Rattle.compact_store.specs.Cuts.{batches_by_size};
 ghost use Rattle.compact_store.specs.Putting.{Puts, outcome_of};
 
 use crate::Compacted;
 use crate::staging::{rows_fit, stage};
 use bw_types::Row;
 use dom_index::DomIndex;
-use history_list::Event;
+use history_list::{Event, count_of};
 use page_disk::Disk;
 use page_warehouse::Warehouse;
 use std::alloc::Global;
@@ -66,17 +67,6 @@ pub(crate) fn put_versions<E: Disk + Drop, X: DomIndex + Drop>(
         later = rest;
     }
     Ok(house)
-}
-
-// How many events from the first on are of this version.
-fn count_of(version: u32, events: &[Event]) -> usize
-    ensures count { result ≡ count_of version events.now }
-    ensures within { result ≤ length events.now }
-{
-    events
-        .iter()
-        .take_while(|event| event.version == version)
-        .count()
 }
 
 // Puts the batch of these events. The rows that stage it take the place of those that were there.

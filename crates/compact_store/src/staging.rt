@@ -1,12 +1,12 @@
 //! The rows that stage a batch.
-ghost use Rattle.std.specs.Prelude.{◌≡◌, ◌∷◌, ◌<◌, ◌≤◌, OnOk, length, map, drop};
+ghost use Rattle.std.specs.Prelude.{◌≡◌, OnOk, map};
 ghost use Rattle.std.specs.List.{list_all};
 ghost use Rattle.bw_types.specs.Fits.{IsInRange, row_fits};
 ghost use Rattle.bw_types.specs.Lawful.{staged_rows};
 ghost use Rattle.history_list.specs.Events.{change_in};
 
 use bw_types::{Params, Row, object_fits};
-use history_list::Event;
+use history_list::{Event, first_row};
 use std::alloc::AllocError;
 
 /// Puts the rows that stage a batch, whose events these are, in place of those that were there.
@@ -21,24 +21,6 @@ pub(crate) fn stage(events: &[Event], rows: &mut Vec<Row>) -> Result<(), AllocEr
         later = &later[count..];
     }
     Ok(())
-}
-
-// The row of the first event, and how many events it has: a withdrawal and an add of its id directly behind it are a move.
-fn first_row(events: &[Event]) -> (Row, usize)
-    requires { 0 < length events.now }
-    ensures row { staged_rows (map change_in events.now) ≡ result.0 ∷ staged_rows (map change_in (drop result.1 events.now)) }
-    ensures some { 0 < result.1 }
-    ensures few { result.1 ≤ 2 }
-    ensures within { result.1 ≤ length events.now }
-{
-    let first = &events[0];
-    if first.add {
-        return (Row::Add(first.object), 1);
-    }
-    match events.get(1) {
-        Some(next) if next.add && next.object.id == first.object.id => (Row::Move(next.object), 2),
-        _ => (Row::Withdraw(first.object.id), 1),
-    }
 }
 
 /// Whether the rows keep the rules of a warehouse with these params.

@@ -5,3 +5,4 @@ pub mod Before
 pub mod Houses
 pub mod Faults
 pub mod InOrderOfAdding
+pub mod CutByVersion

@@ -1,12 +1,14 @@
 //! The history of a warehouse as a list of its adds and withdrawals.
 #![tactic(auto)]
 
+mod batches;
 mod event;
 mod gathering;
 mod lives;
 #[cfg(test)]
 mod tests;
 
+pub use batches::{count_of, first_row};
 pub use event::Event;
 pub use gathering::{GatherFault, gather};
 pub use lives::gather_lives;

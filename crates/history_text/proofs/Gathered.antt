@@ -1,10 +1,9 @@
 -- How calls that print, one after the other, are one that prints all.
-use Rattle.std.proofs.Common.{◌≡◌, ℕ, ◌+◌, Bool, ◌≤◌, IsTrue, List, [], ◌++◌, length, take, refl, sym, ap, subst, ◌∙◌, append_assoc, arith, length-append}
-use Rattle.std.proofs.lemmas.List.{append-nil, take-append-le}
-use Rattle.std.proofs.Math.Seq.{take-append-add}
+use Rattle.std.proofs.Common.{◌≡◌, ℕ, Bool, ◌≤◌, IsTrue, List, [], ◌++◌, length, take, drop, refl, sym, ap, subst, ◌∙◌, append_assoc}
+use Rattle.std.proofs.lemmas.List.{append-nil, take-append-drop}
 use Rattle.std.specs.Prelude.{Result, Ok, Err, IsErr, OnErr}
+use Rattle.byte_ports.specs.Written.{WritesPart}
 use Rattle.counts.specs.Count.{Rose}
-use Rattle.history_text.specs.Put.{PutsFront}
 use Rattle.history_text.specs.Given.{Gave, Gives, Standing, Stopped, standing}
 
 -- where nothing was printed
@@ -27,14 +26,14 @@ gave_then {a} {b} {c} {xs} {ys} f s = record {
 }
 
 -- a front that the second call put, as one of all bytes
-front_then : (p w v u g b xs ys : List ℕ) → v ≡ w ++ p → p ++ b ≡ g ++ xs → PutsFront v u (b ++ ys) → PutsFront w u (g ++ (xs ++ ys))
+front_then : (p w v u g b xs ys : List ℕ) → v ≡ w ++ p → p ++ b ≡ g ++ xs → WritesPart v u (b ++ ys) → WritesPart w u (g ++ (xs ++ ys))
 front_then p w v u g b xs ys e l f =
     let all : g ++ (xs ++ ys) ≡ p ++ (b ++ ys) = sym (append_assoc g xs ys) ∙ ap (λ (z : List ℕ). z ++ ys) (sym l) ∙ append_assoc p b ys in
-    subst (λ (z : List ℕ). PutsFront w u z) (sym all) (record {
-      count = length p + f.count;
-      within = omega (arith, f.within, length-append p (b ++ ys));
-      put = f.put ∙ ap (λ (z : List ℕ). z ++ take f.count (b ++ ys)) e ∙ append_assoc w p (take f.count (b ++ ys))
-          ∙ ap (λ (z : List ℕ). w ++ z) (sym (take-append-add p (b ++ ys) f.count));
+    subst (λ (z : List ℕ). WritesPart w u z) (sym all) (record {
+      out = p ++ f.out;
+      rest = f.rest;
+      wrote = f.wrote ∙ ap (λ (z : List ℕ). z ++ f.out) e ∙ append_assoc w p f.out;
+      part = ap (λ (z : List ℕ). p ++ z) f.part ∙ sym (append_assoc p f.out f.rest);
     })
 
 -- where the second call failed
@@ -44,17 +43,18 @@ stopped_then {a} {b} {c} {xs} {ys} f s = record {
   faults = subst (λ (n : ℕ). Rose n c.faults) f.faults s.faults;
 }
 
-front_more : (w u xs ys : List ℕ) → PutsFront w u xs → PutsFront w u (xs ++ ys)
+front_more : (w u xs ys : List ℕ) → WritesPart w u xs → WritesPart w u (xs ++ ys)
 front_more w u xs ys f = record {
-  count = f.count;
-  within = omega (arith, f.within, length-append xs ys);
-  put = f.put ∙ ap (λ (z : List ℕ). w ++ z) (sym (take-append-le f.count xs ys f.within));
+  out = f.out;
+  rest = f.rest ++ ys;
+  wrote = f.wrote;
+  part = ap (λ (z : List ℕ). z ++ ys) f.part ∙ append_assoc f.out f.rest ys;
 }
 
 -- where more was to come after the call that failed
 pub stopped_more : {a b : Standing} {xs : List ℕ} → Stopped a b xs → (ys : List ℕ) → Stopped a b (xs ++ ys)
 stopped_more {a} {b} {xs} s ys = record {
-  part = λ t u. subst (λ (z : List ℕ). PutsFront a.written b.written z) (append_assoc a.gathered xs ys) (front_more a.written b.written (a.gathered ++ xs) ys (s.part t u));
+  part = λ t u. subst (λ (z : List ℕ). WritesPart a.written b.written z) (append_assoc a.gathered xs ys) (front_more a.written b.written (a.gathered ++ xs) ys (s.part t u));
   faults = s.faults;
 }
 
@@ -74,6 +74,19 @@ alone {room = room} {piece = piece} empty tells put calm = record {
   faults = calm;
 }
 
+-- where the sink failed at a piece that is all that is left
+pub stopped_put : {t u : Bool} {w v : List ℕ} {f g : ℕ} {first last : List ℕ} (piece xs : List ℕ) → piece ≡ first ++ xs
+    → (IsTrue t → IsTrue u → (n : ℕ) × (n ≤ length piece) × (v ≡ w ++ take n piece)) → Rose f g → Stopped (standing t w f first) (standing u v g last) xs
+stopped_put piece xs e part rose = record {
+  part = λ t u. record {
+    out = take (part t u).0 piece;
+    rest = drop (part t u).0 piece;
+    wrote = (part t u).2;
+    part = sym e ∙ sym (take-append-drop (part t u).0 piece);
+  };
+  faults = rose;
+}
+
 -- what was gathered is put, and then the piece by itself
 pub alone_gave : {t0 t1 t2 : Bool} {w0 w1 w2 : List ℕ} {f0 f1 f2 : ℕ} {old first emptied last piece : List ℕ}
     → first ≡ old → emptied ≡ [] → last ≡ emptied → Gave (standing t0 w0 f0 first) (standing t1 w1 f1 emptied) []
@@ -89,11 +102,7 @@ pub alone_stopped : {t0 t1 t2 : Bool} {w0 w1 w2 : List ℕ} {f0 f1 f2 : ℕ} {ol
     → Stopped (standing t0 w0 f0 old) (standing t2 w2 f2 last) piece
 alone_stopped {t0} {t1} {t2} {w0} {w1} {w2} {f0} {f1} {f2} {old} {first} {emptied} {last} {piece} e empty f part rose =
     let at : Gave (standing t0 w0 f0 old) (standing t1 w1 f1 emptied) [] = subst (λ (z : List ℕ). Gave (standing t0 w0 f0 z) (standing t1 w1 f1 emptied) []) e f in
-    let s : Stopped (standing t1 w1 f1 emptied) (standing t2 w2 f2 last) piece = record {
-      part = λ t u. subst (λ (z : List ℕ). PutsFront w1 w2 (z ++ piece)) (sym empty) (record { count = (part t u).0; within = (part t u).1; put = (part t u).2 });
-      faults = rose;
-    } in
-    stopped_then at s
+    stopped_then at (stopped_put piece piece (sym (ap (λ (z : List ℕ). z ++ piece) empty)) part rose)
 
 -- the same bytes in other words
 pub gives_same : {T E : Type 0} (result : Result T E) (a b : Standing) {xs ys : List ℕ} → xs ≡ ys → Gives result a b xs → Gives result a b ys
@@ -156,9 +165,9 @@ wrote_all {w0 = w0} {xs = xs} {rows = rows} none empty is f s told =
 
 -- where the sink failed
 pub part_of_all : {t v : Bool} {w0 w2 : List ℕ} {f0 f2 : ℕ} {first last xs rows : List ℕ} → first ≡ [] → xs ≡ rows
-    → Stopped (standing t w0 f0 first) (standing v w2 f2 last) xs → IsTrue t → IsTrue v → PutsFront w0 w2 rows
+    → Stopped (standing t w0 f0 first) (standing v w2 f2 last) xs → IsTrue t → IsTrue v → WritesPart w0 w2 rows
 part_of_all {w0 = w0} {w2 = w2} {xs = xs} none is s told tells =
-    subst (λ (z : List ℕ). PutsFront w0 w2 z) (ap (λ (z : List ℕ). z ++ xs) none ∙ is) (s.part told tells)
+    subst (λ (z : List ℕ). WritesPart w0 w2 z) (ap (λ (z : List ℕ). z ++ xs) none ∙ is) (s.part told tells)
 
 pub on_err : {T E : Type 0} (result : Result T E) {P : Type 0} → P → OnErr result P
 on_err (Ok x) p = tt

@@ -1,7 +1,7 @@
 -- What printing says of a sink and of the bytes that are gathered for it.
 use Rattle.std.specs.Prelude.{◌≡◌, ℕ, Bool, IsTrue, List, ◌++◌, Result, MatchResult}
+use Rattle.byte_ports.specs.Written.{WritesPart}
 use Rattle.counts.specs.Count.{Rose}
-use Rattle.history_text.specs.Put.{PutsFront}
 
 -- what the sink tells, and the bytes that are gathered behind what it has written
 pub record Standing : Type 0 where
@@ -23,7 +23,7 @@ pub record Gave (old new : Standing) (bytes : List ℕ) : Type 0 where
 
 -- The sink failed, and a front of the bytes that were gathered and of these was put.
 pub record Stopped (old new : Standing) (bytes : List ℕ) : Type 0 where
-  pub part : IsTrue old.tells → IsTrue new.tells → PutsFront old.written new.written (old.gathered ++ bytes)
+  pub part : IsTrue old.tells → IsTrue new.tells → WritesPart old.written new.written (old.gathered ++ bytes)
   pub faults : Rose old.faults new.faults
 
 -- The call gave these bytes, or the sink failed.

@@ -1,5 +1,3 @@
 pub mod Rows
 pub mod Rebuilt
-pub mod Put
 pub mod Given
-pub mod Batches

@@ -1,5 +1,5 @@
 -- The rows that rebuild a history.
-use Rattle.std.specs.Prelude.{ℕ, ℤ, List, [], ◌∷◌, ◌++◌, slice_index, take, codes}
+use Rattle.std.specs.Prelude.{ℕ, ℤ, List, ◌++◌, slice_index, take, codes}
 use Rattle.std.specs.Fmt.{decimal, signed_decimal}
 use Rattle.std.specs.List.{flat_map, range_with_len}
 use Rattle.bw_types.specs.Fits.{coefficient_count, coordinate}

@@ -1,23 +1,22 @@
 //! The rows of a history, put one after the other.
-ghost use Rattle.std.specs.Prelude.{◌≡◌, ◌++◌, ◌∷◌, ◌<◌, ◌≤◌, IsTrue, OnOk, OnErr, length, map, drop};
+ghost use Rattle.std.specs.Prelude.{◌≡◌, ◌++◌, IsTrue, OnOk, OnErr, map};
 ghost use Rattle.std.specs.List.{All};
+ghost use Rattle.byte_ports.specs.Written.{WritesPart};
 ghost use Rattle.counts.specs.Count.{Rose};
 ghost use Rattle.bw_types.specs.Fits.{IsInRange};
 ghost use Rattle.bw_types.specs.History.{History, changes, last_version};
-ghost use Rattle.bw_types.specs.Lawful.{staged_rows};
+ghost use Rattle.history_list.specs.Batches.{batches_from};
 ghost use Rattle.history_list.specs.Events.{AreEventsOf, change_in};
-ghost use Rattle.history_text.specs.Batches.{batches_of, count_of};
 ghost use Rattle.history_text.specs.Given.{Gives, standing};
-ghost use Rattle.history_text.specs.Put.{PutsFront};
 ghost use Rattle.history_text.specs.Rebuilt.{ChangeHasSizes};
 ghost use Rattle.history_text.specs.Rows.{batch_text, rows_of};
 
 use crate::gathering::{Room, put_gathered, put_piece};
 use crate::printing::put_row;
 use crate::sizes::events_have_sizes;
-use bw_types::{Params, Row};
+use bw_types::Params;
 use byte_ports::{Failed, Sink};
-use history_list::Event;
+use history_list::{Event, count_of, first_row};
 
 /// Puts the rows that rebuild a history, whose adds and withdrawals these events are, up to the last version.
 ///
@@ -34,7 +33,7 @@ pub fn write_history<K: Sink>(
     ensures wrote { OnOk result ((h : History) → AreEventsOf events.now h → last ≡ last_version h → IsTrue (K.tells sink.old)
         → IsTrue (K.tells sink.new) × (K.written sink.new ≡ K.written sink.old ++ rows_of params.now h)) }
     ensures part { OnErr result ((h : History) → AreEventsOf events.now h → last ≡ last_version h → IsTrue (K.tells sink.old) → IsTrue (K.tells sink.new)
-        → PutsFront (K.written sink.old) (K.written sink.new) (rows_of params.now h)) }
+        → WritesPart (K.written sink.old) (K.written sink.new) (rows_of params.now h)) }
     ensures calm { OnOk result (K.faults sink.new ≡ K.faults sink.old) }
     ensures failed { OnErr result (Rose (K.faults sink.old) (K.faults sink.new)) }
     // The numbers of events have the sizes of their fields.
@@ -59,7 +58,7 @@ fn put_batches<K: Sink>(
     ensures { Gives result
         (standing (K.tells sink.old) (K.written sink.old) (K.faults sink.old) room.old.items)
         (standing (K.tells sink.new) (K.written sink.new) (K.faults sink.new) room.new.items)
-        (rows_of params.now (batches_of 1 last events.now)) }
+        (rows_of params.now (batches_from 1 last events.now)) }
 {
     let mut later = events;
     for before in 0..last {
@@ -69,17 +68,6 @@ fn put_batches<K: Sink>(
         later = rest;
     }
     Ok(())
-}
-
-// How many events from the first on have this version.
-fn count_of(version: u32, events: &[Event]) -> usize
-    ensures count { result ≡ count_of version events.now }
-    ensures within { result ≤ length events.now }
-{
-    events
-        .iter()
-        .take_while(|event| event.version == version)
-        .count()
 }
 
 // Puts the rows of the events of a batch, and the commit.
@@ -102,22 +90,4 @@ fn put_batch<K: Sink>(
         later = &later[count..];
     }
     put_piece(b"commit,1\n", sink, room)
-}
-
-// The row of the first event, and how many events it has: a withdrawal and an add of its id directly behind it are a move.
-fn first_row(events: &[Event]) -> (Row, usize)
-    requires { 0 < length events.now }
-    ensures row { staged_rows (map change_in events.now) ≡ result.0 ∷ staged_rows (map change_in (drop result.1 events.now)) }
-    ensures some { 0 < result.1 }
-    ensures few { result.1 ≤ 2 }
-    ensures within { result.1 ≤ length events.now }
-{
-    let first = &events[0];
-    if first.add {
-        return (Row::Add(first.object), 1);
-    }
-    match events.get(1) {
-        Some(next) if next.add && next.object.id == first.object.id => (Row::Move(next.object), 2),
-        _ => (Row::Withdraw(first.object.id), 1),
-    }
 }

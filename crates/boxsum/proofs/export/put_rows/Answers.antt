@@ -1,11 +1,11 @@
 use Rattle.std.proofs.Common.{◌≡◌, List, true, ◌++◌, sym, subst}
 use Rattle.bw_types.specs.declared.params.Params.{Params}
+use Rattle.byte_ports.specs.Written.{WritesPart}
 use Rattle.history_list.specs.Events.{AreEventsOf}
 use Rattle.history_list.specs.declared.event.Event.{Event}
-use Rattle.history_text.specs.Put.{PutsFront}
 use Rattle.history_text.specs.Rows.{rows_of}
 use Rattle.page_warehouse.specs.Shown.{params_in}
-use Rattle.boxsum.proofs.Exported.{front_is_part, gathers_pages, gathers_undamaged, whole_is_part}
+use Rattle.boxsum.proofs.Exported.{gathers_pages, gathers_undamaged, whole_is_part}
 use Rattle.boxsum.proofs.Opened.{writes_nothing}
 use Rattle.boxsum.proofs.export.put_rows.Goals as goal
 
@@ -33,8 +33,7 @@ pub returns-clause-part : goal.returns-clause-part
 returns-clause-part g c = λ h held told still.
     let events = subst (λ (es : List Event). AreEventsOf es h) (sym c.deref.ensures.value) (c.in-Ok.ensures.events h held) in
     let front = c.in-Err-write_history.ensures.part h events (c.last-last.ensures.held true h held) told still in
-    front_is_part (g.K.Sink.written c.args.sink.now) (g.K.Sink.written c.write_history.new.sink) (rows_of (params_in c.args.house.now) h)
-    (subst (λ (p : Params). PutsFront (g.K.Sink.written c.args.sink.now) (g.K.Sink.written c.write_history.new.sink) (rows_of p h)) c.params-params.ensures.value front)
+    subst (λ (p : Params). WritesPart (g.K.Sink.written c.args.sink.now) (g.K.Sink.written c.write_history.new.sink) (rows_of p h)) c.params-params.ensures.value front
 
 pub returns-in-Err-clause-pages : goal.returns-in-Err-clause-pages
 returns-in-Err-clause-pages g c = λ page. gathers_pages c.in-Err.fault c.from.result page c.from.ensures

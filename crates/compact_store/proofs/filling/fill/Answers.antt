@@ -1,7 +1,8 @@
 use Rattle.std.proofs.Common.{◌+◌, ◌-◌, ◌++◌, [], length, sym, subst}
 use Rattle.page_warehouse.specs.Shown.{disk_in}
+use Rattle.history_list.specs.Batches.{batches_from}
 use Rattle.compact_store.specs.Compacted.{LeavesPart}
-use Rattle.compact_store.specs.Cuts.{batches_by_size, batches_from}
+use Rattle.compact_store.specs.Cuts.{batches_by_size}
 use Rattle.compact_store.specs.Putting.{GoesTo}
 use Rattle.compact_store.specs.declared.compacting.Compacted.TheVariants.{Done}
 use Rattle.compact_store.proofs.Filled.{all_put, done_leaves, refused_leaves, well_counted}

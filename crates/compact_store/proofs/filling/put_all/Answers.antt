@@ -1,5 +1,6 @@
 use Rattle.std.proofs.Common.{◌+◌, ◌-◌, subst}
-use Rattle.compact_store.specs.Cuts.{batches_by_size, batches_from}
+use Rattle.history_list.specs.Batches.{batches_from}
+use Rattle.compact_store.specs.Cuts.{batches_by_size}
 use Rattle.compact_store.specs.Putting.{Puts}
 use Rattle.compact_store.proofs.Steps.{puts_stop, puts_then}
 use Rattle.compact_store.proofs.filling.put_all.Goals as goal

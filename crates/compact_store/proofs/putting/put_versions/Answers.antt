@@ -1,7 +1,7 @@
 use Rattle.std.proofs.Common.{◌≡◌, ℕ, suc, ◌+◌, ◌-◌, subst, arith, Ok}
-use Rattle.compact_store.specs.Cuts.{batches_from}
+use Rattle.history_list.specs.Batches.{batches_from}
 use Rattle.compact_store.specs.Putting.{Puts}
-use Rattle.compact_store.proofs.Cutting.{from_step}
+use Rattle.history_list.proofs.CutByVersion.{next_batch}
 use Rattle.compact_store.proofs.Steps.{ends_there, goes_on, puts_none}
 use Rattle.compact_store.proofs.putting.put_versions.Goals as goal
 
@@ -11,7 +11,7 @@ loop-before-preserved g c =
     let i = c.loop-before.before in
     let more : c.args.last - i ≡ suc (c.args.last - (i + 1)) = omega (arith, c.loop-before-test.true) in
     goes_on g.E.Disk g.X.DomIndex _ _ _ _ _ _ _ c.put_batch.result c.loop-before.invariant
-    (from_step (i + 1) (c.args.last - i) (c.args.last - (i + 1)) c.count_of.result parts.result.0.now parts.result.1.now c.loop-before.later.now more c.count_of.ensures.count parts.ensures.front parts.ensures.back)
+    (next_batch (i + 1) (c.args.last - i) (c.args.last - (i + 1)) c.count_of.result parts.result.0.now parts.result.1.now c.loop-before.later.now more c.count_of.ensures.count parts.ensures.front parts.ensures.back)
     c.put_batch.ensures c.in-Ok.is
 
 pub returns-in-Err : goal.returns-in-Err
@@ -20,7 +20,7 @@ returns-in-Err g c =
     let i = c.loop-before.before in
     let more : c.args.last - i ≡ suc (c.args.last - (i + 1)) = omega (arith, c.loop-before-test.true) in
     ends_there g.E.Disk g.X.DomIndex _ _ _ _ _ _ _ c.put_batch.result c.loop-before.invariant
-    (from_step (i + 1) (c.args.last - i) (c.args.last - (i + 1)) c.count_of.result parts.result.0.now parts.result.1.now c.loop-before.later.now more c.count_of.ensures.count parts.ensures.front parts.ensures.back)
+    (next_batch (i + 1) (c.args.last - i) (c.args.last - (i + 1)) c.count_of.result parts.result.0.now parts.result.1.now c.loop-before.later.now more c.count_of.ensures.count parts.ensures.front parts.ensures.back)
     c.put_batch.ensures c.in-Err.is
 
 pub returns : goal.returns
