@@ -175,6 +175,7 @@ fn new_square(alloc: Global) -> Result<MemDisk, Fail> {
 }
 
 const TWO_GRIDS: &[u8] = b"grid,now,0,1,2\ngrid,now,2,1,1\n";
+
 const TWO_REPLIES: &[u8] = b"grid,1,2\ncell,0,2\ncell,1,14\ngrid,1,1\ncell,0,38\n";
 
 #[test]
@@ -213,7 +214,10 @@ fn the_output_of_a_report_fails(rt: HostRuntime) -> Result<(), Fail> {
     assert_eq!(rt; ran.status, Status::WriteFault);
     assert_eq!(rt; sink.bytes(), b"grid,1,2\ncell,0,2\ncell,1,14\n".as_slice());
     let (ran, sink) = run_pieces(alloc, "report", TWO_GRIDS, 4096, None, Some(1), ran.disk)?;
-    assert_eq!(rt; (ran.status, sink.bytes()), (Status::WriteFault, b"".as_slice()));
+    assert_eq!(rt;
+        (ran.status, sink.bytes()),
+        (Status::WriteFault, b"".as_slice())
+    );
     Ok(())
 }
 
