@@ -5,7 +5,7 @@ use Rattle.bw_types.specs.declared.params.Params.{Params}
 use Rattle.bw_types.specs.declared.query.Query.{Query}
 use Rattle.line_reader.specs.Lines.{lines, whole_part}
 use Rattle.csv_rows.specs.Input.{input as input_of}
-use Rattle.csv_rows.specs.Machine.{State, begun, replies, state_after, step, text}
+use Rattle.csv_rows.specs.Machine.{State, begun, replies, state_after, step}
 use Rattle.page_disk.specs.Image.{Image}
 use Rattle.dom_index.specs.declared.index.DomIndex.{Ghosts as IndexGhosts}
 use Rattle.page_warehouse.specs.Holds.{Holds}
