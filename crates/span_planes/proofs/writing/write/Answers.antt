@@ -1,0 +1,154 @@
+use Rattle.std.proofs.Common.{◌≡◌, ℕ, IsTrue, [], Err, length, inl, inr, refl, sym, ◌∙◌, ap, subst, arith}
+use Rattle.bw_types.specs.declared.params.Params.{Params}
+use Rattle.page_disk.specs.Image.{Image}
+use Rattle.page_disk.specs.Since.{LeavesOnly}
+use Rattle.page_disk.specs.SinceLaws.{LeavesOnly-weaken}
+use Rattle.page_layout.specs.declared.meta.Meta.{Meta}
+use Rattle.page_ports.specs.Pages.{PageMap}
+use Rattle.page_space.specs.Begun.{Begun, OrderedUnder, bytes_under, map_under}
+use Rattle.page_space.specs.Chain.{FreeInOrder}
+use Rattle.page_space.specs.Shown.{IsInOrder, IsStagedInOrder, base_of, begun_of, disk_of, disk_under, map_of, meta_of, params_of, staged_map, staged_meta}
+use Rattle.page_space.specs.Space.{HoldsSpace}
+use Rattle.bw_types.specs.History.{changes}
+use Rattle.span_planes.specs.Filled.{FilledTrees, entries_in, span_growth}
+use Rattle.span_planes.specs.Made.{IsEmptyOrNew, LeavesSpans, StandsNew, second_out}
+use Rattle.span_planes.specs.SpanHolds.{SpanHolds, without_degree}
+use Rattle.span_planes.specs.Writing.{IsMetaFor}
+use Rattle.span_planes.specs.declared.making.Derived.TheVariants.{Done}
+use Rattle.span_planes.proofs.FillableEvents.{few_rows}
+use Rattle.span_planes.proofs.InTurn.{come_in_turn, event_number}
+use Rattle.span_planes.proofs.StoodSpans.{stands_new, stood_spans}
+use Rattle.span_planes.proofs.Written.{IsPossible, abandoned_disk, abandoned_leaves, abandoned_out, abandoned_there, done_leaves, failed_leaves, spans_held}
+use Rattle.span_planes.proofs.writing.write.Goals as goal
+
+pub returns-in-Err-clause-not_there : goal.returns-in-Err-clause-not_there
+returns-in-Err-clause-not_there g c = λ e same. abandoned_there c.in-Err.fault c.into_disk.result e (sym c.abandoned.ensures ∙ same)
+
+pub returns-in-Err-clause-faults : goal.returns-in-Err-clause-faults
+returns-in-Err-clause-faults g c =
+    let disk = g.E.Disk in
+    let out = ap disk.faults (ap second_out c.abandoned.ensures ∙ abandoned_out c.in-Err.fault c.into_disk.result ∙ c.into_disk.ensures.disk ∙ c.abandon.ensures.disk) in
+    let more = c.draft.ensures.changes.went_on.faults in
+    let first = ap disk.faults c.begin-stage.ensures.disk in
+    omega (arith, out, more, first)
+
+pub returns-in-Err-clause-tells : goal.returns-in-Err-clause-tells
+returns-in-Err-clause-tells g c =
+    let disk = g.E.Disk in
+    ap disk.tells (ap second_out c.abandoned.ensures ∙ abandoned_out c.in-Err.fault c.into_disk.result ∙ c.into_disk.ensures.disk ∙ c.abandon.ensures.disk)
+    ∙ (c.draft.ensures.changes.went_on.tells ∙ ap disk.tells c.begin-stage.ensures.disk)
+
+pub returns-in-Err-clause-disk : goal.returns-in-Err-clause-disk
+returns-in-Err-clause-disk g c = λ e same.
+    let disk = g.E.Disk in
+    let is = abandoned_disk c.in-Err.fault c.into_disk.result e (sym c.abandoned.ensures ∙ same) in
+    let rose = c.in-Err.ensures.changes.disk (ap Err is.0) in
+    let first = ap disk.faults c.begin-stage.ensures.disk in
+    let last = ap disk.faults (sym is.1 ∙ (c.into_disk.ensures.disk ∙ c.abandon.ensures.disk)) in
+    omega (arith, rose, first, last)
+
+pub returns-in-Err-clause-leaves : goal.returns-in-Err-clause-leaves
+returns-in-Err-clause-leaves g c = λ h all told.
+    let disk = g.E.Disk in
+    let i = g.X.DomIndex in
+    let params = c.args.params.now in
+    let space = c.args.space in
+    let new = c.requires.new in
+    let mid = c.draft.new.stage in
+    let turn = come_in_turn c.args.events.now h all.all in
+    let told0 : IsTrue (disk.tells (disk_under c.begin-stage.result)) = subst IsTrue (sym (ap disk.tells c.begin-stage.ensures.disk)) told in
+    let order : IsInOrder space = subst (λ (m : Meta). FreeInOrder (bytes_under (begun_of space)) m.allotted m.free) (sym new.1) (record { chain = []; leads = refl; once = tt }) in
+    let order0 : IsStagedInOrder c.begin-stage.result = c.begin-stage.ensures.in_order order in
+    let back : begun_of c.abandon.result ≡ begun_of space = c.abandon.ensures.base ∙ c.draft.ensures.changes.went_on.base ∙ c.begin-stage.ensures.base in
+    let out = c.into_disk.ensures.disk in
+    let tells = ap disk.tells out ∙ ap (λ (b : Begun). b.tells) back in
+    let image = ap disk.image out ∙ ap (λ (b : Begun). b.image) back in
+    let moments = ap disk.moments out ∙ ap (λ (b : Begun). b.moments) back in
+    let stood : StandsNew params (disk.image (disk_of space)) =
+    stands_new params (disk.image (disk_of space)) (map_of space) (IsInOrder space)
+    (subst (λ (m : Meta). HoldsSpace (disk.image (disk_of space)) (without_degree params) m (map_of space) (IsInOrder space)) new.1
+    (subst (λ (p : Params). HoldsSpace (disk.image (disk_of space)) p (meta_of space) (map_of space) (IsInOrder space)) new.0 (c.is_held.ensures.held told))) in
+    let empty : IsEmptyOrNew i params (disk.image (disk_of space)) = inr (stood_spans i c.index_laws.ensures.empty params c.requires.range c.requires.dims (disk.image (disk_of space)) stood) in
+    subst (λ r. LeavesSpans disk i params h (disk_of space) r) (sym c.abandoned.ensures)
+    (abandoned_leaves disk i params h (disk_of space) c.into_disk.result c.in-Err.fault moments (subst IsTrue (sym tells) told) (subst (λ (x : Image). IsEmptyOrNew i params x) (sym image) empty)
+    (λ page is. c.in-Err.ensures.sound page told0 turn order0 (ap Err is))
+    (λ n is.
+    let limit = (c.in-Err.ensures.growth told0 turn).page_limit n (ap Err is) in
+    let pages : n ≡ params.pages = limit.0 ∙ ap (λ (b : Begun). b.params.pages) c.begin-stage.ensures.base ∙ ap (λ (p : Params). p.pages) new.0 in
+    let first : (staged_meta c.begin-stage.result).allotted ≡ 3 = ap (λ (m : Meta). m.allotted) (c.begin-stage.ensures.meta ∙ new.1) in
+    let most = limit.2 in
+    let many = event_number c.args.events.now h all.all in
+    let need : span_growth params (length c.args.events.now) ≡ span_growth params (length (changes h)) = ap (λ (k : ℕ). span_growth params k) many in
+    (pages, omega (arith, pages, first, most, need))))
+
+pub returns-in-Ok-clause-leaves : goal.returns-in-Ok-clause-leaves
+returns-in-Ok-clause-leaves g c = λ h all told.
+    let disk = g.E.Disk in
+    let i = g.X.DomIndex in
+    let params = c.args.params.now in
+    let space = c.args.space in
+    let new = c.requires.new in
+    let mid = c.draft.new.stage in
+    let turn = come_in_turn c.args.events.now h all.all in
+    let told0 : IsTrue (disk.tells (disk_under c.begin-stage.result)) = subst IsTrue (sym (ap disk.tells c.begin-stage.ensures.disk)) told in
+    let order : IsInOrder space = subst (λ (m : Meta). FreeInOrder (bytes_under (begun_of space)) m.allotted m.free) (sym new.1) (record { chain = []; leads = refl; once = tt }) in
+    let order0 : IsStagedInOrder c.begin-stage.result = c.begin-stage.ensures.in_order order in
+    let went = c.draft.ensures.changes.went_on in
+    let order1 : IsStagedInOrder mid = went.free_in_order told0 order0 in
+    let told1 : IsTrue (disk.tells (disk_under mid)) = subst IsTrue (sym went.tells) told0 in
+    let base : base_of mid ≡ begun_of space = went.base ∙ c.begin-stage.ensures.base in
+    let own : (base_of mid).params ≡ without_degree params = ap (λ (b : Begun). b.params) base ∙ new.0 in
+    let is : IsMetaFor params c.args.last (length c.args.events.now) (staged_meta mid) = c.in_default.ensures.meta (few_rows c.lawful_histories_have_room.ensures params c.requires.range c.args.events.now c.args.last h all) in
+    let filled : FilledTrees i (staged_map c.begin-stage.result) (staged_map mid) params (entries_in c.args.events.now) (staged_meta mid).roots.items = c.in_default.ensures.fills told0 turn in
+    let held : (x : Image) → HoldsSpace x (base_of mid).params (staged_meta mid) (staged_map mid) (IsStagedInOrder mid) → SpanHolds i x params h = λ x s.
+    spans_held i c.index_laws.ensures.any_order params c.requires.range c.requires.dims c.args.events.now c.args.last h all (staged_map c.begin-stage.result) (staged_map mid) (staged_meta mid) is filled x (IsStagedInOrder mid) order1
+    (subst (λ (p : Params). HoldsSpace x p (staged_meta mid) (staged_map mid) (IsStagedInOrder mid)) own s) in
+    let stood : (x : Image) → HoldsSpace x (base_of mid).params (base_of mid).meta (map_under (base_of mid)) (OrderedUnder (base_of mid)) → SpanHolds i x params [] = λ x s.
+    stood_spans i c.index_laws.ensures.empty params c.requires.range c.requires.dims x
+    (stands_new params x (map_under (base_of mid)) (OrderedUnder (base_of mid))
+    (subst (λ (m : Meta). HoldsSpace x (without_degree params) m (map_under (base_of mid)) (OrderedUnder (base_of mid))) (ap (λ (b : Begun). b.meta) base ∙ new.1)
+    (subst (λ (p : Params). HoldsSpace x p (base_of mid).meta (map_under (base_of mid)) (OrderedUnder (base_of mid))) own s))) in
+    let made = c.in-Ok.space in
+    let y = disk.image (disk_of made) in
+    let stands : HoldsSpace y (base_of mid).params (staged_meta mid) (staged_map mid) (IsStagedInOrder mid) =
+    subst (λ (p : Params). HoldsSpace y p (staged_meta mid) (staged_map mid) (IsStagedInOrder mid)) c.in-Ok.ensures.params
+    (subst (λ (m : Meta). HoldsSpace y (params_of made) m (staged_map mid) (IsStagedInOrder mid)) c.in-Ok.ensures.meta
+    (subst (λ (m : PageMap). HoldsSpace y (params_of made) (meta_of made) m (IsStagedInOrder mid)) (c.in-Ok.ensures.map told1) (c.in-Ok.ensures.holds told1))) in
+    let from : LeavesOnly (IsPossible disk i params h) (disk.moments (disk_of space)) (disk.moments (disk_of made)) =
+    subst (λ (b : Begun). LeavesOnly (IsPossible disk i params h) b.moments (disk.moments (disk_of made))) base
+    (LeavesOnly-weaken _ (IsPossible disk i params h) (base_of mid).moments (disk.moments (disk_of made))
+    (λ x has. elim has [ inl before ↦ inl (inr (stood x before)) | inr after ↦ inr (held x after) ]) (c.in-Ok.ensures.any_moment told1)) in
+    subst (λ d. LeavesSpans disk i params h (disk_of space) (Done d c.args.last)) (sym c.into_disk-in-Ok.ensures.disk)
+    (done_leaves disk i params h (disk_of space) (disk_of made) c.args.last all.last_is (held y stands) c.in-Ok.ensures.settled from)
+
+pub returns-in-Err-commit-clause-leaves : goal.returns-in-Err-commit-clause-leaves
+returns-in-Err-commit-clause-leaves g c = λ h all told.
+    let disk = g.E.Disk in
+    let i = g.X.DomIndex in
+    let params = c.args.params.now in
+    let space = c.args.space in
+    let new = c.requires.new in
+    let mid = c.draft.new.stage in
+    let turn = come_in_turn c.args.events.now h all.all in
+    let told0 : IsTrue (disk.tells (disk_under c.begin-stage.result)) = subst IsTrue (sym (ap disk.tells c.begin-stage.ensures.disk)) told in
+    let order : IsInOrder space = subst (λ (m : Meta). FreeInOrder (bytes_under (begun_of space)) m.allotted m.free) (sym new.1) (record { chain = []; leads = refl; once = tt }) in
+    let order0 : IsStagedInOrder c.begin-stage.result = c.begin-stage.ensures.in_order order in
+    let went = c.draft.ensures.changes.went_on in
+    let order1 : IsStagedInOrder mid = went.free_in_order told0 order0 in
+    let told1 : IsTrue (disk.tells (disk_under mid)) = subst IsTrue (sym went.tells) told0 in
+    let base : base_of mid ≡ begun_of space = went.base ∙ c.begin-stage.ensures.base in
+    let own : (base_of mid).params ≡ without_degree params = ap (λ (b : Begun). b.params) base ∙ new.0 in
+    let is : IsMetaFor params c.args.last (length c.args.events.now) (staged_meta mid) = c.in_default.ensures.meta (few_rows c.lawful_histories_have_room.ensures params c.requires.range c.args.events.now c.args.last h all) in
+    let filled : FilledTrees i (staged_map c.begin-stage.result) (staged_map mid) params (entries_in c.args.events.now) (staged_meta mid).roots.items = c.in_default.ensures.fills told0 turn in
+    let held : (x : Image) → HoldsSpace x (base_of mid).params (staged_meta mid) (staged_map mid) (IsStagedInOrder mid) → SpanHolds i x params h = λ x s.
+    spans_held i c.index_laws.ensures.any_order params c.requires.range c.requires.dims c.args.events.now c.args.last h all (staged_map c.begin-stage.result) (staged_map mid) (staged_meta mid) is filled x (IsStagedInOrder mid) order1
+    (subst (λ (p : Params). HoldsSpace x p (staged_meta mid) (staged_map mid) (IsStagedInOrder mid)) own s) in
+    let stood : (x : Image) → HoldsSpace x (base_of mid).params (base_of mid).meta (map_under (base_of mid)) (OrderedUnder (base_of mid)) → SpanHolds i x params [] = λ x s.
+    stood_spans i c.index_laws.ensures.empty params c.requires.range c.requires.dims x
+    (stands_new params x (map_under (base_of mid)) (OrderedUnder (base_of mid))
+    (subst (λ (m : Meta). HoldsSpace x (without_degree params) m (map_under (base_of mid)) (OrderedUnder (base_of mid))) (ap (λ (b : Begun). b.meta) base ∙ new.1)
+    (subst (λ (p : Params). HoldsSpace x p (base_of mid).meta (map_under (base_of mid)) (OrderedUnder (base_of mid))) own s))) in
+    failed_leaves disk i params h (disk_of space) c.in-Err-commit.second
+    (subst (λ (b : Begun). LeavesOnly (IsPossible disk i params h) b.moments (disk.moments c.in-Err-commit.second)) base
+    (LeavesOnly-weaken _ (IsPossible disk i params h) (base_of mid).moments (disk.moments c.in-Err-commit.second)
+    (λ x has. elim has [ inl before ↦ inl (inr (stood x before)) | inr after ↦ inr (held x after) ]) (c.in-Err-commit.ensures.any_moment told1)))

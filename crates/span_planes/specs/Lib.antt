@@ -1,0 +1,15 @@
+pub mod SpanSums
+pub mod SpanPoints
+pub mod SpanHolds
+pub mod FillPoints
+pub mod Filled
+pub mod Made
+pub mod Laws
+pub mod Shown
+pub mod Opened
+pub mod Asked
+pub mod Readied
+pub mod Ended
+pub mod Writing
+pub mod SpanRows
+pub mod Desk

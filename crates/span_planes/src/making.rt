@@ -1,0 +1,111 @@
+//! Spans derived from a warehouse.
+ghost use Rattle.std.specs.Prelude.{◌≡◌, ◌≢◌, ◌⊎◌, ◌≤◌, true, IsTrue};
+ghost use Rattle.bw_types.specs.History.{History};
+ghost use Rattle.counts.specs.Count.{Rose};
+ghost use Rattle.page_warehouse.specs.Shown.{HasNewForm, HoldsHistory, disk_charge, disk_in, meta_in, params_in};
+ghost use Rattle.page_space.specs.Shown.{disk_of};
+ghost use Rattle.warehouse.specs.Left.{IsAsBefore};
+ghost use Rattle.span_planes.specs.Ended.{gathering_of};
+ghost use Rattle.span_planes.specs.Made.{LeavesSpans, MayTakeSpans, StaysThere, second_out};
+ghost use Rattle.span_planes.specs.Readied.{IsNewSpace};
+
+use crate::readying::new_space;
+use crate::writing::{can_fill_all, write};
+use dom_index::DomIndex;
+use history_laws::lawful_histories_have_room;
+use history_list::{GatherFault, gather};
+use page_disk::Disk;
+use page_space::Space;
+use page_warehouse::Warehouse;
+use std::alloc::Global;
+
+/// What became of a second disk that was to have the spans of a warehouse.
+#[derive(Drop)]
+pub enum Derived<E> {
+    /// It has them, up to this version.
+    Done { second: E, version: u32 },
+    /// The second disk is not empty, and has no new spans of such a warehouse. It stands for the same pages.
+    AlreadyThere(E),
+    /// As many pages are given out there as may be.
+    PageLimit { second: E, allotted: u64 },
+    /// This page is not as the program leaves it.
+    Damaged { second: E, page: u64 },
+    /// Memory ran out.
+    NoMemory(E),
+    /// One of the disks failed.
+    Disk(E),
+}
+
+/// Writes the spans of a warehouse to a second disk, which is empty or has new spans without versions: all of them in one commit.
+///
+/// The house and its disk stay as they were. A second disk with anything else stands for the same pages at any moment, and where no journal
+/// is replayed, nothing is written to it. It takes memory for a list of all adds and withdrawals, for the points of one tree, and for the
+/// pages of the trees.
+pub fn derive<D: Disk, X: DomIndex + Drop, E: Disk + Drop>(
+    alloc: Global,
+    house: &mut Warehouse<D, X>,
+    second: E,
+) -> Derived<E>
+    ensures leaves { (h : History) → HoldsHistory D.Disk X.DomIndex true (disk_in house.old) (params_in house.old) h → IsTrue (E.tells second)
+        → MayTakeSpans (params_in house.old) (E.image second) → LeavesSpans E.Disk X.DomIndex (params_in house.old) h second result }
+    ensures there { IsTrue (E.tells second) → (MayTakeSpans (params_in house.old) (E.image second) → ⊥) → StaysThere E.Disk second result }
+    ensures there_only { (e : E) → result ≡ Derived.AlreadyThere e → IsTrue (E.tells second) → MayTakeSpans (params_in house.old) (E.image second) → ⊥ }
+    ensures disk { (e : E) → result ≡ Derived.Disk e → Rose (D.faults (disk_in house.old)) (D.faults (disk_in house.new)) ⊎ Rose (E.faults second) (E.faults e) }
+    ensures kept { IsAsBefore params_in disk_in (HoldsHistory D.Disk X.DomIndex) (HasNewForm D.Disk) D.tells D.image D.moments (disk_charge D.Disk) house.old house.new }
+    ensures meta { meta_in house.new ≡ meta_in house.old }
+    ensures faults { D.faults (disk_in house.old) ≤ D.faults (disk_in house.new) }
+    ensures second_faults { E.faults second ≤ E.faults (second_out result) }
+    ensures tells { E.tells (second_out result) ≡ E.tells second }
+{
+    X::index_laws();
+    let params = house.params();
+    match new_space(alloc, second, &params) {
+        Ok(space) => derive_to(alloc, house, space),
+        Err(ended) => ended,
+    }
+}
+
+// Writes the spans of the house to the space of new spans.
+fn derive_to<D: Disk, X: DomIndex + Drop, E: Disk + Drop>(
+    alloc: Global,
+    house: &mut Warehouse<D, X>,
+    space: Space<E>,
+) -> Derived<E>
+    requires { IsNewSpace (params_in house.old) space }
+    ensures leaves { (h : History) → HoldsHistory D.Disk X.DomIndex true (disk_in house.old) (params_in house.old) h → IsTrue (E.tells (disk_of space))
+        → LeavesSpans E.Disk X.DomIndex (params_in house.old) h (disk_of space) result }
+    ensures not_there { (e : E) → result ≢ Derived.AlreadyThere e }
+    ensures disk { (e : E) → result ≡ Derived.Disk e → Rose (D.faults (disk_in house.old)) (D.faults (disk_in house.new)) ⊎ Rose (E.faults (disk_of space)) (E.faults e) }
+    ensures kept { IsAsBefore params_in disk_in (HoldsHistory D.Disk X.DomIndex) (HasNewForm D.Disk) D.tells D.image D.moments (disk_charge D.Disk) house.old house.new }
+    ensures meta { meta_in house.new ≡ meta_in house.old }
+    ensures faults { D.faults (disk_in house.old) ≤ D.faults (disk_in house.new) }
+    ensures second_faults { E.faults (disk_of space) ≤ E.faults (second_out result) }
+    ensures tells { E.tells (second_out result) ≡ E.tells (disk_of space) }
+{
+    X::index_laws();
+    lawful_histories_have_room();
+    space.is_held();
+    let params = house.params();
+    let last = house.last();
+    match gather(alloc, house) {
+        Ok(events) if can_fill_all(&params, &events) => {
+            write::<X, E>(alloc, space, &params, &events, last)
+        }
+        Ok(_) => Derived::Damaged {
+            second: space.into_disk(),
+            page: 2,
+        },
+        Err(fault) => ended(fault, space.into_disk()),
+    }
+}
+
+// How a derivation ends where no events were gathered.
+fn ended<E: Disk>(fault: GatherFault, second: E) -> Derived<E>
+    ensures { result ≡ gathering_of fault second }
+{
+    match fault {
+        GatherFault::Disk => Derived::Disk(second),
+        GatherFault::Damaged(page) => Derived::Damaged { second, page },
+        GatherFault::NoMemory => Derived::NoMemory(second),
+    }
+}
