@@ -9,13 +9,19 @@ mod asked;
 mod asking;
 mod creating;
 mod desk;
+#[cfg(test)]
+mod desk_tests;
 mod filling;
 mod laws;
 mod making;
 mod opening;
+#[cfg(test)]
+mod random_tests;
 mod readying;
 mod rows;
 mod spans;
+#[cfg(test)]
+mod stopped_tests;
 #[cfg(test)]
 mod tests;
 mod writing;

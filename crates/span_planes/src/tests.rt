@@ -6,16 +6,16 @@ ghost use Rattle.bw_types.specs.Fits.{IsInRange, row_fits};
 use crate::{Derived, Spans, derive};
 use bw_types::{Kind, Object, Params, Query, Row, object_fits, query_fits};
 use dom_index::PointList;
-use page_disk::PlainDisk;
+use page_disk::{Disk, PlainDisk};
 use page_space::OpenFault;
 use page_warehouse::{Created, Warehouse, create};
 use std::alloc::Global;
 use std::test::Fail;
 use warehouse::{Committed, House, QueryFault};
 
-type Stored = Warehouse<PlainDisk, PointList>;
+pub(crate) type Stored = Warehouse<PlainDisk, PointList>;
 
-type Kept = Spans<PlainDisk, PointList>;
+pub(crate) type Kept = Spans<PlainDisk, PointList>;
 
 const LINE: Params = Params {
     dims: 1,
@@ -44,8 +44,10 @@ fn rows_fit(params: &Params, rows: &[Row]) -> bool
 }
 
 // A new warehouse.
-fn made(alloc: Global) -> Result<Stored, OpenFault> {
-    let disk = match create(PlainDisk::blank(alloc), &LINE) {
+pub(crate) fn made(alloc: Global, params: &Params) -> Result<Stored, OpenFault>
+    requires { IsInRange params.now }
+{
+    let disk = match create(PlainDisk::blank(alloc), params) {
         Created::Done(disk) => disk,
         Created::AlreadyThere(disk) => disk,
         Created::Disk(disk) => disk,
@@ -57,7 +59,7 @@ fn made(alloc: Global) -> Result<Stored, OpenFault> {
 }
 
 // The warehouse with one more batch, if it was put last.
-fn put(house: Stored, rows: &[Row]) -> Option<Stored> {
+pub(crate) fn put(house: Stored, rows: &[Row]) -> Option<Stored> {
     if rows.len() > 4096 || !rows_fit(&house.params(), rows) {
         return None;
     }
@@ -78,24 +80,24 @@ fn object(id: u64, low: u32, high: u32, weight: i64) -> Object {
 }
 
 // Two boxes, one of which is withdrawn in the second version.
-fn two_versions(alloc: Global) -> Result<Option<Stored>, OpenFault> {
+pub(crate) fn two_versions(alloc: Global) -> Result<Option<Stored>, OpenFault> {
     let first = [Row::Add(object(1, 2, 5, 10)), Row::Add(object(2, 5, 9, 7))];
-    let house = put(made(alloc)?, &first);
+    let house = put(made(alloc, &LINE)?, &first);
     Ok(house.and_then(|house| put(house, &[Row::Withdraw(1)])))
 }
 
 // The answer of spans to a box from the one version to the other.
-fn asked(
-    spans: &mut Kept,
-    low: u32,
-    high: u32,
+pub(crate) fn asked_in<E: Disk>(
+    spans: &mut Spans<E, PointList>,
+    low: [u32; 3],
+    high: [u32; 3],
     first: u32,
     last: u32,
 ) -> Option<Result<i128, QueryFault>> {
     let query = Query {
         kind: Kind::Sum,
-        low: [low, 0, 0],
-        high: [high, 0, 0],
+        low,
+        high,
     };
     if first > last || !query_fits(&query, &spans.params()) {
         return None;
@@ -103,8 +105,19 @@ fn asked(
     Some(spans.query(&query, first, last))
 }
 
+// The same on a line.
+pub(crate) fn asked<E: Disk>(
+    spans: &mut Spans<E, PointList>,
+    low: u32,
+    high: u32,
+    first: u32,
+    last: u32,
+) -> Option<Result<i128, QueryFault>> {
+    asked_in(spans, [low, 0, 0], [high, 0, 0], first, last)
+}
+
 // The spans of a warehouse.
-fn spans_of(alloc: Global, house: &mut Stored, second: PlainDisk) -> Option<Kept> {
+pub(crate) fn spans_of(alloc: Global, house: &mut Stored, second: PlainDisk) -> Option<Kept> {
     match derive(alloc, house, second) {
         Derived::Done { second, version: _ } => Spans::open_on(alloc, second).ok(),
         _ => None,
@@ -139,7 +152,7 @@ fn a_span_is_the_sum_of_its_versions(rt: HostRuntime) -> Result<(), Fail> {
 
 #[test]
 fn spans_of_no_version_are_made_anew(rt: HostRuntime) -> Result<(), Fail> {
-    let mut house = made(rt.alloc())?;
+    let mut house = made(rt.alloc(), &LINE)?;
     let spans = spans_of(rt.alloc(), &mut house, PlainDisk::blank(rt.alloc()));
     assert!(rt; spans.is_some());
     if let Some(mut spans) = spans {
@@ -159,7 +172,7 @@ fn spans_of_no_version_are_made_anew(rt: HostRuntime) -> Result<(), Fail> {
 
 #[test]
 fn a_warehouse_is_no_place_for_spans(rt: HostRuntime) -> Result<(), Fail> {
-    let mut house = made(rt.alloc())?;
+    let mut house = made(rt.alloc(), &LINE)?;
     let other = two_versions(rt.alloc())?;
     assert!(rt; other.is_some());
     if let Some(other) = other {
