@@ -22,4 +22,5 @@ pub mod FillableEvents
 pub mod StandingSpans
 pub mod Staged
 pub mod Written
+pub mod StayingReady
 pub mod HouseSpans

@@ -186,7 +186,8 @@ module _ {E : Type 0} (g : Ghosts E) where
             let opened = then_opened start second (second_out ended) same (n.opened told1) in
             record {
               only = (n.early.not_done, (n.early.not_limited, n.damaged refl));
-              stands = λ other. subst (λ (x : Image). StandsAlike x (g.image (second_out ended))) same.image (n.stands other told1);
+              stands = λ other. subst (λ (x : Image). StandsAlike x (g.image (second_out ended))) same.image
+                  (n.stands (λ e is. other e is (let rose = n.early.disk e is in omega (arith, rose, more))) told1);
               moments = opened.moments;
               untouched = opened.untouched;
             };
@@ -203,7 +204,7 @@ module _ {E : Type 0} (g : Ghosts E) where
         let opened = read_only start second (same told (there_full params (g.image start) never)) in
         record {
           only = ((λ e v is. cc), ((λ e n is. cc), (λ e page is. cc)));
-          stands = λ other. absurd (other second refl);
+          stands = λ other. absurd (other second refl rose);
           moments = opened.moments;
           untouched = opened.untouched;
         };

@@ -1,5 +1,5 @@
 -- A disk that stands for new spans, and the spans that it holds.
-use Rattle.std.proofs.Common.{◌≡◌, ℕ, ◌≤◌, false, List, [], inl, inr, refl, sym, subst}
+use Rattle.std.proofs.Common.{◌≡◌, ℕ, ◌≤◌, false, List, [], refl, sym, subst}
 use Rattle.std.proofs.lemmas.List.{length-replicate}
 use Rattle.std.proofs.lemmas.List.Elements.{All-nil}
 use Rattle.bw_types.specs.Empty.{empty_tree}
@@ -15,7 +15,7 @@ use Rattle.redo_journal.specs.Gates.{is_empty}
 use Rattle.dom_index.specs.declared.index.DomIndex.{Ghosts}
 use Rattle.corner_forest.specs.Entries.{corner_count}
 use Rattle.history_laws.specs.Bounds.{HasSmallWeight}
-use Rattle.span_planes.specs.Made.{IsEmptyOrNew, IsNew, MayTakeSpans, StandsNew, new_meta}
+use Rattle.span_planes.specs.Made.{IsNew, StandsNew, new_meta}
 use Rattle.span_planes.specs.SpanHolds.{SpanHolds, without_degree}
 use Rattle.span_planes.specs.SpanPoints.{dated_weight, plain_weight, span_points, span_roots}
 use Rattle.span_planes.proofs.NewSpans.{all_same, first_empty, meta_rules, meta_typed, no_pages, others_empty, range_without_degree}
@@ -75,7 +75,3 @@ module _ {X : Type 0} (g : Ghosts X)
         };
         apart = subst (λ (ps : List ℕ). NamesNoneTwice ps) (sym (no_pages (g.footprint new.pages params.dims) (span_roots params) tree.1)) tt;
       }
-
-  -- a disk that may take spans holds none, or those of the empty history
-  pub none_or_new : (x : Image) → MayTakeSpans params x → IsEmptyOrNew g params x
-  none_or_new x may = elim may [ inl none ↦ inl none | inr new ↦ inr (stood_spans x new) ]

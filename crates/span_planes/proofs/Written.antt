@@ -1,5 +1,5 @@
 -- What is left of a second disk to which the spans of a history are written.
-use Rattle.std.proofs.Common.{◌≡◌, ◌≢◌, ◌⊎◌, ℕ, ◌+◌, ◌<◌, ◌≤◌, IsTrue, List, length, refl, sym, ◌∙◌, subst, IsPermutation}
+use Rattle.std.proofs.Common.{◌≡◌, ◌≢◌, ◌⊎◌, ℕ, ◌+◌, ◌<◌, ◌≤◌, List, length, refl, sym, ◌∙◌, subst, IsPermutation}
 use Rattle.bw_types.specs.Fits.{IsInRange}
 use Rattle.bw_types.specs.History.{History, changes, last_version}
 use Rattle.bw_types.specs.declared.params.Params.{Params}
@@ -19,11 +19,11 @@ use Rattle.page_ports.specs.declared.page.StageFault.TheVariants as fault
 use Rattle.page_space.specs.Space.{HoldsSpace}
 use Rattle.span_planes.specs.Ended.{abandoning_of}
 use Rattle.span_planes.specs.Filled.{FilledTrees, entries_in, span_growth}
-use Rattle.span_planes.specs.Made.{IsEmptyOrNew, LeavesSpans, second_out}
+use Rattle.span_planes.specs.Made.{LeavesSpans, MayTakeSpans, second_out}
 use Rattle.span_planes.specs.SpanHolds.{SpanHolds, without_degree}
 use Rattle.span_planes.specs.Writing.{AreAllOf, IsMetaFor}
 use Rattle.span_planes.specs.declared.making.Derived.{Derived}
-use Rattle.span_planes.specs.declared.making.Derived.TheVariants.{Done, AlreadyThere, PageLimit, Damaged, NoMemory, Disk}
+use Rattle.span_planes.specs.declared.making.Derived.TheVariants.{Done, PageLimit, Damaged, NoMemory, Disk}
 use Rattle.span_planes.proofs.EventEntries.{entries_permuted}
 use Rattle.span_planes.proofs.InTurn.{event_number}
 use Rattle.span_planes.proofs.StandingSpans.{spans_stand}
@@ -65,7 +65,7 @@ module _ {X : Type 0} (i : IndexGhosts X)
 
 module _ {E X : Type 0} (g : Ghosts E) (i : IndexGhosts X) (params : Params) (h : History) where
   abbrev pub IsPossible : Image → Type 0
-  IsPossible x = IsEmptyOrNew i params x ⊎ SpanHolds i x params h
+  IsPossible x = MayTakeSpans params x ⊎ SpanHolds i x params h
 
   -- all was written
   pub done_leaves : (second e : E) (last : ℕ) → last ≡ last_version h → SpanHolds i (g.image e) params h → LeavesNow (g.moments e) (g.image e) → LeavesOnly IsPossible (g.moments second) (g.moments e)
@@ -78,60 +78,45 @@ module _ {E X : Type 0} (g : Ghosts E) (i : IndexGhosts X) (params : Params) (h 
           subst (λ (d : E). SpanHolds i (g.image d) params h × ((x : Image) → MayBeLeftNow (g.moments d) x → SpanHolds i x params h)) disk_is
               (holds, λ x left. subst (λ (y : Image). SpanHolds i y params h) (sym (settled x left)) holds),
         );
-    else = λ not_done not_disk. absurd (not_done e last refl);
     moments = moments;
     limit = λ f allotted same. absurd (cc);
-    there = λ f same. cc;
     sound = λ f page same. cc;
+  }
+
+  -- not all was written
+  pub undone_leaves : (second : E) (ended : Derived E) → ((e : E) (version : ℕ) → ended ≢ Done e version)
+      → ((e : E) (allotted : ℕ) → ended ≡ PageLimit e allotted → params.pages < 3 + span_growth params (length (changes h)))
+      → ((e : E) (page : ℕ) → ended ≢ Damaged e page) → LeavesOnly IsPossible (g.moments second) (g.moments (second_out ended)) → LeavesSpans g i params h second ended
+  undone_leaves second ended not_done limit sound moments = record {
+    done = λ e version same. absurd (not_done e version same);
+    moments = moments;
+    limit = limit;
+    sound = sound;
   }
 
   -- the disk failed
   pub failed_leaves : (second e : E) → LeavesOnly IsPossible (g.moments second) (g.moments e) → LeavesSpans g i params h second (Disk e)
-  failed_leaves second e moments = record {
-    done = λ f version same. absurd (cc);
-    else = λ not_done not_disk. absurd (not_disk e refl);
-    moments = moments;
-    limit = λ f allotted same. absurd (cc);
-    there = λ f same. cc;
-    sound = λ f page same. cc;
-  }
-
-  -- nothing was written
-  pub ended_leaves : (second : E) (ended : Derived E) → ((e : E) (version : ℕ) → ended ≢ Done e version)
-      → ((e : E) (allotted : ℕ) → ended ≡ PageLimit e allotted → (allotted ≡ params.pages) × (params.pages < 3 + span_growth params (length (changes h))))
-      → ((e : E) → ended ≢ AlreadyThere e) → ((e : E) (page : ℕ) → ended ≢ Damaged e page)
-      → (((e : E) → ended ≢ Disk e) → IsTrue (g.tells (second_out ended)) × IsEmptyOrNew i params (g.image (second_out ended))) → LeavesOnly IsPossible (g.moments second) (g.moments (second_out ended))
-      → LeavesSpans g i params h second ended
-  ended_leaves second ended not_done limit there sound else moments = record {
-    done = λ e version same. absurd (not_done e version same);
-    else = λ _ not_disk. else not_disk;
-    moments = moments;
-    limit = limit;
-    there = there;
-    sound = sound;
-  }
+  failed_leaves second e moments = undone_leaves second (Disk e) (λ f version is. cc) (λ f allotted is. absurd (cc)) (λ f page is. cc) moments
 
   unchanged : (second back : E) → g.moments back ≡ g.moments second → LeavesOnly IsPossible (g.moments second) (g.moments back)
   unchanged second back same = subst (λ (ms : List Moment). LeavesOnly IsPossible (g.moments second) ms) (sym same) (LeavesOnly-same IsPossible (g.moments second))
 
   -- the stage was abandoned
-  pub abandoned_leaves : (second back : E) (f : StageFault) → g.moments back ≡ g.moments second → IsTrue (g.tells back) → IsEmptyOrNew i params (g.image back)
-      → ((page : ℕ) → f ≢ fault.Damaged page) → ((n : ℕ) → f ≡ fault.PageLimit n → (n ≡ params.pages) × (params.pages < 3 + span_growth params (length (changes h)))) → LeavesSpans g i params h second (abandoning_of f back)
-  abandoned_leaves second back fault.Disk same told new sound limit = failed_leaves second back (unchanged second back same)
-  abandoned_leaves second back (fault.Damaged page) same told new sound limit = absurd (sound page refl)
-  abandoned_leaves second back (fault.PageLimit n) same told new sound limit =
-      ended_leaves second (PageLimit back n) (λ e version is. cc) (λ e allotted is. let it : n ≡ allotted = cc in let here = limit n refl in (sym it ∙ here.0, here.1)) (λ e is. cc) (λ e page is. cc) (λ other. (told, new)) (unchanged second back same)
-  abandoned_leaves second back fault.NoMemory same told new sound limit =
-      ended_leaves second (NoMemory back) (λ e version is. cc) (λ e allotted is. absurd (cc)) (λ e is. cc) (λ e page is. cc) (λ other. (told, new)) (unchanged second back same)
+  pub abandoned_leaves : (second back : E) (f : StageFault) → g.moments back ≡ g.moments second → ((page : ℕ) → f ≢ fault.Damaged page)
+      → ((n : ℕ) → f ≡ fault.PageLimit n → params.pages < 3 + span_growth params (length (changes h))) → LeavesSpans g i params h second (abandoning_of f back)
+  abandoned_leaves second back fault.Disk same sound limit = failed_leaves second back (unchanged second back same)
+  abandoned_leaves second back (fault.Damaged page) same sound limit = absurd (sound page refl)
+  abandoned_leaves second back (fault.PageLimit n) same sound limit =
+      undone_leaves second (PageLimit back n) (λ e version is. cc) (λ e allotted is. limit n refl) (λ e page is. cc) (unchanged second back same)
+  abandoned_leaves second back fault.NoMemory same sound limit =
+      undone_leaves second (NoMemory back) (λ e version is. cc) (λ e allotted is. absurd (cc)) (λ e page is. cc) (unchanged second back same)
 
   -- what was so before the second disk was opened
   pub leaves_before : (start second : E) (result : Derived E) → LeavesOnly IsPossible (g.moments start) (g.moments second) → LeavesSpans g i params h second result → LeavesSpans g i params h start result
   leaves_before start second result earlier l = record {
     done = l.done;
-    else = l.else;
     moments = LeavesOnly-then IsPossible (g.moments start) (g.moments second) (g.moments (second_out result)) earlier l.moments;
     limit = l.limit;
-    there = l.there;
     sound = l.sound;
   }
 
@@ -143,11 +128,11 @@ module _ {E : Type 0} where
   abandoned_out (fault.PageLimit n) back = refl
   abandoned_out fault.NoMemory back = refl
 
-  pub abandoned_there : (f : StageFault) (back e : E) → abandoning_of f back ≢ AlreadyThere e
-  abandoned_there fault.Disk back e same = cc
-  abandoned_there (fault.Damaged page) back e same = cc
-  abandoned_there (fault.PageLimit n) back e same = cc
-  abandoned_there fault.NoMemory back e same = cc
+  pub abandoned_done : (f : StageFault) (back e : E) (version : ℕ) → abandoning_of f back ≢ Done e version
+  abandoned_done fault.Disk back e version same = cc
+  abandoned_done (fault.Damaged page) back e version same = cc
+  abandoned_done (fault.PageLimit n) back e version same = cc
+  abandoned_done fault.NoMemory back e version same = cc
 
   pub abandoned_disk : (f : StageFault) (back e : E) → abandoning_of f back ≡ Disk e → (f ≡ fault.Disk) × (back ≡ e)
   abandoned_disk fault.Disk back e same = (refl, cc)

@@ -1,9 +1,10 @@
 -- A disk on which spans are made.
-use Rattle.std.specs.Prelude.{◌≡◌, ◌≢◌, ◌⊎◌, ℕ, ◌+◌, ◌<◌, ◌≤◌, true, IsTrue, [], length, replicate}
+use Rattle.std.specs.Prelude.{◌≡◌, ◌≢◌, ◌⊎◌, ℕ, ◌+◌, ◌<◌, ◌≤◌, true, [], length, replicate}
 use Rattle.bw_types.specs.Empty.{empty_tree}
 use Rattle.bw_types.specs.Fits.{IsInRange}
 use Rattle.bw_types.specs.History.{History, changes, last_version}
 use Rattle.bw_types.specs.declared.params.Params.{Params}
+use Rattle.counts.specs.Count.{Rose}
 use Rattle.page_disk.specs.Image.{Image, PageList}
 use Rattle.page_disk.specs.Moment.{MayBeLeftNow}
 use Rattle.page_disk.specs.Since.{LeavesOnly}
@@ -65,9 +66,9 @@ module _ {X : Type 0} (i : IndexGhosts X) where
   abbrev pub NewSpansHoldNothing : Type 0
   NewSpansHoldNothing = (x : Image) (params : Params) → IsInRange params → params.dims ≤ i.DIMS → IsNew params x → SpanHolds i x params []
 
-  -- no spans are there, or those of the empty history
-  abbrev pub IsEmptyOrNew : Params → Image → Type 0
-  IsEmptyOrNew params x = (is_empty x ≡ true) ⊎ SpanHolds i x params []
+  -- So does a disk that stands for new spans, whatever pages lie behind theirs.
+  abbrev pub StandingNewHoldsNothing : Type 0
+  StandingNewHoldsNothing = (x : Image) (params : Params) → IsInRange params → params.dims ≤ i.DIMS → StandsNew params x → SpanHolds i x params []
 
 module _ {E X : Type 0} (g : Ghosts E) (i : IndexGhosts X) where
   -- What is left of a second disk that may take spans, when those of this history are written to it, however that ends.
@@ -75,22 +76,27 @@ module _ {E X : Type 0} (g : Ghosts E) (i : IndexGhosts X) where
     -- Where it is done, it holds them, and a crash from now on leaves them.
     pub done : (e : E) (version : ℕ) → result ≡ Done e version
         → (version ≡ last_version h) × (SpanHolds i (g.image e) params h × ((x : Image) → MayBeLeftNow (g.moments e) x → SpanHolds i x params h))
-    -- Else, unless a disk failed, no spans are there, or those of the empty history.
-    pub else : ((e : E) (version : ℕ) → result ≢ Done e version) → ((e : E) → result ≢ Disk e)
-        → IsTrue (g.tells (second_out result)) × IsEmptyOrNew i params (g.image (second_out result))
-    -- A crash at any moment left what it might have left before, nothing, the spans of the empty history, or all.
-    pub moments : LeavesOnly (λ x. IsEmptyOrNew i params x ⊎ SpanHolds i x params h) (g.moments second) (g.moments (second_out result))
+    -- A crash at any moment left what it might have left before, what may take spans, or all of them.
+    pub moments : LeavesOnly (λ x. MayTakeSpans params x ⊎ SpanHolds i x params h) (g.moments second) (g.moments (second_out result))
     -- Pages lack only where the stated need passes the limit.
-    pub limit : (e : E) (allotted : ℕ) → result ≡ PageLimit e allotted → (allotted ≡ params.pages) × (params.pages < 3 + span_growth params (length (changes h)))
-    pub there : (e : E) → result ≢ AlreadyThere e
+    pub limit : (e : E) (allotted : ℕ) → result ≡ PageLimit e allotted → params.pages < 3 + span_growth params (length (changes h))
     pub sound : (e : E) (page : ℕ) → result ≢ Damaged e page
 
 module _ {E : Type 0} (g : Ghosts E) where
+  -- A second disk that may take spans, whatever the first one holds: it is not told to be there, and unless spans were written or it failed, it
+  -- may take them still, and so may what a crash at any moment left beside what it might have left before.
+  pub record StaysReady (params : Params) (second : E) (result : Derived E) : Type 0 where
+    pub ready : ((e : E) (version : ℕ) → result ≢ Done e version) → ((e : E) → result ≡ Disk e → Rose (g.faults second) (g.faults e) → ⊥)
+        → MayTakeSpans params (g.image (second_out result)) × LeavesOnly (MayTakeSpans params) (g.moments second) (g.moments (second_out result))
+    pub at_limit : (e : E) (allotted : ℕ) → result ≡ PageLimit e allotted → allotted ≡ params.pages
+    pub there : (e : E) → result ≢ AlreadyThere e
+
   -- A second disk that may not take spans is told to be there, and never that it is damaged. It stands for the pages that it stood for.
   pub record StaysThere (second : E) (result : Derived E) : Type 0 where
     pub only : ((e : E) (version : ℕ) → result ≢ Done e version) × (((e : E) (allotted : ℕ) → result ≢ PageLimit e allotted) × ((e : E) (page : ℕ) → result ≢ Damaged e page))
-    pub stands : ((e : E) → result ≢ Disk e) → StandsAlike (g.image second) (g.image (second_out result))
-    -- A crash at any moment leaves what stands for the same pages, whatever the end.
+    -- Unless it failed, it does now,
+    pub stands : ((e : E) → result ≡ Disk e → Rose (g.faults second) (g.faults e) → ⊥) → StandsAlike (g.image second) (g.image (second_out result))
+    -- and a crash at any moment leaves what does, whatever the end.
     pub moments : (pages : PageList) → SettlesTo (g.image second) pages → LeavesOnly (λ x. SettlesTo x pages) (g.moments second) (g.moments (second_out result))
     -- Where nothing is replayed, nothing is written.
     pub untouched : HasNoReplay (g.image second) → StaysAsRead g second (second_out result)

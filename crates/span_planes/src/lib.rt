@@ -27,7 +27,7 @@ mod tests;
 mod writing;
 
 pub use asked::SpanRow;
-pub use creating::new_spans_hold;
+pub use creating::{new_spans_hold, standing_new_spans_hold};
 pub use desk::SpanDesk;
 pub use laws::{spans_are_differences, spans_are_held_by_pages};
 pub use making::{Derived, derive};

@@ -1,12 +1,13 @@
 //! Spans derived from a warehouse.
-ghost use Rattle.std.specs.Prelude.{◌≡◌, ◌≢◌, ◌⊎◌, ◌≤◌, true, IsTrue};
+ghost use Rattle.std.specs.Prelude.{◌≡◌, ◌⊎◌, ◌≤◌, ℕ, true, IsTrue};
 ghost use Rattle.bw_types.specs.History.{History};
 ghost use Rattle.counts.specs.Count.{Rose};
+ghost use Rattle.page_disk.specs.Since.{LeavesNow};
 ghost use Rattle.page_warehouse.specs.Shown.{HasNewForm, HoldsHistory, disk_charge, disk_in, meta_in, params_in};
 ghost use Rattle.page_space.specs.Shown.{disk_of};
 ghost use Rattle.warehouse.specs.Left.{IsAsBefore};
 ghost use Rattle.span_planes.specs.Ended.{gathering_of};
-ghost use Rattle.span_planes.specs.Made.{LeavesSpans, MayTakeSpans, StaysThere, second_out};
+ghost use Rattle.span_planes.specs.Made.{LeavesSpans, MayTakeSpans, StaysReady, StaysThere, second_out};
 ghost use Rattle.span_planes.specs.Readied.{IsNewSpace};
 
 use crate::readying::new_space;
@@ -38,8 +39,9 @@ pub enum Derived<E> {
 
 /// Writes the spans of a warehouse to a second disk, which is empty or has new spans without versions: all of them in one commit.
 ///
-/// The house and its disk stay as they were. A second disk with anything else stands for the same pages at any moment, and where no journal
-/// is replayed, nothing is written to it. It takes memory for a list of all adds and withdrawals, for the points of one tree, and for the
+/// The house and its disk stay as they were. Unless it is done or the second disk failed, that may take spans as before, whatever the first
+/// one holds. A second disk with anything else stands for the same pages at any moment, and where no journal is replayed, nothing is written
+/// to it. It takes memory for a list of all adds and withdrawals, for the points of one tree, and for the
 /// pages of the trees.
 pub fn derive<D: Disk, X: DomIndex + Drop, E: Disk + Drop>(
     alloc: Global,
@@ -48,8 +50,11 @@ pub fn derive<D: Disk, X: DomIndex + Drop, E: Disk + Drop>(
 ) -> Derived<E>
     ensures leaves { (h : History) → HoldsHistory D.Disk X.DomIndex true (disk_in house.old) (params_in house.old) h → IsTrue (E.tells second)
         → MayTakeSpans (params_in house.old) (E.image second) → LeavesSpans E.Disk X.DomIndex (params_in house.old) h second result }
+    ensures ready { IsTrue (E.tells second) → MayTakeSpans (params_in house.old) (E.image second) → StaysReady E.Disk (params_in house.old) second result }
     ensures there { IsTrue (E.tells second) → (MayTakeSpans (params_in house.old) (E.image second) → ⊥) → StaysThere E.Disk second result }
-    ensures there_only { (e : E) → result ≡ Derived.AlreadyThere e → IsTrue (E.tells second) → MayTakeSpans (params_in house.old) (E.image second) → ⊥ }
+    ensures version { (e : E) (version : ℕ) → result ≡ Derived.Done e version → version ≡ (meta_in house.old).version }
+    // Spans of no version may be replaced by those of more.
+    ensures none { (e : E) → result ≡ Derived.Done e 0 → IsTrue (E.tells second) → MayTakeSpans (params_in house.old) (E.image e) }
     ensures disk { (e : E) → result ≡ Derived.Disk e → Rose (D.faults (disk_in house.old)) (D.faults (disk_in house.new)) ⊎ Rose (E.faults second) (E.faults e) }
     ensures kept { IsAsBefore params_in disk_in (HoldsHistory D.Disk X.DomIndex) (HasNewForm D.Disk) D.tells D.image D.moments (disk_charge D.Disk) house.old house.new }
     ensures meta { meta_in house.new ≡ meta_in house.old }
@@ -71,10 +76,13 @@ fn derive_to<D: Disk, X: DomIndex + Drop, E: Disk + Drop>(
     house: &mut Warehouse<D, X>,
     space: Space<E>,
 ) -> Derived<E>
-    requires { IsNewSpace (params_in house.old) space }
+    requires new { IsNewSpace (params_in house.old) space }
+    requires settled { LeavesNow (E.moments (disk_of space)) (E.image (disk_of space)) }
     ensures leaves { (h : History) → HoldsHistory D.Disk X.DomIndex true (disk_in house.old) (params_in house.old) h → IsTrue (E.tells (disk_of space))
         → LeavesSpans E.Disk X.DomIndex (params_in house.old) h (disk_of space) result }
-    ensures not_there { (e : E) → result ≢ Derived.AlreadyThere e }
+    ensures ready { IsTrue (E.tells (disk_of space)) → StaysReady E.Disk (params_in house.old) (disk_of space) result }
+    ensures version { (e : E) (version : ℕ) → result ≡ Derived.Done e version → version ≡ (meta_in house.old).version }
+    ensures none { (e : E) → result ≡ Derived.Done e 0 → IsTrue (E.tells (disk_of space)) → MayTakeSpans (params_in house.old) (E.image e) }
     ensures disk { (e : E) → result ≡ Derived.Disk e → Rose (D.faults (disk_in house.old)) (D.faults (disk_in house.new)) ⊎ Rose (E.faults (disk_of space)) (E.faults e) }
     ensures kept { IsAsBefore params_in disk_in (HoldsHistory D.Disk X.DomIndex) (HasNewForm D.Disk) D.tells D.image D.moments (disk_charge D.Disk) house.old house.new }
     ensures meta { meta_in house.new ≡ meta_in house.old }
@@ -87,6 +95,13 @@ fn derive_to<D: Disk, X: DomIndex + Drop, E: Disk + Drop>(
     space.is_held();
     let params = house.params();
     let last = house.last();
+    if last == 0 {
+        // The new spans are those of no version.
+        return Derived::Done {
+            second: space.into_disk(),
+            version: 0,
+        };
+    }
     match gather(alloc, house) {
         Ok(events) if can_fill_all(&params, &events) => {
             write::<X, E>(alloc, space, &params, &events, last)

@@ -1,7 +1,8 @@
 //! A second disk that is opened to take spans.
 ghost use Rattle.std.specs.Prelude.{◌≡◌, ◌≤◌, true, false, IsTrue, IfOk, IfErr};
 ghost use Rattle.bw_types.specs.Fits.{IsInRange};
-ghost use Rattle.page_disk.specs.Since.{LeavesOnly};
+ghost use Rattle.page_disk.specs.Since.{LeavesNow, LeavesOnly};
+ghost use Rattle.page_space.specs.Shown.{disk_of};
 ghost use Rattle.span_planes.specs.Made.{MayTakeSpans, StandsNew};
 ghost use Rattle.span_planes.specs.Readied.{IsNewSpace, IsNotOpened, IsRefused, readied_disk, refusal_of, without_spans};
 ghost use Rattle.span_planes.specs.SpanHolds.{without_degree};
@@ -23,6 +24,7 @@ pub(crate) fn new_space<E: Disk>(
 ) -> Result<Space<E>, Derived<E>>
     requires { IsInRange params.now }
     ensures new { IfOk result (λ space. IsNewSpace params.now space) }
+    ensures settled { IfOk result (λ space. LeavesNow (E.moments (disk_of space)) (E.image (disk_of space))) }
     ensures may { IfOk result (λ space. IsTrue (E.tells second) → MayTakeSpans params.now (E.image second)) }
     ensures refused { IfErr result (λ ended. IsRefused E.Disk params.now second ended) }
     ensures any_moment { IsTrue (E.tells second) → MayTakeSpans params.now (E.image second)
@@ -47,6 +49,7 @@ fn open_new<E: Disk>(
 ) -> Result<Space<E>, Derived<E>>
     requires { IsInRange params.now }
     ensures new { IfOk result (λ space. IsNewSpace params.now space) }
+    ensures settled { IfOk result (λ space. LeavesNow (E.moments (disk_of space)) (E.image (disk_of space))) }
     ensures stood { IfOk result (λ space. IsTrue (E.tells second) → StandsNew params.now (E.image second)) }
     ensures refused { IfErr result (λ ended. IsNotOpened E.Disk params.now made second ended) }
     ensures any_moment { IsTrue (E.tells second) → StandsNew params.now (E.image second)

@@ -9,7 +9,7 @@ ghost use Rattle.page_space.specs.MetaSet.{FitsBesideCounts, with_counts_of};
 ghost use Rattle.page_space.specs.Shown.{IsMetaSet, IsStagedInOrder, base_of, disk_of, disk_under, staged_map, staged_meta};
 ghost use Rattle.span_planes.specs.Ended.{abandoning_of};
 ghost use Rattle.span_planes.specs.Filled.{CanFill, ComeInTurn, FilledTrees, entries_in, span_growth};
-ghost use Rattle.span_planes.specs.Made.{LeavesSpans, second_out};
+ghost use Rattle.span_planes.specs.Made.{LeavesSpans, StaysReady, second_out};
 ghost use Rattle.span_planes.specs.Readied.{IsNewSpace};
 ghost use Rattle.span_planes.specs.Writing.{AreAllOf, IsMetaFor};
 
@@ -39,7 +39,8 @@ pub(crate) fn write<X: DomIndex, E: Disk + Drop>(
     requires new { IsNewSpace params.now space }
     ensures leaves { (h : History) → AreAllOf params.now events.now last h → IsTrue (E.tells (disk_of space))
         → LeavesSpans E.Disk X.DomIndex params.now h (disk_of space) result }
-    ensures not_there { (e : E) → result ≢ Derived.AlreadyThere e }
+    ensures ready { IsTrue (E.tells (disk_of space)) → StaysReady E.Disk params.now (disk_of space) result }
+    ensures version { (e : E) (version : ℕ) → result ≡ Derived.Done e version → version ≡ last }
     ensures disk { (e : E) → result ≡ Derived.Disk e → Rose (E.faults (disk_of space)) (E.faults e) }
     ensures faults { E.faults (disk_of space) ≤ E.faults (second_out result) }
     ensures tells { E.tells (second_out result) ≡ E.tells (disk_of space) }

@@ -1,5 +1,6 @@
-use Rattle.std.proofs.Common.{◌≡◌, ℕ, IsTrue, [], Err, length, inl, inr, refl, sym, ◌∙◌, ap, subst, arith}
+use Rattle.std.proofs.Common.{◌≡◌, ℕ, IsTrue, [], Err, length, inl, inr, refl, sym, ◌∙◌, ap, subst, arith, rules}
 use Rattle.bw_types.specs.declared.params.Params.{Params}
+use Rattle.counts.specs.Count.{Rose}
 use Rattle.page_disk.specs.Image.{Image}
 use Rattle.page_disk.specs.Since.{LeavesOnly}
 use Rattle.page_disk.specs.SinceLaws.{LeavesOnly-weaken}
@@ -7,22 +8,47 @@ use Rattle.page_layout.specs.declared.meta.Meta.{Meta}
 use Rattle.page_ports.specs.Pages.{PageMap}
 use Rattle.page_space.specs.Begun.{Begun, OrderedUnder, bytes_under, map_under}
 use Rattle.page_space.specs.Chain.{FreeInOrder}
-use Rattle.page_space.specs.Shown.{IsInOrder, IsStagedInOrder, base_of, begun_of, disk_of, disk_under, map_of, meta_of, params_of, staged_map, staged_meta}
+use Rattle.page_space.specs.Shown.{IsInOrder, IsStagedInOrder, base_of, begun_of, disk_of, disk_under, meta_of, params_of, staged_map, staged_meta}
 use Rattle.page_space.specs.Space.{HoldsSpace}
 use Rattle.bw_types.specs.History.{changes}
 use Rattle.span_planes.specs.Filled.{FilledTrees, entries_in, span_growth}
-use Rattle.span_planes.specs.Made.{IsEmptyOrNew, LeavesSpans, StandsNew, second_out}
+use Rattle.span_planes.specs.Made.{LeavesSpans, StandsNew, StaysReady, second_out}
 use Rattle.span_planes.specs.SpanHolds.{SpanHolds, without_degree}
 use Rattle.span_planes.specs.Writing.{IsMetaFor}
 use Rattle.span_planes.specs.declared.making.Derived.TheVariants.{Done}
 use Rattle.span_planes.proofs.FillableEvents.{few_rows}
 use Rattle.span_planes.proofs.InTurn.{come_in_turn, event_number}
-use Rattle.span_planes.proofs.StoodSpans.{stands_new, stood_spans}
-use Rattle.span_planes.proofs.Written.{IsPossible, abandoned_disk, abandoned_leaves, abandoned_out, abandoned_there, done_leaves, failed_leaves, spans_held}
+use Rattle.span_planes.proofs.Readied.{stands_there}
+use Rattle.span_planes.proofs.StayingReady.{abandoned_ready, done_ready, failed_ready}
+use Rattle.span_planes.proofs.StoodSpans.{stands_new}
+use Rattle.span_planes.proofs.Written.{IsPossible, abandoned_disk, abandoned_done, abandoned_leaves, abandoned_out, done_leaves, failed_leaves, spans_held}
 use Rattle.span_planes.proofs.writing.write.Goals as goal
 
-pub returns-in-Err-clause-not_there : goal.returns-in-Err-clause-not_there
-returns-in-Err-clause-not_there g c = λ e same. abandoned_there c.in-Err.fault c.into_disk.result e (sym c.abandoned.ensures ∙ same)
+pub returns-in-Err-clause-version : goal.returns-in-Err-clause-version
+returns-in-Err-clause-version g c = λ e version same. absurd (abandoned_done c.in-Err.fault c.into_disk.result e version (sym c.abandoned.ensures ∙ same))
+
+pub returns-in-Err-clause-ready : goal.returns-in-Err-clause-ready
+returns-in-Err-clause-ready g c = λ told.
+    let disk = g.E.Disk in
+    let params = c.args.params.now in
+    let space = c.args.space in
+    let back : begun_of c.abandon.result ≡ begun_of space = c.abandon.ensures.base ∙ c.draft.ensures.changes.went_on.base ∙ c.begin-stage.ensures.base in
+    let out = c.into_disk.ensures.disk in
+    let image = ap disk.image out ∙ ap (λ (b : Begun). b.image) back in
+    let moments = ap disk.moments out ∙ ap (λ (b : Begun). b.moments) back in
+    let stood : StandsNew params (disk.image (disk_of space)) = stands_there disk params (disk_of space) space (c.is_held.ensures.held told) c.requires.new in
+    subst (λ r. StaysReady disk params (disk_of space) r) (sym c.abandoned.ensures)
+    (abandoned_ready disk params (disk_of space) c.into_disk.result moments (inr (subst (λ (x : Image). StandsNew params x) (sym image) stood)) c.in-Err.fault
+    (λ n is. (c.in-Err.ensures.changes.page_limit n (ap Err is)).0 ∙ ap (λ (b : Begun). b.params.pages) c.begin-stage.ensures.base ∙ ap (λ (p : Params). p.pages) c.requires.new.0))
+
+pub returns-in-Ok-clause-ready : goal.returns-in-Ok-clause-ready
+returns-in-Ok-clause-ready g c = λ told. done_ready g.E.Disk c.args.params.now (disk_of c.args.space) c.into_disk-in-Ok.result c.args.last
+
+pub returns-in-Err-commit-clause-ready : goal.returns-in-Err-commit-clause-ready
+returns-in-Err-commit-clause-ready g c = λ told.
+    let disk = g.E.Disk in
+    let rose : Rose (disk.faults (disk_of c.args.space)) (disk.faults c.in-Err-commit.second) = search rules in
+    failed_ready disk c.args.params.now (disk_of c.args.space) c.in-Err-commit.second rose
 
 pub returns-in-Err-clause-faults : goal.returns-in-Err-clause-faults
 returns-in-Err-clause-faults g c =
@@ -61,16 +87,9 @@ returns-in-Err-clause-leaves g c = λ h all told.
     let order0 : IsStagedInOrder c.begin-stage.result = c.begin-stage.ensures.in_order order in
     let back : begun_of c.abandon.result ≡ begun_of space = c.abandon.ensures.base ∙ c.draft.ensures.changes.went_on.base ∙ c.begin-stage.ensures.base in
     let out = c.into_disk.ensures.disk in
-    let tells = ap disk.tells out ∙ ap (λ (b : Begun). b.tells) back in
-    let image = ap disk.image out ∙ ap (λ (b : Begun). b.image) back in
     let moments = ap disk.moments out ∙ ap (λ (b : Begun). b.moments) back in
-    let stood : StandsNew params (disk.image (disk_of space)) =
-    stands_new params (disk.image (disk_of space)) (map_of space) (IsInOrder space)
-    (subst (λ (m : Meta). HoldsSpace (disk.image (disk_of space)) (without_degree params) m (map_of space) (IsInOrder space)) new.1
-    (subst (λ (p : Params). HoldsSpace (disk.image (disk_of space)) p (meta_of space) (map_of space) (IsInOrder space)) new.0 (c.is_held.ensures.held told))) in
-    let empty : IsEmptyOrNew i params (disk.image (disk_of space)) = inr (stood_spans i c.index_laws.ensures.empty params c.requires.range c.requires.dims (disk.image (disk_of space)) stood) in
     subst (λ r. LeavesSpans disk i params h (disk_of space) r) (sym c.abandoned.ensures)
-    (abandoned_leaves disk i params h (disk_of space) c.into_disk.result c.in-Err.fault moments (subst IsTrue (sym tells) told) (subst (λ (x : Image). IsEmptyOrNew i params x) (sym image) empty)
+    (abandoned_leaves disk i params h (disk_of space) c.into_disk.result c.in-Err.fault moments
     (λ page is. c.in-Err.ensures.sound page told0 turn order0 (ap Err is))
     (λ n is.
     let limit = (c.in-Err.ensures.growth told0 turn).page_limit n (ap Err is) in
@@ -79,7 +98,7 @@ returns-in-Err-clause-leaves g c = λ h all told.
     let most = limit.2 in
     let many = event_number c.args.events.now h all.all in
     let need : span_growth params (length c.args.events.now) ≡ span_growth params (length (changes h)) = ap (λ (k : ℕ). span_growth params k) many in
-    (pages, omega (arith, pages, first, most, need))))
+    omega (arith, pages, first, most, need)))
 
 pub returns-in-Ok-clause-leaves : goal.returns-in-Ok-clause-leaves
 returns-in-Ok-clause-leaves g c = λ h all told.
@@ -103,11 +122,10 @@ returns-in-Ok-clause-leaves g c = λ h all told.
     let held : (x : Image) → HoldsSpace x (base_of mid).params (staged_meta mid) (staged_map mid) (IsStagedInOrder mid) → SpanHolds i x params h = λ x s.
     spans_held i c.index_laws.ensures.any_order params c.requires.range c.requires.dims c.args.events.now c.args.last h all (staged_map c.begin-stage.result) (staged_map mid) (staged_meta mid) is filled x (IsStagedInOrder mid) order1
     (subst (λ (p : Params). HoldsSpace x p (staged_meta mid) (staged_map mid) (IsStagedInOrder mid)) own s) in
-    let stood : (x : Image) → HoldsSpace x (base_of mid).params (base_of mid).meta (map_under (base_of mid)) (OrderedUnder (base_of mid)) → SpanHolds i x params [] = λ x s.
-    stood_spans i c.index_laws.ensures.empty params c.requires.range c.requires.dims x
-    (stands_new params x (map_under (base_of mid)) (OrderedUnder (base_of mid))
+    let stood : (x : Image) → HoldsSpace x (base_of mid).params (base_of mid).meta (map_under (base_of mid)) (OrderedUnder (base_of mid)) → StandsNew params x = λ x s.
+    stands_new params x (map_under (base_of mid)) (OrderedUnder (base_of mid))
     (subst (λ (m : Meta). HoldsSpace x (without_degree params) m (map_under (base_of mid)) (OrderedUnder (base_of mid))) (ap (λ (b : Begun). b.meta) base ∙ new.1)
-    (subst (λ (p : Params). HoldsSpace x p (base_of mid).meta (map_under (base_of mid)) (OrderedUnder (base_of mid))) own s))) in
+    (subst (λ (p : Params). HoldsSpace x p (base_of mid).meta (map_under (base_of mid)) (OrderedUnder (base_of mid))) own s)) in
     let made = c.in-Ok.space in
     let y = disk.image (disk_of made) in
     let stands : HoldsSpace y (base_of mid).params (staged_meta mid) (staged_map mid) (IsStagedInOrder mid) =
@@ -143,11 +161,10 @@ returns-in-Err-commit-clause-leaves g c = λ h all told.
     let held : (x : Image) → HoldsSpace x (base_of mid).params (staged_meta mid) (staged_map mid) (IsStagedInOrder mid) → SpanHolds i x params h = λ x s.
     spans_held i c.index_laws.ensures.any_order params c.requires.range c.requires.dims c.args.events.now c.args.last h all (staged_map c.begin-stage.result) (staged_map mid) (staged_meta mid) is filled x (IsStagedInOrder mid) order1
     (subst (λ (p : Params). HoldsSpace x p (staged_meta mid) (staged_map mid) (IsStagedInOrder mid)) own s) in
-    let stood : (x : Image) → HoldsSpace x (base_of mid).params (base_of mid).meta (map_under (base_of mid)) (OrderedUnder (base_of mid)) → SpanHolds i x params [] = λ x s.
-    stood_spans i c.index_laws.ensures.empty params c.requires.range c.requires.dims x
-    (stands_new params x (map_under (base_of mid)) (OrderedUnder (base_of mid))
+    let stood : (x : Image) → HoldsSpace x (base_of mid).params (base_of mid).meta (map_under (base_of mid)) (OrderedUnder (base_of mid)) → StandsNew params x = λ x s.
+    stands_new params x (map_under (base_of mid)) (OrderedUnder (base_of mid))
     (subst (λ (m : Meta). HoldsSpace x (without_degree params) m (map_under (base_of mid)) (OrderedUnder (base_of mid))) (ap (λ (b : Begun). b.meta) base ∙ new.1)
-    (subst (λ (p : Params). HoldsSpace x p (base_of mid).meta (map_under (base_of mid)) (OrderedUnder (base_of mid))) own s))) in
+    (subst (λ (p : Params). HoldsSpace x p (base_of mid).meta (map_under (base_of mid)) (OrderedUnder (base_of mid))) own s)) in
     failed_leaves disk i params h (disk_of space) c.in-Err-commit.second
     (subst (λ (b : Begun). LeavesOnly (IsPossible disk i params h) b.moments (disk.moments c.in-Err-commit.second)) base
     (LeavesOnly-weaken _ (IsPossible disk i params h) (base_of mid).moments (disk.moments c.in-Err-commit.second)
