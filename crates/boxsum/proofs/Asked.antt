@@ -1,15 +1,15 @@
 -- The command that the words ask for.
-use Rattle.std.proofs.Common.{◌≡◌, ◌≢◌, ℕ, true, false, List, Option, Some, None, ◌∙◌, refl, sym, ap, subst}
+use Rattle.std.proofs.Common.{◌≡◌, ℕ, true, false, IsTrue, List, Option, Some, None, ◌∙◌, refl, sym, ap, subst}
 use Rattle.bw_types.specs.declared.params.Params.{Params}
 use Rattle.csv_rows.specs.Input.{given, provided}
 use Rattle.command_words.specs.Command.{command_of}
 use Rattle.command_words.specs.declared.command.Command.{Command}
-use Rattle.command_words.specs.declared.command.Command.TheVariants.{Create, Run, Scratch, Sample, Check, Spans, SpanRun, Report, Export, Compact}
+use Rattle.command_words.specs.declared.command.Command.TheVariants.{Create, Scratch, Sample}
 use Rattle.byte_ports.specs.declared.Source.{Ghosts as SourceGhosts}
 use Rattle.byte_ports.specs.declared.Sink.{Ghosts as SinkGhosts}
 use Rattle.page_disk.specs.declared.disk.Disk.{Ghosts as DiskGhosts}
 use Rattle.dom_index.specs.declared.index.DomIndex.{Ghosts as IndexGhosts}
-use Rattle.boxsum.specs.Built.{built_command, command_on_one, is_built, is_for_one_disk}
+use Rattle.boxsum.specs.Built.{asks_one_disk, built_command, command_on_one, is_built, is_for_one_disk}
 use Rattle.boxsum.specs.Ran.{AnswersFromNothing, MakesEmpty, Samples}
 use Rattle.boxsum.specs.declared.status.Ran.{Ran}
 use Rattle.boxsum.specs.declared.status.Status.{Status}
@@ -26,23 +26,11 @@ one_is_built words command = elim (built_command words) as (λ o. given o (λ c.
 ]
 
 -- and what needs no second one is asked of one
-pub one_is_enough : (words : List (List ℕ)) → ((version : ℕ) → built_command words ≢ Some (Compact version)) → command_on_one words ≡ built_command words
-one_is_enough words = elim (built_command words) as (λ o. ((version : ℕ) → o ≢ Some (Compact version)) → given o (λ c. provided (is_for_one_disk c) c) ≡ o) [
-  | None ↦ λ none. refl
-  | Some c ↦ alone c
+pub one_is_enough : (words : List (List ℕ)) → IsTrue (asks_one_disk (built_command words)) → command_on_one words ≡ built_command words
+one_is_enough words = elim (built_command words) as (λ o. IsTrue (asks_one_disk o) → given o (λ c. provided (is_for_one_disk c) c) ≡ o) [
+  | None ↦ λ one. refl
+  | Some c ↦ elim (is_for_one_disk c) as (λ b. IsTrue b → provided b c ≡ Some c) [ true ↦ λ one. refl | false ↦ λ one. cc ]
 ]
-  where
-    alone : (c : Command) → ((version : ℕ) → Some c ≢ Some (Compact version)) → provided (is_for_one_disk c) c ≡ Some c
-    alone (Create params) none = refl
-    alone Run none = refl
-    alone (Scratch params) none = refl
-    alone (Sample start count) none = refl
-    alone Check none = refl
-    alone Spans none = refl
-    alone SpanRun none = refl
-    alone Report none = refl
-    alone Export none = refl
-    alone (Compact version) none = absurd (none version refl)
 
 -- there is one command that the words ask for
 pub same_create : (words : List (List ℕ)) (read : Command) (at params : Params) → command_of words ≡ Some read → read ≡ Create at → built_command words ≡ Some (Create params) → at ≡ params

@@ -4,12 +4,15 @@ use Rattle.byte_ports.specs.declared.Source.{Ghosts as SourceGhosts}
 use Rattle.byte_ports.specs.declared.Sink.{Ghosts as SinkGhosts}
 use Rattle.command_words.specs.declared.command.Command.{Command}
 use Rattle.command_words.specs.declared.command.Command.TheVariants.{Create, Run, Scratch, Sample, Check, Spans, SpanRun, Report, Export, Compact}
+use Rattle.bw_types.specs.History.{last_version}
 use Rattle.compact_store.specs.Kept.{kept}
 use Rattle.dom_index.specs.declared.index.DomIndex.{Ghosts as IndexGhosts}
 use Rattle.page_disk.specs.declared.disk.Disk.{Ghosts as DiskGhosts}
 use Rattle.row_machine.specs.Ended.{AfterGoesOn, SilentLinesKeep}
 use Rattle.boxsum.specs.Ends.{may_end}
+use Rattle.boxsum.specs.Held.{warehouses}
 use Rattle.boxsum.specs.Ran.{Carried, Compacts, compacted_text}
+use Rattle.boxsum.specs.Spanning.{Derives, LeavesSpanDisk, spans_line}
 use Rattle.boxsum.specs.declared.status.Ran.{Ran}
 use Rattle.boxsum.specs.declared.status.Status.TheVariants.{NoMemory}
 use Rattle.boxsum.proofs.Exported.{nothing_exported}
@@ -56,7 +59,7 @@ pub nothing_compacted : {D E K X : Type 0} (d : DiskGhosts D) (e : DiskGhosts E)
     → Compacts d e k i disk second sink sink (record { status = NoMemory; disk = disk; second = second }) version
 nothing_compacted d e k i disk second sink version = record {
   silent = λ fine put. refl;
-  reads = nothing_read d i disk;
+  reads = nothing_read (warehouses i) d disk;
   leaves = record {
     unopened = λ told why. refl;
     no_version = λ params h held above. (refl, inr (inr refl));
@@ -79,6 +82,53 @@ nothing_compacted d e k i disk second sink version = record {
       complete = λ calm other limit. inr refl;
     };
   };
+  causes = record {
+    may_end = refl;
+    write_fault = λ so. cc;
+    disk_fault = λ so. cc;
+    tells = refl;
+    faults = omega arith;
+    second_tells = refl;
+    second_faults = omega arith;
+  };
+}
+
+-- Where there is no memory before the second disk is called, that is as it was.
+pub no_memory_leaves : {D E K X : Type 0} (d : DiskGhosts D) (e : DiskGhosts E) (k : SinkGhosts K) (i : IndexGhosts X) (disk : D) (second : E) (sink : K) (back : D)
+    → LeavesSpanDisk d e k i disk second sink sink (record { status = NoMemory; disk = back; second = second })
+no_memory_leaves d e k i disk second sink back = record {
+  unopened = λ told why. refl;
+  ready = λ params told shows still takes. record {
+    ready = λ undone calm. (takes, nothing_left _ (e.moments second));
+    at_limit = λ allotted so. cc;
+    there = λ so. cc;
+  };
+  there = λ params told shows still full. record {
+    told = inr (inr refl);
+    stands = λ calm list settles. settles;
+    moments = λ list settles. nothing_left _ (e.moments second);
+    untouched = λ calm. stays_read e second;
+  };
+  there_only = λ so. cc;
+  makes = λ params h held told takes. record {
+    done = λ why. elim why [ inl so ↦ cc | inr so ↦ cc ];
+    fine = λ so. cc;
+    part = λ before still. writes_nothing (k.written sink) (spans_line (last_version h));
+    none = λ why. elim why [ inl so ↦ cc | inr so ↦ cc ];
+    first = λ why. elim why [ inl so ↦ cc | inr so ↦ cc ];
+    moments = nothing_left _ (e.moments second);
+    limit = λ allotted so. cc;
+    undamaged = λ area page so. cc;
+    complete = λ calm other limit. inr refl;
+  };
+}
+
+pub nothing_derived : {D E K X : Type 0} (d : DiskGhosts D) (e : DiskGhosts E) (k : SinkGhosts K) (i : IndexGhosts X) (disk : D) (second : E) (sink : K)
+    → Derives d e k i disk second sink sink (record { status = NoMemory; disk = disk; second = second })
+nothing_derived d e k i disk second sink = record {
+  silent = λ fine put. refl;
+  reads = nothing_read (warehouses i) d disk;
+  leaves = no_memory_leaves d e k i disk second sink disk;
   causes = record {
     may_end = refl;
     write_fault = λ so. cc;

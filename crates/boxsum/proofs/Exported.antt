@@ -10,6 +10,7 @@ use Rattle.page_disk.specs.declared.disk.Area.TheVariants.{Pages, Journal}
 use Rattle.page_disk.specs.declared.disk.Disk.{Ghosts as DiskGhosts}
 use Rattle.byte_ports.specs.Written.{WritesPart}
 use Rattle.boxsum.specs.Ends.{ends_export}
+use Rattle.boxsum.specs.Held.{warehouses}
 use Rattle.boxsum.specs.Ran.{ExportRan, Exports}
 use Rattle.boxsum.specs.Statuses.{status_of_gathering}
 use Rattle.history_list.specs.declared.gathering.GatherFault.{GatherFault}
@@ -55,7 +56,7 @@ module _ {D K X : Type 0} (d : DiskGhosts D) (k : SinkGhosts K) (i : IndexGhosts
   pub no_export : Exports d k i disk sink sink (record { status = NoMemory; disk = disk })
   no_export = record {
     silent = λ fine write. refl;
-    reads = nothing_read d i disk;
+    reads = nothing_read (warehouses i) d disk;
     prints = λ params h held. record {
       fine = λ e. cc;
       rebuilds = λ e. cc;

@@ -6,7 +6,10 @@ pub mod Reading
 pub mod Sampling
 pub mod Scratch
 pub mod AnsweredEach
+pub mod ReadsContent
+pub mod AnswersFrom
 pub mod ReadsWarehouse
 mod Exported
 mod Compacting
+mod Spanning
 mod Carrying

@@ -17,8 +17,12 @@ use Rattle.sample_rows.specs.Summary.{summary}
 use Rattle.page_space.specs.Opened.{StaysAsRead}
 use Rattle.grid_report.specs.GridCosts.{grid_line_cost}
 use Rattle.grid_report.specs.GridReplies.{grid_replies}
-use Rattle.boxsum.specs.Answering.{AnswersEach, grids_text}
-use Rattle.boxsum.specs.Ran.{Answers, AnswersFromNothing, CreateRan, HasPortCause, ReadsToTheEnd, ReadsWarehouse, ReportRan, RunRan, Samples, SampleRan, ScratchRan, ServesInput, WritesText}
+use Rattle.page_warehouse.specs.Holds.{HoldsTrees}
+use Rattle.span_planes.specs.SpanHolds.{SpanHolds}
+use Rattle.span_planes.specs.SpanRows.{span_line_cost, span_reply}
+use Rattle.boxsum.specs.Answering.{AnswersEach, text_by}
+use Rattle.boxsum.specs.Held.{Content, all_spans, warehouses}
+use Rattle.boxsum.specs.Ran.{Answers, AnswersFrom, AnswersFromNothing, CreateRan, HasPortCause, ReadsContent, ReadsToTheEnd, ReportRan, RunRan, Samples, SampleRan, ScratchRan, ServesInput, SpanRunRan, WritesText}
 use Rattle.boxsum.specs.Runs.{IsInputStatus, history_by}
 use Rattle.boxsum.specs.declared.status.Ran.{Ran}
 use Rattle.boxsum.specs.declared.status.Status.{Status}
@@ -50,9 +54,9 @@ nothing_left P moments = record { later = let n : ℕ = clock_of moments in omeg
 pub stays_read : {D : Type 0} (d : DiskGhosts D) (disk : D) → StaysAsRead d disk disk
 stays_read d disk = record { image = refl; moments = nothing_left (λ x. x ≡ d.image disk) (d.moments disk) }
 
--- no warehouse is read
-pub nothing_read : {D X : Type 0} (d : DiskGhosts D) (i : IndexGhosts X) (disk : D) → ReadsWarehouse d i disk (record { status = NoMemory; disk = disk })
-nothing_read d i disk = record {
+-- nothing is read
+pub nothing_read : {D : Type 0} (content : Content) (d : DiskGhosts D) (disk : D) → ReadsContent d disk (record { status = NoMemory; disk = disk }) content
+nothing_read content d disk = record {
   empty = λ told none. (stays_read d disk, inr (inr refl));
   empty_only = λ e. cc;
   bad_journal = λ page e. cc;
@@ -201,14 +205,27 @@ module _ {D S K X : Type 0} (d : DiskGhosts D) (s : SourceGhosts S) (k : SinkGho
     at_limit = λ params meta pages allotted told space e. cc;
   }
 
-  pub nothing_reported : ReportRan d s k i disk source source sink sink nothing_done
-  nothing_reported = record {
+  pub nothing_asked : (content : Content) (stands : Params → History → Image → Type 0) (reply : Params → History → ℕ → List ℕ → List ℕ) (cost : Params → History → List ℕ → ℕ)
+      → AnswersFrom d s k i disk source source sink sink nothing_done content stands reply cost
+  nothing_asked content stands reply cost = record {
     nothing = λ told none. (refl, refl);
-    warehouse = nothing_read d i disk;
-    answers = λ params h held. record {
-      writes = text_unread s k source sink NoMemory (grids_text params h) (inr refl);
-      answered = λ told. each_unread s k source sink NoMemory (grid_replies params h) (grid_line_cost i.cost params h) _ _ (inr refl) (omega arith);
+    reads = nothing_read content d disk;
+    answers = λ params h told held. record {
+      writes = text_unread s k source sink NoMemory (text_by (reply params h)) (inr refl);
+      answered = λ still. each_unread s k source sink NoMemory (reply params h) (cost params h) _ _ (inr refl) (omega arith);
     };
     at_end = nothing_ends s k source sink;
-    surely = λ params h held other x now. inl (refl, (refl, refl), now);
+    surely = λ params h told held other x now. inl (refl, (refl, refl), now);
+  }
+
+  pub nothing_reported : ReportRan d s k i disk source source sink sink nothing_done
+  nothing_reported = nothing_asked (warehouses i) (λ params h x. HoldsTrees i x params h) grid_replies (λ params h. grid_line_cost i.cost params h)
+
+  pub nothing_spanned : SpanRunRan d s k i disk source source sink sink nothing_done
+  nothing_spanned = record {
+    answers = nothing_asked (all_spans i) (λ params h x. SpanHolds i x params h) span_reply (λ params h. span_line_cost i.cost params h);
+    may_end = refl;
+    causes = record { ports = nothing_caused s k source sink; disk_fault = λ e. cc };
+    tells = refl;
+    faults = omega arith;
   }

@@ -22,7 +22,6 @@ use Rattle.dom_index.specs.declared.index.DomIndex.{Ghosts as IndexGhosts}
 use Rattle.page_warehouse.specs.Holds.{Holds, HoldsTrees}
 use Rattle.page_warehouse.specs.Laws.{HoldsForQueries}
 use Rattle.page_warehouse.specs.Needs.{LacksPages}
-use Rattle.page_warehouse.specs.Opened.{IsDamagedToOpen}
 use Rattle.page_warehouse.specs.Shown.{HoldsHistory}
 use Rattle.warehouse.specs.Crashes.{OnlyLeaves}
 use Rattle.row_machine.specs.Ended.{AllMayBeServed, SilentLinesKeep}
@@ -54,24 +53,24 @@ pub goes_with : (read taken left other : List ℕ) → read ≡ taken ++ left �
 goes_with read taken left other a b = append_cancel_right taken other left (sym a ∙ b)
 
 -- what an opening answers is a cause to refuse
-refusal : (dims : ℕ) (x : Image) (told : Type 0) → told → (f : OpenFault) → AtEmpty f (told → is_empty x ≡ true) → AtBadJournal f (λ page. told → IsBadAt x page)
-    → AtDamaged f (λ page. told → IsDamagedToOpen dims x page) → IsRefusal dims x (status_of_fault f)
-refusal dims x told t fault.Disk empty bad damaged = tt
-refusal dims x told t fault.Empty empty bad damaged = empty t
-refusal dims x told t (fault.Damaged page) empty bad damaged = damaged t
-refusal dims x told t fault.NoMemory empty bad damaged = tt
-refusal dims x told t (fault.BadJournal page) empty bad damaged = bad t
+refusal : (at_fault : Image → ℕ → Type 0) (x : Image) (told : Type 0) → told → (f : OpenFault) → AtEmpty f (told → is_empty x ≡ true) → AtBadJournal f (λ page. told → IsBadAt x page)
+    → AtDamaged f (λ page. told → at_fault x page) → IsRefusal at_fault x (status_of_fault f)
+refusal at_fault x told t fault.Disk empty bad damaged = tt
+refusal at_fault x told t fault.Empty empty bad damaged = empty t
+refusal at_fault x told t (fault.Damaged page) empty bad damaged = damaged t
+refusal at_fault x told t fault.NoMemory empty bad damaged = tt
+refusal at_fault x told t (fault.BadJournal page) empty bad damaged = bad t
 
 -- a disk that was not opened is refused
-pub refuses : {D : Type 0} (g : Ghosts D) (dims : ℕ) (old : D) (f : OpenFault) (ran : Ran D) → IsTrue (g.tells old) → ran.status ≡ status_of_fault f
+pub refuses : {D : Type 0} (g : Ghosts D) (at_fault : Image → ℕ → Type 0) (old : D) (f : OpenFault) (ran : Ran D) → IsTrue (g.tells old) → ran.status ≡ status_of_fault f
     → AtEmpty f (IsTrue (g.tells old) → is_empty (g.image old) ≡ true) → AtBadJournal f (λ page. IsTrue (g.tells old) → IsBadAt (g.image old) page)
-    → AtDamaged f (λ page. IsTrue (g.tells old) → IsDamagedToOpen dims (g.image old) page)
+    → AtDamaged f (λ page. IsTrue (g.tells old) → at_fault (g.image old) page)
     → ((pages : PageList) → SettlesTo (g.image old) pages → LeavesOnly (λ x. SettlesTo x pages) (g.moments old) (g.moments ran.disk))
     → (f ≢ fault.Disk → IsTrue (g.tells old) → StandsAlike (g.image old) (g.image ran.disk))
     → (f ≢ fault.Disk → IsTrue (g.tells old) → LeavesNow (g.moments ran.disk) (g.image ran.disk))
-    → Refuses g dims old ran
-refuses g dims old f ran told is empty bad damaged moments stands left = record {
-  cause = subst (λ (s : Status). IsRefusal dims (g.image old) s) (sym is) (refusal dims (g.image old) (IsTrue (g.tells old)) told f empty bad damaged);
+    → Refuses g at_fault old ran
+refuses g at_fault old f ran told is empty bad damaged moments stands left = record {
+  cause = subst (λ (s : Status). IsRefusal at_fault (g.image old) s) (sym is) (refusal at_fault (g.image old) (IsTrue (g.tells old)) told f empty bad damaged);
   moments = moments;
   stands = λ other. stands (λ e. other (is ∙ ap status_of_fault e)) told;
   left = λ other x now. inr (left (λ e. other (is ∙ ap status_of_fault e)) told x now);
@@ -145,9 +144,9 @@ module _ {X : Type 0} (i : IndexGhosts X) where
   pub from_later : (params : Params) (first sure : History) (x : Image) → GoesOnFrom first sure → HoldsFrom i params sure x → HoldsFrom i params first x
   from_later params first sure x later b = record { kept = b.kept; holds = b.holds; begins = goes_on_twice first sure b.kept later b.begins }
 
-  -- where the image alone may be left, each image that may be left holds what it holds
-  pub settled_holds : (params : Params) (h : History) (moments : List Moment) (image : Image) → LeavesNow moments image → Holds i image params h → LeavesEach (λ x. Holds i x params h) moments
-  settled_holds params h moments image only holds = λ x left. subst (λ (y : Image). Holds i y params h) (sym (only x left)) holds
+-- where the image alone may be left, each image that may be left has what it has
+pub settled_has : (P : Image → Type 0) (moments : List Moment) (image : Image) → LeavesNow moments image → P image → LeavesEach P moments
+settled_has P moments image only has = λ x left. subst P (sym (only x left)) has
 
 -- What may be left now may have been left at any moment since the clock's own time, and the other way round.
 now_is_since : (moments : List Moment) (t : ℕ) (x : Image) → MayBeLeftNow moments x → MayBeLeftSince moments t x

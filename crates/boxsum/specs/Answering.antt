@@ -1,19 +1,16 @@
 -- What is written where each line of an input is answered and none changes anything.
 use Rattle.std.specs.Prelude.{◌≡◌, ◌≢◌, ◌⊎◌, ℕ, ◌+◌, ◌≤◌, ◌++◌, Bool, IsTrue, List, [], length}
-use Rattle.bw_types.specs.History.{History}
-use Rattle.bw_types.specs.declared.params.Params.{Params}
 use Rattle.byte_ports.specs.Written.{WritesPart}
 use Rattle.line_reader.specs.Lines.{lines}
 use Rattle.row_machine.specs.Answering.{reads_by, replies_by}
 use Rattle.row_machine.specs.Serving.{TakesLines, TakesWhole}
-use Rattle.grid_report.specs.GridReplies.{grid_replies}
 use Rattle.boxsum.specs.Runs.{IsInputStatus}
 use Rattle.boxsum.specs.declared.status.Status.{Status}
 use Rattle.boxsum.specs.declared.status.Status.TheVariants.{Fine, WriteFault, DiskFault}
 
--- what is written for a whole input of lines that ask for grids
-abbrev pub grids_text : Params → History → List ℕ → List ℕ
-grids_text params h bytes = replies_by (grid_replies params h) 1 (lines bytes)
+-- what is written for a whole input, by the replies to its lines
+abbrev pub text_by : (ℕ → List ℕ → List ℕ) → List ℕ → List ℕ
+text_by reply bytes = replies_by reply 1 (lines bytes)
 
 -- Which lines of the input were answered when a run ends so: some were answered whole, at most one was cut off by the end, all of them lines
 -- that were taken from the source, and none of the rest was begun. Where the run is fine or the input ends it, none was cut off: these are

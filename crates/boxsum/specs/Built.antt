@@ -1,25 +1,26 @@
 -- Which commands this program carries out.
-use Rattle.std.specs.Prelude.{ℕ, Bool, true, false, List, Option}
+use Rattle.std.specs.Prelude.{ℕ, Bool, true, false, List, Option, Some, None}
 use Rattle.csv_rows.specs.Input.{given, provided}
 use Rattle.command_words.specs.Command.{command_of}
 use Rattle.command_words.specs.declared.command.Command.{Command}
-use Rattle.command_words.specs.declared.command.Command.TheVariants.{Create, Run, Scratch, Sample, Report, Export, Compact}
+use Rattle.command_words.specs.declared.command.Command.TheVariants.{Check, Spans, SpanRun, Compact}
 
 -- the command is built already
 abbrev pub is_built : Command → Bool
-is_built (Create params) = true
-is_built Run = true
-is_built (Scratch params) = true
-is_built (Sample start count) = true
-is_built Report = true
-is_built Export = true
-is_built (Compact version) = true
-is_built _ = false
+is_built Check = false
+is_built _ = true
 
 -- the command works on one disk
 abbrev pub is_for_one_disk : Command → Bool
 is_for_one_disk (Compact version) = false
+is_for_one_disk Spans = false
+is_for_one_disk SpanRun = false
 is_for_one_disk _ = true
+
+-- a command is asked for that works on one disk, or none
+abbrev pub asks_one_disk : Option Command → Bool
+asks_one_disk None = true
+asks_one_disk (Some command) = is_for_one_disk command
 
 -- the command that the words ask for, where it is built already
 abbrev pub built_command : List (List ℕ) → Option Command

@@ -1,12 +1,11 @@
 -- How a compaction ends, by what became of the second disk.
-use Rattle.std.specs.Prelude.{◌≡◌, ◌⊎◌, ℕ, IsTrue, List, ◌++◌, codes}
+use Rattle.std.specs.Prelude.{◌≡◌, ℕ, List, ◌++◌, codes}
 use Rattle.std.specs.Fmt.{decimal}
-use Rattle.counts.specs.Count.{Rose}
 use Rattle.byte_ports.specs.declared.Sink.{Ghosts as SinkGhosts}
 use Rattle.compact_store.specs.declared.compacting.Compacted.{Compacted}
 use Rattle.compact_store.specs.declared.compacting.Compacted.TheVariants as compacted
 use Rattle.page_disk.specs.declared.disk.Area.TheVariants.{Pages}
-use Rattle.byte_ports.specs.Written.{WritesPart}
+use Rattle.boxsum.specs.Printing.{PutsLine}
 use Rattle.boxsum.specs.declared.status.Status.{Status}
 use Rattle.boxsum.specs.declared.status.Status.TheVariants as status
 
@@ -16,12 +15,8 @@ compacted_line last rows = codes "compacted," ++ decimal last ++ codes "," ++ de
 
 module _ {K : Type 0} (k : SinkGhosts K) (last : ℕ) (before after : K) where
   -- The line was put, or a part of it, and the status is by that.
-  pub record PutsCompacted (rows : ℕ) (ended : Status) : Type 0 where
-    pub may_end : (ended ≡ status.Fine) ⊎ ((ended ≡ status.WriteFault) ⊎ (ended ≡ status.NoMemory))
-    pub fine : ended ≡ status.Fine → IsTrue (k.tells before) → IsTrue (k.tells after) × (k.written after ≡ k.written before ++ compacted_line last rows)
-    pub part : IsTrue (k.tells before) → IsTrue (k.tells after) → WritesPart (k.written before) (k.written after) (compacted_line last rows)
-    pub silent : ended ≡ status.NoMemory → after ≡ before
-    pub write_fault : ended ≡ status.WriteFault → Rose (k.faults before) (k.faults after)
+  abbrev pub PutsCompacted : ℕ → Status → Type 0
+  PutsCompacted rows ended = PutsLine k before after (compacted_line last rows) ended
 
   module _ {E : Type 0} where
     -- The status is by what became of the second disk. Where that is done the line is put, and else nothing is.

@@ -1,4 +1,4 @@
--- With which statuses each command may end.
+-- With which statuses each command may end. Those of `spanrun` are those of `report`.
 use Rattle.std.specs.Prelude.{Bool, true, false, Option, Some, None}
 use Rattle.command_words.specs.declared.command.Command.{Command}
 use Rattle.command_words.specs.declared.command.Command.TheVariants.{Create, Run, Scratch, Sample, Report, Export, Compact}
@@ -61,6 +61,13 @@ ends_compact Usage = false
 ends_compact ReadFault = false
 ends_compact (InputLimit taken) = false
 ends_compact _ = true
+
+abbrev pub ends_spans : Status → Bool
+ends_spans Usage = false
+ends_spans ReadFault = false
+ends_spans (InputLimit taken) = false
+ends_spans (NoVersion last) = false
+ends_spans _ = true
 
 abbrev pub ends_nothing : Status → Bool
 ends_nothing Usage = true

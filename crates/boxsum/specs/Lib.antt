@@ -4,5 +4,7 @@ pub mod Ends
 pub mod Held
 pub mod Runs
 pub mod Statuses
+pub mod Printing
 pub mod Compacting
 pub mod Ran
+pub mod Spanning

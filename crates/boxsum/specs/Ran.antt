@@ -1,5 +1,5 @@
 -- What a run of the program leaves behind, command by command.
-use Rattle.std.specs.Prelude.{◌≡◌, ◌≢◌, ◌⊎◌, ℕ, ◌+◌, ◌<◌, ◌≤◌, ◌^◌, ◌++◌, List, [], Option, Some, None, true, false, IsTrue, length}
+use Rattle.std.specs.Prelude.{◌≡◌, ◌≢◌, ◌⊎◌, ℕ, ◌+◌, ◌<◌, ◌≤◌, ◌^◌, ◌++◌, List, [], Option, Some, None, Bool, true, false, IsTrue, length}
 use Rattle.counts.specs.Count.{Rose}
 use Rattle.bw_types.specs.Answers.{answer}
 use Rattle.bw_types.specs.History.{History, changes, last_version}
@@ -26,8 +26,9 @@ use Rattle.redo_journal.specs.Gates.{is_empty}
 use Rattle.redo_journal.specs.Settled.{SettlesTo}
 use Rattle.dom_index.specs.declared.index.DomIndex.{Ghosts as IndexGhosts}
 use Rattle.page_warehouse.specs.Costs.{query_cost}
-use Rattle.page_warehouse.specs.Holds.{Holds}
+use Rattle.page_warehouse.specs.Holds.{Holds, HoldsTrees}
 use Rattle.page_warehouse.specs.Needs.{batch_need, pages_charge}
+use Rattle.page_warehouse.specs.Opened.{IsDamagedToOpen}
 use Rattle.page_warehouse.specs.Shown.{HoldsHistory}
 use Rattle.compact_store.specs.Compacted.{IsEmptyOrHoldsPart, LacksNext, batches_need}
 use Rattle.compact_store.specs.Kept.{kept}
@@ -39,10 +40,12 @@ use Rattle.sample_rows.specs.Generator.{rows}
 use Rattle.sample_rows.specs.Summary.{WritesSummary, sample_history, sample_params, summary}
 use Rattle.grid_report.specs.GridReplies.{grid_replies}
 use Rattle.grid_report.specs.GridCosts.{grid_line_cost}
-use Rattle.boxsum.specs.Answering.{AnswersEach, grids_text}
+use Rattle.span_planes.specs.SpanHolds.{SpanHolds}
+use Rattle.span_planes.specs.SpanRows.{span_line_cost, span_reply}
+use Rattle.boxsum.specs.Answering.{AnswersEach, text_by}
 use Rattle.boxsum.specs.Compacting.{compacted_line}
 use Rattle.boxsum.specs.Ends as ends
-use Rattle.boxsum.specs.Held.{BeginsWith, CommitsNothing, HoldsBetween, HoldsFrom, HoldsSurely, IsEmptyOrHolds, IsEmptyOrPart, IsNoWarehouse, LeavesEach, MakesAndLoads, Refuses}
+use Rattle.boxsum.specs.Held.{BeginsWith, CommitsNothing, Content, HoldsBetween, HoldsFrom, HoldsSurely, IsEmptyOrHolds, IsEmptyOrPart, IsNoWarehouse, LeavesEach, MakesAndLoads, Refuses, all_spans, warehouses}
 use Rattle.boxsum.specs.Runs.{AreReplied, IsInputStatus, LacksPagesAmid, LacksPagesNext, ReadsForLines, ServesLines, WritesWholeLines, history_by}
 use Rattle.boxsum.specs.declared.status.Ran.{Ran}
 use Rattle.boxsum.specs.declared.status.RanTwo.{RanTwo}
@@ -52,6 +55,10 @@ use Rattle.boxsum.specs.declared.status.Status.TheVariants as status
 -- what became of the first of two disks
 abbrev pub first_of : {D E : Type 0} → RanTwo D E → Ran D
 first_of ran = record { status = ran.status; disk = ran.disk }
+
+-- and what of the second
+abbrev pub second_of : {D E : Type 0} → RanTwo D E → Ran E
+second_of ran = record { status = ran.status; disk = ran.second }
 
 -- Neither the source nor the sink was called.
 abbrev pub Untouched : {S K : Type 0} → S → S → K → K → Type 0
@@ -148,8 +155,8 @@ module _ {D K X : Type 0} (d : DiskGhosts D) (k : SinkGhosts K) (i : IndexGhosts
         → ran.status ≢ status.DiskFault → ((allotted : ℕ) → ran.status ≢ status.PageLimit allotted)
         → (ran.status ≡ status.Fine) ⊎ (ran.status ≡ status.NoMemory)
 
--- A command that reads the warehouse on a disk.
-module _ {D X : Type 0} (d : DiskGhosts D) (i : IndexGhosts X) (disk : D) (ran : Ran D) where
+-- A command that reads a disk.
+module _ {D : Type 0} (d : DiskGhosts D) (disk : D) (ran : Ran D) where
   -- The disk did not end the command by a failure of its own.
   abbrev pub DidNotFail : Type 0
   DidNotFail = ran.status ≡ status.DiskFault → Rose (d.faults disk) (d.faults ran.disk) → ⊥
@@ -161,17 +168,23 @@ module _ {D X : Type 0} (d : DiskGhosts D) (i : IndexGhosts X) (disk : D) (ran :
     pub moments : (pages : PageList) → SettlesTo (d.image disk) pages → LeavesOnly (λ x. SettlesTo x pages) (d.moments disk) (d.moments ran.disk)
     pub untouched : HasNoReplay (d.image disk) → StaysAsRead d disk ran.disk
 
-  -- Without a warehouse there is nothing to read, nor where what is there is none. What is there stays.
-  pub record ReadsWarehouse : Type 0 where
+  -- Where the disk has nothing of the kind there is nothing to read. What is there stays.
+  pub record ReadsContent (content : Content) : Type 0 where
     pub empty : IsTrue (d.tells disk) → is_empty (d.image disk) ≡ true → StaysAsRead d disk ran.disk
         × ((ran.status ≡ status.NoWarehouse) ⊎ ((ran.status ≡ status.DiskFault) ⊎ (ran.status ≡ status.NoMemory)))
     pub empty_only : ran.status ≡ status.NoWarehouse → IsTrue (d.tells disk) → is_empty (d.image disk) ≡ true
-    pub refused : IsTrue (d.tells disk) → IsNoWarehouse i.DIMS (d.image disk) → Refuses d i.DIMS disk ran
+    pub refused : IsTrue (d.tells disk) → content.none (d.image disk) → Refuses d content.fault disk ran
     pub bad_journal : (page : ℕ) → ran.status ≡ status.Damaged Journal page → IsTrue (d.tells disk) → IsBadAt (d.image disk) page
     pub only_read : IsTrue (d.tells disk) → IsOnlyRead
-    -- The history is there at each moment.
-    pub holds : (params : Params) (h : History) → HoldsHistory d i true disk params h → DidNotFail → HoldsHistory d i true ran.disk params h
-    pub moments : (params : Params) (h : History) → HoldsHistory d i true disk params h → LeavesOnly (λ x. Holds i x params h) (d.moments disk) (d.moments ran.disk)
+    -- What it holds is there at each moment.
+    pub holds : (params : Params) (h : History) → IsTrue (d.tells disk) × content.holds params h (d.image disk) → DidNotFail
+        → IsTrue (d.tells ran.disk) × content.holds params h (d.image ran.disk)
+    pub moments : (params : Params) (h : History) → IsTrue (d.tells disk) × content.holds params h (d.image disk)
+        → LeavesOnly (content.holds params h) (d.moments disk) (d.moments ran.disk)
+
+-- The warehouse on a disk was read.
+abbrev pub ReadsWarehouse : {D X : Type 0} → DiskGhosts D → IndexGhosts X → D → Ran D → Type 0
+ReadsWarehouse d i disk ran = ReadsContent d disk ran (warehouses i)
 
 -- An export.
 module _ {D K X : Type 0} (d : DiskGhosts D) (k : SinkGhosts K) (i : IndexGhosts X) (disk : D) (sink sink' : K) (ran : Ran D) where
@@ -239,8 +252,8 @@ module _ {D E K X : Type 0} (d : DiskGhosts D) (e : DiskGhosts E) (k : SinkGhost
         → is_empty (e.image second) ≡ true → MakesKept params h version
 
   -- What its statuses come from, and what the disks tell.
-  pub record HasCauses : Type 0 where
-    pub may_end : IsTrue (ends.ends_compact ran.status)
+  pub record HasCauses (ends_so : Status → Bool) : Type 0 where
+    pub may_end : IsTrue (ends_so ran.status)
     pub write_fault : ran.status ≡ status.WriteFault → Rose (k.faults sink) (k.faults sink')
     pub disk_fault : ran.status ≡ status.DiskFault → Rose (d.faults disk) (d.faults ran.disk) ⊎ Rose (e.faults second) (e.faults ran.second)
     pub tells : d.tells ran.disk ≡ d.tells disk
@@ -254,7 +267,7 @@ module _ {D E K X : Type 0} (d : DiskGhosts D) (e : DiskGhosts E) (k : SinkGhost
     pub silent : ran.status ≢ status.Fine → ran.status ≢ status.WriteFault → sink' ≡ sink
     pub reads : ReadsWarehouse d i disk (first_of ran)
     pub leaves : LeavesSecond version
-    pub causes : HasCauses
+    pub causes : HasCauses ends.ends_compact
 
 -- The commands.
 module _ {D S K X : Type 0} (d : DiskGhosts D) (s : SourceGhosts S) (k : SinkGhosts K) (i : IndexGhosts X) (disk : D) (source source' : S) (sink sink' : K) (ran : Ran D) where
@@ -357,7 +370,7 @@ module _ {D S K X : Type 0} (d : DiskGhosts D) (s : SourceGhosts S) (k : SinkGho
     pub empty : IsTrue (d.tells disk) → is_empty (d.image disk) ≡ true → Untouched source source' sink sink' × StaysAsRead d disk ran.disk
         × ((ran.status ≡ status.NoWarehouse) ⊎ ((ran.status ≡ status.DiskFault) ⊎ (ran.status ≡ status.NoMemory)))
     pub empty_only : ran.status ≡ status.NoWarehouse → IsTrue (d.tells disk) → is_empty (d.image disk) ≡ true
-    pub refused : IsTrue (d.tells disk) → IsNoWarehouse i.DIMS (d.image disk) → Untouched source source' sink sink' × Refuses d i.DIMS disk ran
+    pub refused : IsTrue (d.tells disk) → IsNoWarehouse i.DIMS (d.image disk) → Untouched source source' sink sink' × Refuses d (IsDamagedToOpen i.DIMS) disk ran
     -- What is printed.
     pub answers : (params : Params) (h : History) → BeginsWith d i disk (s.tells source) (s.left source) params h → Answers s k source source' sink sink' ran.status params h
     pub at_end : ReadsToTheEnd s k source source' sink sink' ran.status
@@ -372,24 +385,37 @@ module _ {D S K X : Type 0} (d : DiskGhosts D) (s : SourceGhosts S) (k : SinkGho
     pub at_limit : (params : Params) (meta : Meta) (pages : PageMap) (allotted : ℕ) → IsTrue (d.tells disk) → HoldsSpace (d.image disk) params meta pages ⊥
         → ran.status ≡ status.PageLimit allotted → allotted ≡ params.pages
 
-  -- Grids were answered from trees that stand for this history, whatever the table holds.
-  pub record AnswersGrids (params : Params) (h : History) : Type 0 where
-    pub writes : WritesText s k source source' sink sink' ran.status (grids_text params h)
+  -- Each line of the source was answered by itself, and none changed anything.
+  pub record AnswersEachLine (reply : ℕ → List ℕ → List ℕ) (cost : List ℕ → ℕ) : Type 0 where
+    pub writes : WritesText s k source source' sink sink' ran.status (text_by reply)
     -- Which lines were answered, and what was read for them.
-    pub answered : IsTrue (s.tells source) → AnswersEach (grid_replies params h) (grid_line_cost i.cost params h) (s.left source) (s.left source') (s.tells source') ran.status
+    pub answered : IsTrue (s.tells source) → AnswersEach reply cost (s.left source) (s.left source') (s.tells source') ran.status
         (k.tells sink) (k.tells sink') (k.written sink) (k.written sink') (d.reads disk + 4 + replay_reads (d.image disk)) (d.reads ran.disk)
 
-  -- `report`: the warehouse on the disk was opened, and the grids that the lines of the source ask for were answered.
-  pub record ReportRan : Type 0 where
-    -- Without a warehouse nothing is answered, nor where what is there is none.
-    pub nothing : IsTrue (d.tells disk) → (is_empty (d.image disk) ≡ true) ⊎ IsNoWarehouse i.DIMS (d.image disk) → Untouched source source' sink sink'
-    pub warehouse : ReadsWarehouse d i disk ran
-    pub answers : (params : Params) (h : History) → HoldsHistory d i false disk params h → AnswersGrids params h
+  -- What is on the disk was opened, and the lines of the source were answered from it.
+  pub record AnswersFrom (content : Content) (stands : Params → History → Image → Type 0) (reply : Params → History → ℕ → List ℕ → List ℕ) (cost : Params → History → List ℕ → ℕ) : Type 0 where
+    -- Where the disk has nothing of the kind nothing is answered.
+    pub nothing : IsTrue (d.tells disk) → (is_empty (d.image disk) ≡ true) ⊎ content.none (d.image disk) → Untouched source source' sink sink'
+    pub reads : ReadsContent d disk ran content
+    pub answers : (params : Params) (h : History) → IsTrue (d.tells disk) → stands params h (d.image disk) → AnswersEachLine (reply params h) (cost params h)
     pub at_end : ReadsToTheEnd s k source source' sink sink' ran.status
-    -- A crash now leaves the history, or, where there was no memory to open the warehouse, what it might have left before.
-    pub surely : (params : Params) (h : History) → HoldsHistory d i true disk params h → ran.status ≢ status.DiskFault
+    -- A crash now leaves what the disk holds, or, where there was no memory to open it, what it might have left before.
+    pub surely : (params : Params) (h : History) → IsTrue (d.tells disk) → content.holds params h (d.image disk) → ran.status ≢ status.DiskFault
         → (x : Image) → MayBeLeftNow (d.moments ran.disk) x
-        → ((ran.status ≡ status.NoMemory) × Untouched source source' sink sink' × MayBeLeftNow (d.moments disk) x) ⊎ Holds i x params h
+        → ((ran.status ≡ status.NoMemory) × Untouched source source' sink sink' × MayBeLeftNow (d.moments disk) x) ⊎ content.holds params h x
+
+  -- `report`: the warehouse on the disk was opened, and the grids that the lines of the source ask for were answered, from trees that stand for
+  -- a history, whatever the table holds.
+  abbrev pub ReportRan : Type 0
+  ReportRan = AnswersFrom (warehouses i) (λ params h x. HoldsTrees i x params h) grid_replies (λ params h. grid_line_cost i.cost params h)
+
+  -- `spanrun`: the spans on the disk were opened, and those that the lines of the source ask for were answered.
+  pub record SpanRunRan : Type 0 where
+    pub answers : AnswersFrom (all_spans i) (λ params h x. SpanHolds i x params h) span_reply (λ params h. span_line_cost i.cost params h)
+    pub may_end : IsTrue (ends.ends_report ran.status)
+    pub causes : HasCause
+    pub tells : d.tells ran.disk ≡ d.tells disk
+    pub faults : d.faults disk ≤ d.faults ran.disk
 
   -- This command was carried out.
   pub record Carried (asked : Option Command) : Type 0 where

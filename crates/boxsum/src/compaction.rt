@@ -4,6 +4,7 @@ ghost use Rattle.compact_store.specs.Compacted.{second_out};
 ghost use Rattle.boxsum.specs.Compacting.{EndsAs, PutsCompacted, compacted_line as line_of};
 ghost use Rattle.boxsum.specs.Ran.{Compacts};
 
+use crate::printing::put_line;
 use crate::status::{RanTwo, Status};
 use byte_ports::Sink;
 use compact_store::{Compacted, compact, kept_laws};
@@ -72,12 +73,9 @@ fn ended<E, K: Sink>(alloc: Global, last: u32, compacted: Compacted<E>, sink: &m
 fn put_compacted<K: Sink>(alloc: Global, last: u32, rows: u32, sink: &mut K) -> Status
     ensures puts { PutsCompacted K.Sink last sink.old sink.new rows result }
 {
-    let Ok(line) = compacted_line(alloc, last, rows) else {
-        return Status::NoMemory;
-    };
-    match sink.put(line.as_bytes()) {
-        Ok(()) => Status::Fine,
-        Err(_) => Status::WriteFault,
+    match compacted_line(alloc, last, rows) {
+        Ok(line) => put_line(line.as_bytes(), sink),
+        Err(_) => Status::NoMemory,
     }
 }
 

@@ -11,6 +11,7 @@
 mod compaction;
 #[cfg(test)]
 mod compaction_tests;
+mod derivation;
 #[cfg(test)]
 mod disk_tests;
 #[cfg(test)]
@@ -23,6 +24,7 @@ mod great_tests;
 #[cfg(test)]
 mod hostile_tests;
 mod index;
+mod printing;
 mod report;
 #[cfg(test)]
 mod report_tests;
@@ -30,6 +32,9 @@ mod running;
 mod sample;
 #[cfg(test)]
 mod sample_tests;
+mod span_run;
+#[cfg(test)]
+mod spans_tests;
 mod status;
 #[cfg(test)]
 mod tests;

@@ -6,14 +6,17 @@ ghost use Rattle.bw_types.specs.declared.params.Params.{Params};
 ghost use Rattle.bw_types.specs.Fits.{IsInRange};
 ghost use Rattle.page_warehouse.specs.Created.{IsNew};
 ghost use Rattle.boxsum.specs.Ends.{ends_run, ends_scratch};
-ghost use Rattle.boxsum.specs.Built.{built_command, command_on_one};
-ghost use Rattle.boxsum.specs.Ran.{AnswersFromNothing, Carried, Compacts, HasCause, HasPortCause, MakesEmpty, RunRan, first_of};
+ghost use Rattle.boxsum.specs.Built.{asks_one_disk, built_command, command_on_one};
+ghost use Rattle.boxsum.specs.Ran.{AnswersFromNothing, Carried, Compacts, HasCause, HasPortCause, MakesEmpty, RunRan, SpanRunRan, first_of, second_of};
+ghost use Rattle.boxsum.specs.Spanning.{Derives};
 
 use crate::compaction::compact_on;
+use crate::derivation::spans_on;
 use crate::export::export_on;
 use crate::index::Index;
 use crate::report::report_on;
 use crate::sample::sample_on;
+use crate::span_run::span_run_on;
 use crate::status::{Ran, RanTwo, Status};
 use bw_types::Params;
 use byte_ports::{Sink, Source};
@@ -33,8 +36,8 @@ use warehouse::ListHouse;
 /// source; `scratch` answers them over a history in memory, which begins empty. `sample` makes a warehouse, loads rows that are
 /// drawn, and writes a summary. `report` answers the grids that the lines of the source ask for. `export` prints the rows that rebuild the
 /// history of the warehouse on the disk. What `run`, `scratch` and `report` write is the text that the definitions give for all the bytes
-/// that the source has left, cut in whatever pieces; where the run ends early it is a part of that text, from its beginning. The disk goes in by value, and comes back at every end. `compact`
-/// needs two disks: here it is no command.
+/// that the source has left, cut in whatever pieces; where the run ends early it is a part of that text, from its beginning. The disk goes in by value, and comes back at every end.
+/// `compact`, `spans` and `spanrun` need a second disk: here they are no commands.
 ///
 /// What the words ask for, what each command leaves, and with which statuses it may end, is the record `Carried` of specs/Ran.antt.
 pub fn run<D: Disk + Drop, S: Source, K: Sink>(
@@ -73,8 +76,10 @@ pub fn run<D: Disk + Drop, S: Source, K: Sink>(
 /// Carries out the command that the words ask for where there are two disks.
 ///
 /// `compact` reads the warehouse on the first disk, and writes its history from a version on to the second, which has to be empty; its
-/// record is `Compacts` of specs/Ran.antt. The other commands are those of [`run`]. They work on the first disk and do not call the
-/// second.
+/// record is `Compacts` of specs/Ran.antt. `spans` reads the warehouse on the first disk, and writes the spans of all its versions to the
+/// second; its record is `Derives` of specs/Spanning.antt. `spanrun` answers the lines of the source from the spans on the second disk, and
+/// does not call the first; its record is `SpanRunRan` of specs/Ran.antt. The other commands are those of [`run`]. They work on the first
+/// disk and do not call the second.
 pub fn run_two<D: Disk + Drop, E: Disk + Drop, S: Source, K: Sink>(
     alloc: Global,
     words: &[String],
@@ -83,16 +88,32 @@ pub fn run_two<D: Disk + Drop, E: Disk + Drop, S: Source, K: Sink>(
     source: &mut S,
     sink: &mut K,
 ) -> RanTwo<D, E>
-    ensures carried { ((version : ℕ) → built_command (map string_bytes words.now) ≢ Some (CommandName.Compact version))
+    ensures carried { IsTrue (asks_one_disk (built_command (map string_bytes words.now)))
         → Carried D.Disk S.Source K.Sink ⟦<Index as DomIndex>⟧ disk source.old source.new sink.old sink.new (first_of result) (built_command (map string_bytes words.now))
         × (result.second ≡ second) }
     ensures compacts { (version : ℕ) → built_command (map string_bytes words.now) ≡ Some (CommandName.Compact version)
         → (source.new ≡ source.old) × Compacts D.Disk E.Disk K.Sink ⟦<Index as DomIndex>⟧ disk second sink.old sink.new result version }
+    ensures derives { built_command (map string_bytes words.now) ≡ Some CommandName.Spans
+        → (source.new ≡ source.old) × Derives D.Disk E.Disk K.Sink ⟦<Index as DomIndex>⟧ disk second sink.old sink.new result }
+    ensures span_run { built_command (map string_bytes words.now) ≡ Some CommandName.SpanRun
+        → (result.disk ≡ disk) × SpanRunRan E.Disk S.Source K.Sink ⟦<Index as DomIndex>⟧ second source.old source.new sink.old sink.new (second_of result) }
 {
     machine_laws();
     match read_words(alloc, words) {
         Ok(Command::Compact { version }) => {
             compact_on::<Index, D, E, K>(alloc, disk, second, version, sink)
+        }
+        Ok(Command::Spans) => spans_on::<Index, D, E, K>(alloc, disk, second, sink),
+        Ok(Command::SpanRun) => {
+            let Ran {
+                status,
+                disk: second,
+            } = span_run_on::<Index, E, S, K>(alloc, second, source, sink);
+            RanTwo {
+                status,
+                disk,
+                second,
+            }
         }
         Err(WordsFault::NoMemory) => RanTwo {
             status: Status::NoMemory,

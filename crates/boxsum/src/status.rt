@@ -19,7 +19,7 @@ pub enum Status {
     Usage,
     /// There is no warehouse on the disk. Nothing was written to it.
     NoWarehouse,
-    /// There is a warehouse on the disk already. Nothing was written to it.
+    /// There is a warehouse on the disk already, or on the second disk something that may not be written over. It stays.
     AlreadyThere,
     /// The input failed.
     ReadFault,
@@ -150,7 +150,7 @@ impl fmt::Display for Status {
         match self {
             Status::Fine => f.write_str(""),
             Status::Usage => f.write_str(
-                "usage: boxsum create D [--degree G] [--events N] [--pages N] [--signed S], run, scratch D [--degree G] [--events N] [--signed S], sample START COUNT, report, export, compact V",
+                "usage: boxsum create D [--degree G] [--events N] [--pages N] [--signed S], run, scratch D [--degree G] [--events N] [--signed S], sample START COUNT, spans, spanrun, report, export, compact V",
             ),
             Status::NoWarehouse => f.write_str("no warehouse here"),
             Status::AlreadyThere => f.write_str("there is a warehouse already"),

@@ -500,7 +500,7 @@ fn many_objects_at_one_point(rt: HostRuntime) -> Result<(), Fail> {
 #[test]
 fn texts_of_statuses(rt: HostRuntime) -> Result<(), Fail> {
     let usage =
-        "usage: boxsum create D [--degree G] [--events N] [--pages N] [--signed S], run, scratch D [--degree G] [--events N] [--signed S], sample START COUNT, report, export, compact V";
+        "usage: boxsum create D [--degree G] [--events N] [--pages N] [--signed S], run, scratch D [--degree G] [--events N] [--signed S], sample START COUNT, spans, spanrun, report, export, compact V";
     let texts = [
         (Status::Usage, 2, usage),
         (Status::NoWarehouse, 3, "no warehouse here"),

@@ -10,17 +10,22 @@ ghost use Rattle.boxsum.specs.Statuses.{exit_code};
 
 mod words;
 
-use crate::words::words_behind;
+use crate::words::{is_for_spans, words_behind};
 use boxsum::{Status, run_two};
 use byte_ports::{StdSink, StdSource};
 use page_disk::{Failure, FileDisk};
 use std::env;
 use std::process::ExitCode;
 
-/// The files of the second disk, to which `compact` writes.
-const SECOND_PAGES: &str = "boxsum.compact.pages";
+/// The files to which `compact` writes.
+const COMPACT_PAGES: &str = "boxsum.compact.pages";
 
-const SECOND_JOURNAL: &str = "boxsum.compact.journal";
+const COMPACT_JOURNAL: &str = "boxsum.compact.journal";
+
+/// The files of the spans.
+const SPANS_PAGES: &str = "boxsum.spans.pages";
+
+const SPANS_JOURNAL: &str = "boxsum.spans.journal";
 
 fn main(rt: HostRuntime) -> ExitCode {
     let (status, failure) = run_on(&rt);
@@ -58,7 +63,11 @@ fn run_on(rt: &HostRuntime) -> (Status, Option<Failure>) {
     };
     // The files are opened, and made where absent, at the first call on a disk.
     let disk = FileDisk::new(rt.alloc(), files);
-    let second = FileDisk::named(rt.alloc(), more_files, SECOND_PAGES, SECOND_JOURNAL);
+    let second = if is_for_spans(words.as_slice()) {
+        FileDisk::named(rt.alloc(), more_files, SPANS_PAGES, SPANS_JOURNAL)
+    } else {
+        FileDisk::named(rt.alloc(), more_files, COMPACT_PAGES, COMPACT_JOURNAL)
+    };
     let mut source = StdSource::new(rt.stdin());
     let mut sink = StdSink::new(rt.stdout());
     let ran = run_two(

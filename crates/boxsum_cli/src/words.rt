@@ -1,6 +1,7 @@
 //! The words of the command line.
-ghost use Rattle.std.specs.Prelude.{◌≡◌, IfSome, drop};
+ghost use Rattle.std.specs.Prelude.{◌≡◌, IfSome, drop, map, string_bytes};
 ghost use Rattle.std.specs.Vec.Iter.{into_iter_items};
+ghost use Rattle.boxsum_cli.specs.Words.{begins_with_spans};
 
 use std::alloc::Global;
 use std::env::Args;
@@ -18,4 +19,14 @@ pub(crate) fn words_behind(alloc: Global, args: Args) -> Option<Vec<String>>
         }
     }
     Some(words)
+}
+
+/// The first word is that of a command on the files of the spans.
+pub(crate) fn is_for_spans(words: &[String]) -> bool
+    ensures { result ≡ begins_with_spans (map string_bytes words.now) }
+{
+    match words.first() {
+        Some(word) => word.as_str() == "spans" || word.as_str() == "spanrun",
+        None => false,
+    }
 }

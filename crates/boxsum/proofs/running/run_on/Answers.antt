@@ -11,6 +11,7 @@ use Rattle.redo_journal.specs.Settled.{SettlesTo}
 use Rattle.page_space.specs.declared.refusal.OpenFault.TheVariants as fault
 use Rattle.page_warehouse.specs.Holds.{Holds}
 use Rattle.page_warehouse.specs.Needs.{batch_need, charge_of, pages_charge}
+use Rattle.page_warehouse.specs.Opened.{IsDamagedToOpen}
 use Rattle.page_warehouse.specs.Shown.{HoldsHistory, disk_in, meta_in, params_in}
 use Rattle.page_warehouse.specs.declared.state.Warehouse.{Warehouse}
 use Rattle.row_machine.specs.Serving.{IsFlushed}
@@ -22,7 +23,7 @@ use Rattle.boxsum.specs.Statuses.{status_of, status_of_fault}
 use Rattle.boxsum.specs.declared.status.Status.TheVariants as status
 use Rattle.boxsum.proofs.Endings.{ending_of, ends_between, fault_of, flushes, input_ending, input_flushes, never_falls, no_ending, no_fault, no_input, only_fine, port_cause, rises, run_ends}
 use Rattle.boxsum.proofs.Nothing.{nothing_served, text_unread}
-use Rattle.boxsum.proofs.Opened.{between_here, for_queries, from_here, goes_on_same, goes_on_twice, goes_with, lacks_next, left_only, need_within, nothing_replied, opened, refused_status, refuses, settled_holds, some_way, stretched, wider}
+use Rattle.boxsum.proofs.Opened.{between_here, for_queries, from_here, goes_on_same, goes_on_twice, goes_with, lacks_next, left_only, need_within, nothing_replied, opened, refused_status, refuses, settled_has, some_way, stretched, wider}
 use Rattle.boxsum.proofs.Reading.{may_within, no_version_next}
 use Rattle.boxsum.proofs.Scratch.{ends_at, lasts_at, whole_text}
 use Rattle.boxsum.proofs.running.run_on.Goals as goal
@@ -34,7 +35,7 @@ returns-in-Err-clause-ran g c =
       empty_only = search rules;
       refused = λ told none. (
         (refl, refl),
-        refuses g.D.Disk g.X.DomIndex.DIMS c.args.disk c.in-Err.refused.fault (record { status = c.from.result; disk = c.in-Err.refused.disk }) told c.from.ensures
+        refuses g.D.Disk (IsDamagedToOpen g.X.DomIndex.DIMS) c.args.disk c.in-Err.refused.fault (record { status = c.from.result; disk = c.in-Err.refused.disk }) told c.from.ensures
             c.in-Err.ensures.refused.empty c.in-Err.ensures.refused.bad_journal c.in-Err.ensures.refused.damaged (c.in-Err.ensures.stands_on told) c.in-Err.ensures.refused.stands c.in-Err.ensures.refused.settled,
       );
       answers = λ params h b.
@@ -185,7 +186,7 @@ returns-clause-ran g c =
             let e = ends_at _ true (g.K.Sink.tells c.args.sink.now) (g.K.Sink.tells c.serve-ran.new.sink) (g.S.Source.tells c.serve-ran.new.source) (g.S.Source.left c.args.source.now) (g.S.Source.left c.serve-ran.new.source)
             c.serve-ran.result (g.K.Sink.written c.args.sink.now) (g.K.Sink.written c.serve-ran.new.sink) h c.new-desk.result.params params c.new-desk.result.house c.in-Ok.house c.new-desk.result.sessions
             (c.new-desk.ensures.params ∙ o.0) c.new-desk.ensures.house c.new-desk.ensures.sessions (c.serve-ran.ensures.ends told true h) (c.machine_laws.ensures.may params (lines (g.S.Source.left c.args.source.now))) o.1 in
-            let before = settled_holds g.X.DomIndex params h (g.D.Disk.moments (disk_in c.in-Ok.house)) (g.D.Disk.image (disk_in c.in-Ok.house)) c.in-Ok.ensures.opened.settled o.1.1 in
+            let before = settled_has (λ (y : Image). Holds g.X.DomIndex y params h) (g.D.Disk.moments (disk_in c.in-Ok.house)) (g.D.Disk.image (disk_in c.in-Ok.house)) c.in-Ok.ensures.opened.settled o.1.1 in
             let ended = ending_of c.serve-ran.result.ending ending.Fine c.from-2.result status.Fine c.from-2.ensures fine refl in
             record {
               holds = (c.ends_laws.ensures.fine _ _ _ _ _ _ _ _ _ _ _ _ e ended).stands;
@@ -205,7 +206,7 @@ returns-clause-ran g c =
             let e = ends_at _ true (g.K.Sink.tells c.args.sink.now) (g.K.Sink.tells c.serve-ran.new.sink) (g.S.Source.tells c.serve-ran.new.source) (g.S.Source.left c.args.source.now) (g.S.Source.left c.serve-ran.new.source)
             c.serve-ran.result (g.K.Sink.written c.args.sink.now) (g.K.Sink.written c.serve-ran.new.sink) h c.new-desk.result.params params c.new-desk.result.house c.in-Ok.house c.new-desk.result.sessions
             (c.new-desk.ensures.params ∙ o.0) c.new-desk.ensures.house c.new-desk.ensures.sessions (c.serve-ran.ensures.ends told true h) (c.machine_laws.ensures.may params (lines (g.S.Source.left c.args.source.now))) o.1 in
-            let before = settled_holds g.X.DomIndex params h (g.D.Disk.moments (disk_in c.in-Ok.house)) (g.D.Disk.image (disk_in c.in-Ok.house)) c.in-Ok.ensures.opened.settled o.1.1 in
+            let before = settled_has (λ (y : Image). Holds g.X.DomIndex y params h) (g.D.Disk.moments (disk_in c.in-Ok.house)) (g.D.Disk.image (disk_in c.in-Ok.house)) c.in-Ok.ensures.opened.settled o.1.1 in
             record {
               lines = record {
                 served = e.served;
@@ -277,7 +278,7 @@ returns-clause-ran g c =
             c.serve-ran.result (g.K.Sink.written c.args.sink.now) (g.K.Sink.written c.serve-ran.new.sink) h c.new-desk.result.params params c.new-desk.result.house c.in-Ok.house c.new-desk.result.sessions
             (c.new-desk.ensures.params ∙ o.0) c.new-desk.ensures.house c.new-desk.ensures.sessions (c.serve-ran.ensures.ends told true h) (c.machine_laws.ensures.may params (lines (g.S.Source.left c.args.source.now))) o.1 in
             let wa = c.ends_laws.ensures.within _ _ _ _ _ _ _ _ _ _ _ e in
-            let before = settled_holds g.X.DomIndex params h (g.D.Disk.moments (disk_in c.in-Ok.house)) (g.D.Disk.image (disk_in c.in-Ok.house)) c.in-Ok.ensures.opened.settled o.1.1 in
+            let before = settled_has (λ (y : Image). Holds g.X.DomIndex y params h) (g.D.Disk.moments (disk_in c.in-Ok.house)) (g.D.Disk.image (disk_in c.in-Ok.house)) c.in-Ok.ensures.opened.settled o.1.1 in
             let sure = c.ends_laws.ensures.acknowledged _ _ _ _ _ _ _ _ _ _ _ _ e tells still first r.later r.more r.cut r.wrote in
             λ x left.
             let k = wa.settled before x left in
