@@ -1,0 +1,12 @@
+pub mod Ascending
+pub mod Chaining
+pub mod Changing
+pub mod Deciding
+pub mod Jumping
+pub mod Lasting
+pub mod Lows
+pub mod Marking
+pub mod Nodes
+pub mod Numbering
+pub mod Valuing
+pub mod Walking
