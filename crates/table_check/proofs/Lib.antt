@@ -1,0 +1,10 @@
+pub mod Names
+pub mod Passing
+pub mod Below
+pub mod Whole
+pub mod Cutting
+pub mod Onward
+pub mod Batch
+pub mod Masses
+pub mod Back
+pub mod SameLives

@@ -1,0 +1,14 @@
+use Rattle.table_check.proofs.Whole.{reads_each}
+use Rattle.table_check.proofs.reading.read_table.Goals as goal
+
+pub returns-in_err-stands-clause-reads : goal.returns-in_err-stands-clause-reads
+returns-in_err-stands-clause-reads g c =
+    reads_each g.P.Pages c.args.form c.args.table.now c.new-seen.result.keys c.read_root-stands.new.seen.keys c.args.pages.now c.read_root-stands.new.pages c.new-seen.ensures.empty c.len.ensures.ordered c.read_root-stands.ensures.reads c.read_root-stands.ensures.sees
+
+pub returns-then-not-branch-clause-reads : goal.returns-then-not-branch-clause-reads
+returns-then-not-branch-clause-reads g c =
+    reads_each g.P.Pages c.args.form c.args.table.now c.new-seen.result.keys c.read_root-stands.new.seen.keys c.args.pages.now c.read_root-stands.new.pages c.new-seen.ensures.empty c.len.ensures.ordered c.read_root-stands.ensures.reads c.read_root-stands.ensures.sees
+
+pub returns-clause-reads : goal.returns-clause-reads
+returns-clause-reads g c =
+    reads_each g.P.Pages c.args.form c.args.table.now c.new-seen.result.keys c.read_root-stands.new.seen.keys c.args.pages.now c.read_root-stands.new.pages c.new-seen.ensures.empty c.len.ensures.ordered c.read_root-stands.ensures.reads c.read_root-stands.ensures.sees

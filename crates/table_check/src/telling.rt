@@ -1,0 +1,82 @@
+//! The adds and withdrawals that lives name, in order.
+ghost use Rattle.std.specs.Prelude.{◌≡◌, ◌≤◌, ◌↔◌, ◌++◌, map, Ok, None, IsTrue, IfOk, IfSome, OnOk};
+ghost use Rattle.bw_types.specs.History.{History};
+ghost use Rattle.bw_types.specs.declared.params.Params.{Params};
+ghost use Rattle.told_history.specs.Told.{named_by};
+ghost use Rattle.history_list.specs.Events.{AreEventsOf, numbered_in};
+ghost use Rattle.table_check.specs.Telling.{AreNumbered, HasLives, IsToldBy};
+
+use bw_types::Dated;
+use history_list::Event;
+use std::alloc::{AllocError, Global};
+use told_history::lives_name_changes;
+
+/// The adds and withdrawals that these lives name, in order of their event numbers; or none where they are not those of
+/// a history with this last version: where they are not numbered from 0 on, each once and without a gap, or their
+/// versions fall, or are not from 1 to the last.
+pub fn told_events(
+    alloc: Global,
+    lives: &[Dated],
+    last: u32,
+) -> Result<Option<Vec<Event>>, AllocError>
+    ensures some { IfOk result (λ found. IfSome found (λ events. (h : History) × IsToldBy h lives.now last × AreEventsOf events.items h
+        × ((other : History) → IsToldBy other lives.now last → other ≡ h))) }
+    ensures none { result ≡ Ok None → (h : History) → IsToldBy h lives.now last → ⊥ }
+    // The lives of a lawful history tell it.
+    ensures lawful { IfOk result (λ found. IfSome found (λ events. (params : Params) (h : History) → HasLives params h lives.now last → AreEventsOf events.items h)) }
+    ensures unlawful { result ≡ Ok None → (params : Params) (h : History) → HasLives params h lives.now last → ⊥ }
+{
+    lives_name_changes();
+    let mut events = Vec::new(alloc);
+    for dated in lives {
+        push_named(&mut events, dated)?;
+    }
+    events.sort_unstable_by_key(|event| event.event);
+    if !are_numbered(events.as_slice(), last) {
+        return Ok(None);
+    }
+    Ok(Some(events))
+}
+
+// Puts the changes that a life names behind the others.
+fn push_named(events: &mut Vec<Event>, dated: &Dated) -> Result<(), AllocError>
+    ensures { OnOk result (map numbered_in events.new.items ≡ map numbered_in events.old.items ++ named_by dated.now) }
+{
+    events.push(Event {
+        event: dated.add_event,
+        version: dated.added,
+        add: true,
+        object: dated.object,
+    })?;
+    if dated.withdrawn != 0 {
+        events.push(Event {
+            event: dated.withdraw_event,
+            version: dated.withdrawn,
+            add: false,
+            object: dated.object,
+        })?;
+    }
+    Ok(())
+}
+
+// Whether the event numbers are 0 and so on, and the versions from 1 on never fall and are at most the last.
+fn are_numbered(events: &[Event], last: u32) -> bool
+    ensures { IsTrue result ↔ AreNumbered last events.now }
+{
+    let mut version = 1;
+    for index in 0..events.len() {
+        let event = &events[index];
+        if !goes_on(event, index, version, last) {
+            return false;
+        }
+        version = event.version;
+    }
+    true
+}
+
+// Whether the event has this number, and a version from this one to the last.
+fn goes_on(event: &Event, number: usize, version: u32, last: u32) -> bool
+    ensures { IsTrue result ↔ ((event.now.event ≡ number) × (version ≤ event.now.version) × (event.now.version ≤ last)) }
+{
+    event.event as usize == number && version <= event.version && event.version <= last
+}
