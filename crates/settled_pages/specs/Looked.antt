@@ -35,7 +35,7 @@ module _ {D : Type 0} {g : Ghosts D} where
   params_of space = space.params
 
   abbrev pub meta_of : SettledSpace D g → Meta
-  meta_of space = space.meta
+  meta_of space = space.meta.now
 
   abbrev pub looked_at : SettledSpace D g → Looked
   looked_at space = record {
@@ -45,7 +45,7 @@ module _ {D : Type 0} {g : Ghosts D} where
     moments = g.moments space.disk.now;
     found = space.pages.now;
     params = space.params;
-    meta = space.meta;
+    meta = space.meta.now;
   }
 
   -- the bytes at each page
@@ -54,12 +54,12 @@ module _ {D : Type 0} {g : Ghosts D} where
 
   -- the pages in use
   abbrev pub map_of : SettledSpace D g → PageMap
-  map_of space = pages_in_use (bytes_of space) space.meta.allotted
+  map_of space = pages_in_use (bytes_of space) space.meta.now.allotted
 
   -- the chain of free pages
   abbrev pub chain_of : SettledSpace D g → List ℕ
-  chain_of space = chain_from (bytes_of space) space.meta.allotted space.meta.free
+  chain_of space = chain_from (bytes_of space) space.meta.now.allotted space.meta.now.free
 
   -- The free pages are in order.
   abbrev pub IsInOrder : SettledSpace D g → Type 0
-  IsInOrder space = FreeInOrder (bytes_of space) space.meta.allotted space.meta.free
+  IsInOrder space = FreeInOrder (bytes_of space) space.meta.now.allotted space.meta.now.free

@@ -17,9 +17,9 @@ pub struct SettledSpace<'a, D: Disk> {
     pub(crate) disk: &'a mut D,
     pub(crate) pages: &'a SettledPages,
     pub(crate) params: Params,
-    pub(crate) meta: Meta,
+    pub(crate) meta: &'a Meta,
     ghost finds: { IsTrue (D.tells disk.now) → Finds pages.now (D.image disk.now) },
-    ghost there: { IsTrue (D.tells disk.now) → meta.allotted ≤ length (pages_shown (D.image disk.now) pages.now) },
+    ghost there: { IsTrue (D.tells disk.now) → meta.now.allotted ≤ length (pages_shown (D.image disk.now) pages.now) },
 }
 
 impl<'a, D: Disk> SettledSpace<'a, D> {
@@ -30,15 +30,15 @@ impl<'a, D: Disk> SettledSpace<'a, D> {
         disk: &'a mut D,
         pages: &'a SettledPages,
         params: Params,
-        meta: Meta,
+        meta: &'a Meta,
     ) -> SettledSpace<'a, D>
         requires finds { IsTrue (D.tells disk.old) → Finds pages.now (D.image disk.old) }
-        requires there { IsTrue (D.tells disk.old) → meta.allotted ≤ length (pages_shown (D.image disk.old) pages.now) }
+        requires there { IsTrue (D.tells disk.old) → meta.now.allotted ≤ length (pages_shown (D.image disk.old) pages.now) }
         ensures same_reference { result.disk.ghost_name ≡ disk.entry.ghost_name }
         ensures disk { disk_of result ≡ disk.entry.now }
         ensures pages { pages_of result ≡ pages.now }
         ensures params { params_of result ≡ params }
-        ensures meta { meta_of result ≡ meta }
+        ensures meta { meta_of result ≡ meta.now }
     {
         SettledSpace {
             disk,

@@ -197,7 +197,7 @@ fn in_use(alloc: Global, disk: &mut MemDisk) -> Result<Option<[Option<Page>; 4]>
     let settled = SettledPages::find(alloc, disk)?;
     match settled.roots(disk)? {
         Some((params, meta)) => {
-            let mut space = SettledSpace::new(disk, &settled, params, meta);
+            let mut space = SettledSpace::new(disk, &settled, params, &meta);
             Ok(Some([
                 got(&mut space, 2),
                 got(&mut space, 3),
@@ -298,10 +298,10 @@ fn read_through<D: Disk>(
     settled: &SettledPages,
     disk: &mut D,
     params: Params,
-    meta: Meta,
+    meta: &Meta,
 ) -> Option<Page>
     requires finds { IsTrue (D.tells disk.old) → Finds settled.now (D.image disk.old) }
-    requires there { IsTrue (D.tells disk.old) → meta.allotted ≤ length (pages_shown (D.image disk.old) settled.now) }
+    requires there { IsTrue (D.tells disk.old) → meta.now.allotted ≤ length (pages_shown (D.image disk.old) settled.now) }
     ensures image { D.image disk.new ≡ D.image disk.old }
     ensures moments { D.moments disk.new ≡ D.moments disk.old }
 {
@@ -316,7 +316,7 @@ fn a_generic_call_reads_through_a_space(rt: HostRuntime) -> Result<(), Fail> {
     let mut disk = holding(rt.alloc(), &pages, &[gate(0)])?;
     let settled = SettledPages::find(rt.alloc(), &mut disk)?;
     let read = match settled.roots(&mut disk)? {
-        Some((params, meta)) => read_through(&settled, &mut disk, params, meta),
+        Some((params, meta)) => read_through(&settled, &mut disk, params, &meta),
         None => None,
     };
     assert!(rt; read == Some(SEVENS));
@@ -339,7 +339,7 @@ fn free_of(alloc: Global, behind: &[Page; 4]) -> Result<Option<Vec<u64>>, Fail> 
     let settled = SettledPages::find(alloc, &mut disk)?;
     match settled.roots(&mut disk)? {
         Some((params, meta)) => {
-            let mut space = SettledSpace::new(&mut disk, &settled, params, meta);
+            let mut space = SettledSpace::new(&mut disk, &settled, params, &meta);
             Ok(space.free_pages(alloc)?)
         }
         None => Ok(None),

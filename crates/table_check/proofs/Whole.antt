@@ -15,7 +15,8 @@ use Rattle.page_layout.specs.Footprint.{NamesNoneTwice}
 use Rattle.object_table.specs.declared.form.Form.{Form}
 use Rattle.object_table.specs.Lives.{table_pages}
 use Rattle.table_check.specs.Passing.{ReadsSeen, SeesOwn}
-use Rattle.table_check.specs.Reading.{ReadsEachOnce}
+use Rattle.page_ports.specs.Pages.{PageMap}
+use Rattle.table_check.specs.Reading.{AreItsPages, ReadsEachOnce}
 
 less_below : (a b : ℕ) → nat_cmp a b ≡ Less → a < b
 less_below a b e = ranked a b Less (sym e)
@@ -41,3 +42,11 @@ module _ {P : Type 0} (g : Ghosts P) where
     read = subst (λ (n : ℕ). WasRead g n old new) (let all : length seen - length before ≡ length seen = omega (arith, ap (length {A = ℕ}) none) in all) reads.read;
     own = λ tells p named. ap (λ (ps : List ℕ). names_page (ps ++ table_pages form (g.map old) table) p) (sym none) ∙ sees tells p named;
   }
+
+-- the pages that were seen, where none was before
+pub its_pages : (form : Form) (map : PageMap) (table : Tree) (before seen : List ℕ) → before ≡ [] → IsStrictlySortedBy nat_cmp seen
+    → ((p : ℕ) → names_page seen p ≡ names_page (before ++ table_pages form map table) p) → AreItsPages form map table seen
+its_pages form map table before seen none sorted names = record {
+  once = sorted_once seen sorted;
+  same = λ p. names p ∙ ap (λ (ps : List ℕ). names_page (ps ++ table_pages form map table) p) none;
+}

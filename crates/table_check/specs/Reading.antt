@@ -21,6 +21,11 @@ pub record ReadsEachOnce {P : Type 0} (g : Ghosts P) (form : Form) (table : Tree
   pub read : WasRead g (length seen) old new
   pub own : IsTrue (g.tells old) → (page : ℕ) → names_page seen page ≡ true → names_page (table_pages form (g.map old) table) page ≡ true
 
+-- These are the pages of the table, each named once.
+pub record AreItsPages (form : Form) (map : PageMap) (table : Tree) (pages : List ℕ) : Type 0 where
+  pub once : NamesNoneTwice pages
+  pub same : (page : ℕ) → names_page pages page ≡ names_page (table_pages form map table) page
+
 -- The entry's child stands up to where the next entry begins, and begins with the entry's low where that has a life.
 abbrev pub EntryStands : Form → ℕ → PageMap → LifeEntry → ℕ → Type 0
 EntryStands form level pages e to = StandsBelow form level pages e.child (low_key e) to (fewest form level) × KeepsItsLow e (lives_below form level pages e.child)

@@ -4,7 +4,6 @@
 //! tested. A yes gives the objects that the table stands for, and a no says that it stands for none.
 #![tactic(auto)]
 
-mod fault;
 mod judging;
 mod keeping;
 mod key;
@@ -19,10 +18,9 @@ mod telling;
 #[cfg(test)]
 mod tests;
 
-pub use fault::CheckFault;
 pub use judging::{Told, judge};
 pub use lawful::is_lawful;
 pub use lives::are_lives;
 pub use numbers::numbers_hold;
-pub use reading::read_table;
+pub use reading::{FoundTable, read_table};
 pub use telling::told_events;

@@ -5,21 +5,28 @@ ghost use Rattle.counts.specs.Count.{Rose};
 ghost use Rattle.object_table.specs.Lives.{lives_below, pages_below};
 ghost use Rattle.object_table.specs.Stands.{RootStands, StandsBelow, TableStands};
 ghost use Rattle.table_check.specs.Passing.{CanPass, Passed, ReadsSeen, SeesOwn};
-ghost use Rattle.table_check.specs.Reading.{EntriesStand, ReadsEachOnce, entry_lives, entry_pages};
+ghost use Rattle.table_check.specs.Reading.{AreItsPages, EntriesStand, ReadsEachOnce, entry_lives, entry_pages};
 
-use crate::fault::CheckFault;
 use crate::keeping::{begin_of, fewest, from_place, index_keeps, keeps_its_low, leaf_keeps};
 use crate::key::low_key;
 use crate::node::{entries_of, objects_of, read_node};
 use crate::seen::add_page;
 use bw_types::{Dated, Tree};
 use object_table::Form;
+use page_checks::CheckFault;
 use page_layout::LifeEntry;
 use page_ports::{PageFault, Pages};
-use std::alloc::Global;
+use std::alloc::{AllocError, Global};
 use std::collections::BTreeSet;
 
-/// The objects of a table in order, or none where the pages hold no table.
+/// A table that was found: its objects in order, and its pages in order.
+#[derive(Drop)]
+pub struct FoundTable {
+    pub lives: Vec<Dated>,
+    pub pages: Vec<u64>,
+}
+
+/// The objects and the pages of a table, or none where the pages hold no table.
 ///
 /// The pages are only read, each of them once. It takes memory for the list of the objects and for the numbers
 /// of the pages. `Disk` comes only where the count of faults rose.
@@ -28,9 +35,11 @@ pub fn read_table<P: Pages>(
     pages: &mut P,
     form: Form,
     table: &Tree,
-) -> Result<Option<Vec<Dated>>, CheckFault>
-    ensures some { IfOk result (λ found. IfSome found (λ lives. IsTrue (P.tells pages.old)
-        → TableStands form (P.map pages.old) table.now lives.items)) }
+) -> Result<Option<FoundTable>, CheckFault>
+    ensures some { IfOk result (λ found. IfSome found (λ it. IsTrue (P.tells pages.old)
+        → TableStands form (P.map pages.old) table.now it.lives.items)) }
+    ensures pages { IfOk result (λ found. IfSome found (λ it. IsTrue (P.tells pages.old)
+        → AreItsPages form (P.map pages.old) table.now it.pages.items)) }
     ensures none { result ≡ Ok None → IsTrue (P.tells pages.old) → (kept : List Dated)
         → TableStands form (P.map pages.old) table.now kept → ⊥ }
     ensures reads { ReadsEachOnce P.Pages form table.now pages.old pages.new }
@@ -44,7 +53,16 @@ pub fn read_table<P: Pages>(
     if !stands? || !counts(table, lives.len()) {
         return Ok(None);
     }
-    Ok(Some(lives))
+    let pages = listed(alloc, &seen)?;
+    Ok(Some(FoundTable { lives, pages }))
+}
+
+// The pages that were seen, in order.
+fn listed(alloc: Global, seen: &BTreeSet<u64>) -> Result<Vec<u64>, AllocError>
+    ensures { IfOk result (λ pages. pages.items ≡ seen.now.keys) }
+{
+    let pages: Vec<u64> = seen.iter().copied().collect(alloc)?;
+    Ok(pages)
 }
 
 // Whether the table tells so many objects, and nothing that belongs to other trees.

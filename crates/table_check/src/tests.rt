@@ -82,7 +82,10 @@ fn a_table_that_was_entered_is_read(rt: HostRuntime) -> Result<(), Fail> {
     let table = entered(&mut stage, 40)?;
     assert_eq!(rt; table.levels, 2);
     match read_table(rt.alloc(), &mut stage, Form::ByLives, &table)? {
-        Some(lives) => assert!(rt; are_first(lives.as_slice(), 40)),
+        Some(found) => {
+            assert!(rt; are_first(found.lives.as_slice(), 40));
+            assert_eq!(rt; found.pages.len() as u64 + 3, stage.allotted());
+        }
         None => assert!(rt; false),
     }
     let more = Tree { count: 41, ..table };
@@ -98,7 +101,7 @@ fn the_empty_table_is_read(rt: HostRuntime) -> Result<(), Fail> {
     let mut stage = MemStage::new(rt.alloc(), 100);
     let table = Tree::default();
     match read_table(rt.alloc(), &mut stage, Form::ByLives, &table)? {
-        Some(lives) => assert!(rt; lives.is_empty()),
+        Some(found) => assert!(rt; found.lives.is_empty() && found.pages.is_empty()),
         None => assert!(rt; false),
     }
     let rooted = Tree { root: 3, ..table };
@@ -144,7 +147,7 @@ fn the_earlier_form_is_read(rt: HostRuntime) -> Result<(), Fail> {
         last: 0,
     };
     match read_table(rt.alloc(), &mut stage, Form::ByIds, &table)? {
-        Some(lives) => assert!(rt; are_first(lives.as_slice(), 18)),
+        Some(found) => assert!(rt; are_first(found.lives.as_slice(), 18)),
         None => assert!(rt; false),
     }
     assert!(rt; read_table(rt.alloc(), &mut stage, Form::ByLives, &table)?.is_none());

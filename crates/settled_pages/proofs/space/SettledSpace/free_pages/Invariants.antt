@@ -8,8 +8,8 @@ invariant-loop-page g l =
     let disk = g.D.Disk in
     let start = l.fn.self in
     record {
-      walked : IsTrue (disk.tells (disk_of start)) → IsWalked (bytes_of start) start.meta.allotted start.meta.free l.page l.pages.items;
-      few : length l.pages.items ≤ start.meta.allotted;
+      walked : IsTrue (disk.tells (disk_of start)) → IsWalked (bytes_of start) start.meta.now.allotted start.meta.now.free l.page l.pages.items;
+      few : length l.pages.items ≤ start.meta.now.allotted;
       looked : looked_at l.self ≡ looked_at start;
       faults : disk.faults (disk_of l.self) ≡ disk.faults (disk_of start);
       reads : disk.reads (disk_of l.self) ≤ disk.reads (disk_of start) + length l.pages.items;
@@ -17,4 +17,4 @@ invariant-loop-page g l =
     }
 
 abbrev pub decreases-loop-page : goal.decreases-loop-page
-decreases-loop-page g l = l.fn.self.meta.allotted - length l.pages.items
+decreases-loop-page g l = l.fn.self.meta.now.allotted - length l.pages.items

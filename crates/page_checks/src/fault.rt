@@ -1,14 +1,14 @@
-//! Why a check has no answer.
+//! Why a check came to no answer.
 ghost use Rattle.std.specs.Prelude.{◌≡◌};
-ghost use Rattle.table_check.specs.declared.fault.CheckFault.TheVariants.{NoMemory};
+ghost use Rattle.page_checks.specs.declared.fault.CheckFault.TheVariants.{NoMemory};
 
 use std::alloc::AllocError;
 use thiserror::Error;
 
-/// Why a check has no answer.
-#[derive(Clone, Copy, PartialEq, Eq, Debug, Error)]
+/// Why a check came to no answer.
+#[derive(Clone, Copy, Debug, PartialEq, Eq, Error)]
 pub enum CheckFault {
-    /// The device failed.
+    /// The device failed. Comes only where the count of faults rose.
     #[error("the disk failed")]
     Disk,
     /// There was no memory.
