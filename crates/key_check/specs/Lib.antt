@@ -1,8 +1,11 @@
+pub mod Cells
 pub mod Chains
 pub mod Changes
+pub mod KeyTrees
+pub mod Levels
 pub mod Marks
 pub mod Numbers
 pub mod Pieces
-pub mod Reads
+pub mod Runs
 pub mod Steps
 pub mod Walks

@@ -1,17 +1,17 @@
 //! Whether a tree over versions stands for some list of changes.
 ghost use Rattle.std.specs.Prelude.{◌≡◌, ◌↔◌, ℕ, Ok, Some, None, true, false, IsTrue, IfOk};
 ghost use Rattle.key_check.specs.Changes.{AreMade, HasChangesOf, StandsForChanges, needed};
-ghost use Rattle.key_check.specs.Reads.{OnlyChecks};
+ghost use Rattle.page_checks.specs.Reads.{OnlyChecks};
 ghost use Rattle.key_check.specs.Steps.{AscendFrom};
 ghost use Rattle.mvsb_tree.specs.Stands.{has_come};
 ghost use Rattle.page_layout.specs.Footprint.{NamesNoneTwice};
 ghost use Rattle.key_check.specs.Walks.{IsWalk};
 ghost use Rattle.key_check.specs.declared.version_tree.Walk.{Walk};
 
-use crate::numbers::name_none_twice;
+use crate::Step;
 use crate::version_tree::{MOST, Walk, walk_tree};
-use crate::{CheckFault, Step};
 use bw_types::{Point, Tree};
+use page_checks::{CheckFault, name_none_twice};
 use page_ports::Pages;
 use std::alloc::Global;
 

@@ -3,21 +3,35 @@
 //! The calls work over any `Pages`, on any content, and only read. They come to an answer in about as
 //! many steps as the tree has entries and the list has points, but for the sorts.
 //!
-//! A tree over versions is decided as a whole ([`version_tree_stands`], [`changes_stand`]). Of a multiversion tree three parts are decided so
-//! far: the chain of its nodes ([`walk_chain`]), that entries keep to the points ([`entries_keep`]), and that the alive entries of a node cut
-//! an interval of keys at each of a stretch of versions ([`stands_throughout`]).
+//! A tree over versions is decided as a whole ([`version_tree_stands`], [`changes_stand`]), and so is a multiversion tree
+//! ([`key_tree_stands`]): its directory and the roots that this tells, the chain of its nodes with their entries ([`walk_chain`],
+//! [`entries_keep`]), and the nodes below the roots, for which the alive entries of a node cut an interval of keys at each of a stretch of
+//! versions ([`stands_throughout`]). These are gone to level by level, and the pieces in which a node is reached from the copies of its
+//! parent are merged, so that it is read about once.
 #![tactic(auto)]
 
 mod chain;
 mod changes;
 mod digits;
-mod fault;
+mod entry_corners;
 mod jumps;
+#[cfg(test)]
+mod key_tests;
+mod key_tree;
+mod leveled;
+mod life;
 mod marks;
+mod merging;
 mod node;
 mod numbers;
 mod piece;
+mod piece_node;
+mod piece_walk;
+mod pieces_below;
 mod reached;
+mod rooted;
+mod roots;
+mod run;
 mod step;
 #[cfg(test)]
 mod tests;
@@ -27,7 +41,7 @@ mod walk;
 
 pub use chain::walk_chain;
 pub use changes::changes_stand;
-pub use fault::CheckFault;
+pub use key_tree::key_tree_stands;
 pub use marks::{Marks, entries_keep, marks_of};
 pub use piece::Piece;
 pub use step::Step;

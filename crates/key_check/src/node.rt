@@ -3,12 +3,12 @@ ghost use Rattle.std.specs.Prelude.{◌≡◌, ◌≤◌, ◌<◌, ◌↔◌, Ok
 ghost use Rattle.std.specs.List.{All};
 ghost use Rattle.sb_tree.specs.Stands.{NodeStands, first_low};
 ghost use Rattle.sb_tree.specs.Steps.{entries_on};
-ghost use Rattle.key_check.specs.Reads.{OnlyChecks};
+ghost use Rattle.page_checks.specs.Reads.{OnlyChecks};
 ghost use Rattle.page_layout.specs.declared.sb_node.SbNode.{SbNode};
 
-use crate::CheckFault;
 use crate::reached::Reached;
 use page_access::read_level;
+use page_checks::CheckFault;
 use page_layout::{SbEntry, SbNode};
 use page_ports::{PageFault, Pages};
 

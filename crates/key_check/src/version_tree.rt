@@ -2,24 +2,25 @@
 ghost use Rattle.std.specs.Prelude.{◌≡◌, ◌↔◌, Ok, Some, None, IsTrue, IfOk};
 ghost use Rattle.std.specs.List.{All};
 ghost use Rattle.sb_tree.specs.Stands.{IsBalanced, RootStands, SbStands, is_marked};
-ghost use Rattle.key_check.specs.Reads.{OnlyChecks};
+ghost use Rattle.page_checks.specs.Reads.{OnlyChecks};
 ghost use Rattle.key_check.specs.Numbers.{HasNumbersOf};
 ghost use Rattle.key_check.specs.Walks.{IsWalk};
 ghost use Rattle.key_check.specs.declared.version_tree.Walk.{Walk};
 
+use crate::Step;
 use crate::digits::has_digits;
 use crate::jumps::jumps_of;
-use crate::numbers::{is_mark, name_none_twice, versions_in_order};
+use crate::numbers::{is_mark, versions_in_order};
 use crate::reached::Reached;
 use crate::walk::walk_below;
-use crate::{CheckFault, Step};
 use bw_types::{Point, Tree};
+use page_checks::{CheckFault, name_none_twice};
 use page_ports::Pages;
 use point_sums::sum_over_versions;
 use std::alloc::{AllocError, Global};
 
 // The versions of a tree over versions end before this one.
-const END: u64 = 0x1_0000_0000;
+pub(crate) const END: u64 = 0x1_0000_0000;
 
 pub(crate) const MOST: usize = 0x8000_0000;
 
@@ -32,7 +33,8 @@ pub(crate) struct Walk {
 
 /// Whether the tree stands for the points and is balanced.
 ///
-/// The pages are only read. `Disk` comes only where the count of faults rose.
+/// The pages are only read, and not handed out. `Disk` comes only where the count of faults rose. It takes memory for the steps of the
+/// tree's value, for the numbers of its pages, and for the versions of the points.
 pub fn version_tree_stands<P: Pages>(
     alloc: Global,
     pages: &mut P,

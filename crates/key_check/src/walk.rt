@@ -1,12 +1,13 @@
 //! The walk over all nodes of a tree over versions.
 ghost use Rattle.std.specs.Prelude.{◌≡◌, ◌++◌, [], ◌∷◌, true, false, Ok, Err, IsTrue, OnOk};
 ghost use Rattle.sb_tree.specs.Stands.{StandsBelow};
-ghost use Rattle.key_check.specs.Reads.{OnlyChecks};
+ghost use Rattle.page_checks.specs.Reads.{OnlyChecks};
 ghost use Rattle.key_check.specs.Steps.{Walked, entries_steps, leaf_steps};
 
+use crate::Step;
 use crate::node::{low_at, node_at};
 use crate::reached::Reached;
-use crate::{CheckFault, Step};
+use page_checks::{CheckFault, push_page};
 use page_layout::SbEntry;
 use page_ports::Pages;
 use std::alloc::AllocError;
@@ -72,13 +73,5 @@ fn push_steps(
             value: before,
         })?;
     }
-    Ok(())
-}
-
-/// Puts a page behind those named.
-pub(crate) fn push_page(named: &mut Vec<u64>, page: u64) -> Result<(), AllocError>
-    ensures { OnOk result (named.new.items ≡ named.old.items ++ page ∷ []) }
-{
-    named.push(page)?;
     Ok(())
 }

@@ -2,7 +2,7 @@ use Rattle.std.proofs.Common.{◌≡◌, Ok, Some, Result, Option, subst}
 use Rattle.page_ports.specs.Pages.{PageMap}
 use Rattle.page_layout.specs.declared.mv_node.MvNode.{MvNode}
 use Rattle.key_check.specs.Chains.{HoldsThis}
-use Rattle.key_check.specs.declared.fault.CheckFault.{CheckFault}
+use Rattle.page_checks.specs.declared.fault.CheckFault.{CheckFault}
 use Rattle.key_check.proofs.Chaining.{holds_this}
 use Rattle.key_check.proofs.chain.mv_node_at.Goals as goal
 

@@ -5,7 +5,7 @@ use Rattle.page_ports.specs.Pages.{PageMap}
 use Rattle.key_check.specs.Changes.{AreMade, StandsForChanges}
 use Rattle.key_check.specs.Steps.{AscendFrom}
 use Rattle.key_check.specs.Walks.{IsWalk}
-use Rattle.key_check.specs.declared.fault.CheckFault.{CheckFault}
+use Rattle.page_checks.specs.declared.fault.CheckFault.{CheckFault}
 use Rattle.key_check.specs.declared.step.Step.{Step}
 use Rattle.key_check.specs.declared.version_tree.Walk.{Walk}
 use Rattle.key_check.proofs.Changing.{made_of, numbers_for, stands_for}

@@ -2,7 +2,7 @@ use Rattle.std.proofs.Common.{◌≡◌, IsTrue, List, Some, Ok, Result, Option,
 use Rattle.std.proofs.lemmas.Bool.{false≢true}
 use Rattle.page_layout.specs.declared.sb_node.SbNode.{SbNode}
 use Rattle.page_layout.specs.declared.sb_node.SbEntry.{SbEntry}
-use Rattle.key_check.specs.declared.fault.CheckFault.{CheckFault}
+use Rattle.page_checks.specs.declared.fault.CheckFault.{CheckFault}
 use Rattle.key_check.proofs.Nodes.{IsInPlace, stands_at, place_of}
 use Rattle.key_check.proofs.node.node_at.Goals as goal
 

@@ -1,5 +1,5 @@
 use Rattle.std.proofs.Common.{◌≡◌, ◌-◌, IsTrue, take}
-use Rattle.key_check.specs.Reads.{AreAsBefore}
+use Rattle.page_checks.specs.Reads.{AreAsBefore}
 use Rattle.key_check.specs.Steps.{after_all}
 use Rattle.key_check.proofs.Walking.{Going}
 use Rattle.key_check.proofs.walk.+walk_below.Given as goal

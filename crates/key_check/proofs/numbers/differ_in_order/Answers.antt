@@ -1,9 +1,0 @@
-use Rattle.std.proofs.Common.{rules, arith}
-use Rattle.key_check.proofs.Numbering.{rise_once, rises, twice_at}
-use Rattle.key_check.proofs.numbers.differ_in_order.Goals as goal
-
-pub returns-then-pages-place : goal.returns-then-pages-place
-returns-then-pages-place c = (λ never. search rules, λ once. absurd (twice_at c.args.pages.now c.loop-place.place (omega arith) (omega arith) c.if-pages-place.true once))
-
-pub returns : goal.returns
-returns c = (λ _. rise_once _ (rises c.args.pages.now c.loop-place.place (omega arith) c.loop-place.invariant), λ _. search rules)
