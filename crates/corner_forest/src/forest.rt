@@ -35,7 +35,7 @@ impl Forest {
 }
 
 /// How many corners a box has.
-pub(crate) fn corner_count(params: &Params) -> u8
+pub fn corner_count(params: &Params) -> u8
     requires { IsInRange params.now }
     ensures count { result ≡ corner_count params.now }
     ensures at_most { result ≤ 8 }
@@ -48,7 +48,7 @@ pub(crate) fn corner_count(params: &Params) -> u8
 }
 
 /// How many trees there are.
-pub(crate) fn root_count(params: &Params) -> usize
+pub fn root_count(params: &Params) -> usize
     requires { IsInRange params.now }
     ensures count { result ≡ root_count params.now }
     ensures at_most { result ≤ 72 }

@@ -23,6 +23,7 @@ mod tests;
 
 pub use batch::enter;
 pub use entry::Entry;
-pub use forest::Forest;
+pub use forest::{Forest, corner_count, root_count};
 pub use meet::{count, met, sum};
 pub use planes::{below, integral};
+pub use points::entry_point;

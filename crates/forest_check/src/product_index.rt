@@ -1,0 +1,28 @@
+//! The index of the product, which can be checked.
+use crate::checked_index::CheckedIndex;
+use ba_tree::BaIndex;
+use bw_types::{Point, Tree};
+use cut_check::cut_tree_stands;
+use key_check::key_tree_stands;
+use key_trees::KeyTree;
+use page_checks::CheckFault;
+use page_ports::Pages;
+use plane_trees::PlaneTree;
+use std::alloc::Global;
+
+impl CheckedIndex for BaIndex {
+    fn tree_stands<P: Pages>(
+        alloc: Global,
+        pages: &mut P,
+        dims: u8,
+        tree: &Tree,
+        points: &[Point],
+        named: &mut Vec<u64>,
+    ) -> Result<bool, CheckFault> {
+        match dims {
+            1 => key_tree_stands(alloc, pages, tree, points, named),
+            2 => cut_tree_stands::<KeyTree, P>(alloc, pages, tree, points, named),
+            _ => cut_tree_stands::<PlaneTree, P>(alloc, pages, tree, points, named),
+        }
+    }
+}
