@@ -1,0 +1,11 @@
+pub mod AnyOrder
+pub mod Apart
+pub mod Faults
+pub mod Finding
+pub mod Follow
+pub mod Naming
+pub mod Ordered
+pub mod Same
+pub mod Seen
+pub mod Sound
+pub mod Verdicts
