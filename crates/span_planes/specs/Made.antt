@@ -5,19 +5,15 @@ use Rattle.bw_types.specs.Fits.{IsInRange}
 use Rattle.bw_types.specs.History.{History, changes, last_version}
 use Rattle.bw_types.specs.declared.params.Params.{Params}
 use Rattle.counts.specs.Count.{Rose}
-use Rattle.page_disk.specs.Image.{Image, PageList}
+use Rattle.page_disk.specs.Image.{Image}
 use Rattle.page_disk.specs.Moment.{MayBeLeftNow}
 use Rattle.page_disk.specs.Since.{LeavesOnly}
 use Rattle.page_disk.specs.declared.disk.Disk.{Ghosts}
 use Rattle.page_layout.specs.Meta.{meta_page}
 use Rattle.page_layout.specs.declared.meta.Meta.{Meta}
 use Rattle.page_ports.specs.Pages.{PageMap}
-use Rattle.page_space.specs.Opened.{StaysAsRead}
-use Rattle.page_space.specs.Opening.{StandsAlike}
-use Rattle.page_space.specs.Settling.{HasNoReplay}
 use Rattle.page_space.specs.Space.{HoldsSpace, params_page}
 use Rattle.redo_journal.specs.Gates.{IsCreated, is_empty}
-use Rattle.redo_journal.specs.Settled.{SettlesTo}
 use Rattle.dom_index.specs.declared.index.DomIndex.{Ghosts as IndexGhosts}
 use Rattle.span_planes.specs.Filled.{span_growth}
 use Rattle.span_planes.specs.SpanHolds.{SpanHolds, without_degree}
@@ -91,12 +87,9 @@ module _ {E : Type 0} (g : Ghosts E) where
     pub at_limit : (e : E) (allotted : ℕ) → result ≡ PageLimit e allotted → allotted ≡ params.pages
     pub there : (e : E) → result ≢ AlreadyThere e
 
-  -- A second disk that may not take spans is told to be there, and never that it is damaged. It stands for the pages that it stood for.
+  -- A second disk that may not take spans is told to be there, and never that it is damaged. It is as it was, whatever journal is open on it:
+  -- no call writes to it.
   pub record StaysThere (second : E) (result : Derived E) : Type 0 where
     pub only : ((e : E) (version : ℕ) → result ≢ Done e version) × (((e : E) (allotted : ℕ) → result ≢ PageLimit e allotted) × ((e : E) (page : ℕ) → result ≢ Damaged e page))
-    -- Unless it failed, it does now,
-    pub stands : ((e : E) → result ≡ Disk e → Rose (g.faults second) (g.faults e) → ⊥) → StandsAlike (g.image second) (g.image (second_out result))
-    -- and a crash at any moment leaves what does, whatever the end.
-    pub moments : (pages : PageList) → SettlesTo (g.image second) pages → LeavesOnly (λ x. SettlesTo x pages) (g.moments second) (g.moments (second_out result))
-    -- Where nothing is replayed, nothing is written.
-    pub untouched : HasNoReplay (g.image second) → StaysAsRead g second (second_out result)
+    pub image : g.image (second_out result) ≡ g.image second
+    pub moments : g.moments (second_out result) ≡ g.moments second

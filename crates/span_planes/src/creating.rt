@@ -48,12 +48,8 @@ pub(crate) fn create<E: Disk>(disk: E, params: &Params) -> Created<E>
     ensures made { IfMade result (IsTrue (E.tells disk) → (is_empty (E.image disk) ≡ true) × IsNew params.now (E.image (created_disk result))) }
     ensures settled { IfMade result (LeavesNow (E.moments (created_disk result)) (E.image (created_disk result))) }
     ensures there { IfThere result (IsTrue (E.tells disk) → is_empty (E.image disk) ≡ false) }
-    ensures untouched { IfThere result (E.image (created_disk result) ≡ E.image disk) }
-    ensures untouched_moments { IfThere result (LeavesOnly (λ x. x ≡ E.image disk) (E.moments disk) (E.moments (created_disk result))) }
     ensures any_moment { IsTrue (E.tells disk) → is_empty (E.image disk) ≡ true
         → LeavesOnly (λ x. (is_empty x ≡ true) ⊎ IsNew params.now x) (E.moments disk) (E.moments (created_disk result)) }
-    ensures kept { IsTrue (E.tells disk) → is_empty (E.image disk) ≡ false → (E.image (created_disk result) ≡ E.image disk)
-        × LeavesOnly (λ x. x ≡ E.image disk) (E.moments disk) (E.moments (created_disk result)) }
     ensures disk { IfFailed result (Rose (E.faults disk) (E.faults (created_disk result))) }
     ensures faults { E.faults disk ≤ E.faults (created_disk result) }
     ensures tells { E.tells (created_disk result) ≡ E.tells disk }

@@ -13,6 +13,7 @@ mod desk;
 mod desk_tests;
 mod filling;
 mod laws;
+mod looking;
 mod making;
 mod opening;
 #[cfg(test)]

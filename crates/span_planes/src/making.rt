@@ -25,7 +25,7 @@ use std::alloc::Global;
 pub enum Derived<E> {
     /// It has them, up to this version.
     Done { second: E, version: u32 },
-    /// The second disk is not empty, and has no new spans of such a warehouse. It stands for the same pages.
+    /// The second disk is not empty, and has no new spans of such a warehouse. It is as it was.
     AlreadyThere(E),
     /// As many pages are given out there as may be.
     PageLimit { second: E, allotted: u64 },
@@ -40,9 +40,9 @@ pub enum Derived<E> {
 /// Writes the spans of a warehouse to a second disk, which is empty or has new spans without versions: all of them in one commit.
 ///
 /// The house and its disk stay as they were. Unless it is done or the second disk failed, that may take spans as before, whatever the first
-/// one holds. A second disk with anything else stands for the same pages at any moment, and where no journal is replayed, nothing is written
-/// to it. It takes memory for a list of all adds and withdrawals, for the points of one tree, and for the
-/// pages of the trees.
+/// one holds. A second disk with anything else is as it was: it is read through its journal first, and nothing is written to it. It takes
+/// memory for a list of all adds and withdrawals, for the points of one tree, and for the pages of the trees, and before that 16 bytes, or up
+/// to twice that, for each image in a journal that is open on the second disk.
 pub fn derive<D: Disk, X: DomIndex + Drop, E: Disk + Drop>(
     alloc: Global,
     house: &mut Warehouse<D, X>,

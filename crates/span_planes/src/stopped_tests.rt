@@ -2,7 +2,8 @@
 use crate::tests::{asked, two_versions};
 use crate::{Derived, Spans, derive};
 use dom_index::PointList;
-use page_disk::{MemDisk, Torn};
+use page_disk::{Area, Disk, Failed, MemDisk, Torn};
+use page_ports::{Page, blank_page};
 use page_space::OpenFault;
 use std::alloc::Global;
 use std::test::Fail;
@@ -91,5 +92,58 @@ fn each_call_of_a_derivation_fails(rt: HostRuntime) -> Result<(), Fail> {
             assert!(rt; left(alloc, second).is_some(), "call {call}");
         }
     }
+    Ok(())
+}
+
+// The pages of a disk, area by area.
+fn pages_on(alloc: Global, disk: &mut MemDisk) -> Result<Vec<Page>, Fail> {
+    let mut pages = Vec::new(alloc);
+    for area in [Area::Pages, Area::Journal] {
+        for page in 0..disk.len(area)? {
+            let mut bytes = blank_page();
+            disk.read(area, page, &mut bytes)?;
+            pages.push(bytes)?;
+        }
+    }
+    Ok(pages)
+}
+
+// Whether the journal of the disk is open.
+fn is_open(disk: &mut MemDisk) -> Result<bool, Failed> {
+    let mut gate = blank_page();
+    disk.read(Area::Journal, 0, &mut gate)?;
+    Ok(gate[0] == 1)
+}
+
+// Whether the disk is told to be there, and then has the same pages.
+fn stays_there(alloc: Global, mut second: MemDisk) -> Result<bool, Fail> {
+    let before = pages_on(alloc, &mut second)?;
+    let Some(mut house) = two_versions(alloc)? else {
+        return Ok(false);
+    };
+    match derive(alloc, &mut house, second) {
+        Derived::AlreadyThere(mut second) => Ok(pages_on(alloc, &mut second)? == before),
+        _ => Ok(false),
+    }
+}
+
+// A stop of the one commit may leave all spans in an open journal. They are no place for spans, and are not brought home either.
+#[test]
+fn an_open_journal_of_another_disk_stays(rt: HostRuntime) -> Result<(), Fail> {
+    let alloc = rt.alloc();
+    let all = calls_of(alloc)?;
+    let mut met = 0;
+    for calls in 0..all.saturating_add(1) {
+        let mut second = MemDisk::blank(alloc);
+        second.stop_after(calls);
+        if let Some((_, _, second)) = derived(alloc, second)? {
+            let mut second = second.crash(Torn::Landed);
+            if is_open(&mut second)? {
+                assert!(rt; stays_there(alloc, second)?, "call {calls}");
+                met = 1;
+            }
+        }
+    }
+    assert_eq!(rt; met, 1);
     Ok(())
 }
