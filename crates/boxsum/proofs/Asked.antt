@@ -1,5 +1,5 @@
 -- The command that the words ask for.
-use Rattle.std.proofs.Common.{◌≡◌, ℕ, true, false, IsTrue, List, Option, Some, None, ◌∙◌, refl, sym, ap, subst}
+use Rattle.std.proofs.Common.{◌≡◌, ℕ, true, false, IsTrue, List, Some, None, ◌∙◌, refl, sym, ap, subst}
 use Rattle.bw_types.specs.declared.params.Params.{Params}
 use Rattle.csv_rows.specs.Input.{given, provided}
 use Rattle.command_words.specs.Command.{command_of}
@@ -9,39 +9,35 @@ use Rattle.byte_ports.specs.declared.Source.{Ghosts as SourceGhosts}
 use Rattle.byte_ports.specs.declared.Sink.{Ghosts as SinkGhosts}
 use Rattle.page_disk.specs.declared.disk.Disk.{Ghosts as DiskGhosts}
 use Rattle.dom_index.specs.declared.index.DomIndex.{Ghosts as IndexGhosts}
-use Rattle.boxsum.specs.Built.{asks_one_disk, built_command, command_on_one, is_built, is_for_one_disk}
+use Rattle.boxsum.specs.OneDisk.{asks_one_disk, command_on_one, is_for_one_disk}
 use Rattle.boxsum.specs.Ran.{AnswersFromNothing, MakesEmpty, Samples}
 use Rattle.boxsum.specs.declared.status.Ran.{Ran}
 use Rattle.boxsum.specs.declared.status.Status.{Status}
 
--- a command that was read is the one that is built
-built_is : (words : List (List ℕ)) (read command : Command) → command_of words ≡ Some read → read ≡ command → built_command words ≡ provided (is_built command) command
-built_is words read command e is = ap (λ (o : Option Command). given o (λ c. provided (is_built c) c)) (e ∙ ap Some is)
-
 -- what is asked of one disk is asked
-pub one_is_built : (words : List (List ℕ)) (command : Command) → command_on_one words ≡ Some command → built_command words ≡ Some command
-one_is_built words command = elim (built_command words) as (λ o. given o (λ c. provided (is_for_one_disk c) c) ≡ Some command → o ≡ Some command) [
+pub one_is_asked : (words : List (List ℕ)) (command : Command) → command_on_one words ≡ Some command → command_of words ≡ Some command
+one_is_asked words command = elim (command_of words) as (λ o. given o (λ c. provided (is_for_one_disk c) c) ≡ Some command → o ≡ Some command) [
   | None ↦ λ e. cc
   | Some c ↦ elim (is_for_one_disk c) as (λ b. provided b c ≡ Some command → Some c ≡ Some command) [ true ↦ λ e. e | false ↦ λ e. cc ]
 ]
 
 -- and what needs no second one is asked of one
-pub one_is_enough : (words : List (List ℕ)) → IsTrue (asks_one_disk (built_command words)) → command_on_one words ≡ built_command words
-one_is_enough words = elim (built_command words) as (λ o. IsTrue (asks_one_disk o) → given o (λ c. provided (is_for_one_disk c) c) ≡ o) [
+pub one_is_enough : (words : List (List ℕ)) → IsTrue (asks_one_disk (command_of words)) → command_on_one words ≡ command_of words
+one_is_enough words = elim (command_of words) as (λ o. IsTrue (asks_one_disk o) → given o (λ c. provided (is_for_one_disk c) c) ≡ o) [
   | None ↦ λ one. refl
   | Some c ↦ elim (is_for_one_disk c) as (λ b. IsTrue b → provided b c ≡ Some c) [ true ↦ λ one. refl | false ↦ λ one. cc ]
 ]
 
 -- there is one command that the words ask for
-pub same_create : (words : List (List ℕ)) (read : Command) (at params : Params) → command_of words ≡ Some read → read ≡ Create at → built_command words ≡ Some (Create params) → at ≡ params
-same_create words read at params e is asked = let same : Some (Create at) ≡ Some (Create params) = sym (built_is words read (Create at) e is) ∙ asked in cc
+pub same_create : (words : List (List ℕ)) (read : Command) (at params : Params) → command_of words ≡ Some read → read ≡ Create at → command_of words ≡ Some (Create params) → at ≡ params
+same_create words read at params e is asked = let same : Some (Create at) ≡ Some (Create params) = sym (e ∙ ap Some is) ∙ asked in cc
 
-pub same_scratch : (words : List (List ℕ)) (read : Command) (at params : Params) → command_of words ≡ Some read → read ≡ Scratch at → built_command words ≡ Some (Scratch params) → at ≡ params
-same_scratch words read at params e is asked = let same : Some (Scratch at) ≡ Some (Scratch params) = sym (built_is words read (Scratch at) e is) ∙ asked in cc
+pub same_scratch : (words : List (List ℕ)) (read : Command) (at params : Params) → command_of words ≡ Some read → read ≡ Scratch at → command_of words ≡ Some (Scratch params) → at ≡ params
+same_scratch words read at params e is asked = let same : Some (Scratch at) ≡ Some (Scratch params) = sym (e ∙ ap Some is) ∙ asked in cc
 
-pub same_sample : (words : List (List ℕ)) (read : Command) (from many start count : ℕ) → command_of words ≡ Some read → read ≡ Sample from many → built_command words ≡ Some (Sample start count)
+pub same_sample : (words : List (List ℕ)) (read : Command) (from many start count : ℕ) → command_of words ≡ Some read → read ≡ Sample from many → command_of words ≡ Some (Sample start count)
     → (from ≡ start) × (many ≡ count)
-same_sample words read from many start count e is asked = let same : Some (Sample from many) ≡ Some (Sample start count) = sym (built_is words read (Sample from many) e is) ∙ asked in (cc, cc)
+same_sample words read from many start count e is asked = let same : Some (Sample from many) ≡ Some (Sample start count) = sym (e ∙ ap Some is) ∙ asked in (cc, cc)
 
 -- What was done for what was read was done for what is asked.
 pub created_by : {D X : Type 0} (d : DiskGhosts D) (i : IndexGhosts X) (disk : D) (ran : Ran D) (at params : Params) → at ≡ params → MakesEmpty d disk ran i at → MakesEmpty d disk ran i params

@@ -15,6 +15,7 @@ use Rattle.boxsum.specs.Ran.{Carried, Compacts, compacted_text}
 use Rattle.boxsum.specs.Spanning.{Derives, LeavesSpanDisk, spans_line}
 use Rattle.boxsum.specs.declared.status.Ran.{Ran}
 use Rattle.boxsum.specs.declared.status.Status.TheVariants.{NoMemory}
+use Rattle.boxsum.proofs.Checked.{nothing_checked}
 use Rattle.boxsum.proofs.Exported.{nothing_exported}
 use Rattle.boxsum.proofs.Nothing.{nothing_caused, nothing_created, nothing_left, nothing_read, nothing_reported, nothing_run, nothing_sampled, nothing_scratched, stays_read}
 use Rattle.boxsum.proofs.Opened.{writes_nothing}
@@ -44,6 +45,7 @@ nothing_carried d s k i disk source sink silent goes_on asked = record {
   sample = λ start count asked. nothing_sampled d s k i disk source sink start count;
   report = λ asked. nothing_reported d s k i disk source sink;
   export = λ asked. nothing_exported d k i disk sink s source;
+  check = λ asked. nothing_checked d k i disk sink s source;
   may_end = any_may_end asked;
   causes = record { ports = nothing_caused s k source sink; disk_fault = λ e. cc };
   tells = refl;
@@ -105,9 +107,8 @@ no_memory_leaves d e k i disk second sink back = record {
   };
   there = λ params told shows still full. record {
     told = inr (inr refl);
-    stands = λ calm list settles. settles;
-    moments = λ list settles. nothing_left _ (e.moments second);
-    untouched = λ calm. stays_read e second;
+    image = refl;
+    moments = refl;
   };
   there_only = λ so. cc;
   makes = λ params h held told takes. record {

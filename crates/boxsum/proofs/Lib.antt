@@ -9,6 +9,7 @@ pub mod AnsweredEach
 pub mod ReadsContent
 pub mod AnswersFrom
 pub mod ReadsWarehouse
+mod Checked
 mod Exported
 mod Compacting
 mod Spanning

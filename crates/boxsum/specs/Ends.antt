@@ -1,7 +1,7 @@
 -- With which statuses each command may end. Those of `spanrun` are those of `report`.
 use Rattle.std.specs.Prelude.{Bool, true, false, Option, Some, None}
 use Rattle.command_words.specs.declared.command.Command.{Command}
-use Rattle.command_words.specs.declared.command.Command.TheVariants.{Create, Run, Scratch, Sample, Report, Export, Compact}
+use Rattle.command_words.specs.declared.command.Command.TheVariants.{Create, Run, Scratch, Sample, Check, Report, Export, Compact}
 use Rattle.boxsum.specs.declared.status.Status.{Status}
 use Rattle.boxsum.specs.declared.status.Status.TheVariants.{Fine, Usage, NoWarehouse, AlreadyThere, ReadFault, WriteFault, DiskFault, NoMemory, Damaged, InputLimit, PageLimit, NoVersion}
 
@@ -56,6 +56,14 @@ ends_export NoMemory = true
 ends_export (Damaged area page) = true
 ends_export _ = false
 
+abbrev pub ends_check : Status → Bool
+ends_check Fine = true
+ends_check NoWarehouse = true
+ends_check WriteFault = true
+ends_check DiskFault = true
+ends_check NoMemory = true
+ends_check _ = false
+
 abbrev pub ends_compact : Status → Bool
 ends_compact Usage = false
 ends_compact ReadFault = false
@@ -83,5 +91,6 @@ may_end (Some (Scratch params)) status = ends_scratch status
 may_end (Some (Sample start count)) status = ends_sample status
 may_end (Some Report) status = ends_report status
 may_end (Some Export) status = ends_export status
+may_end (Some Check) status = ends_check status
 may_end (Some (Compact version)) status = ends_compact status
 may_end (Some _) status = ends_nothing status

@@ -1,10 +1,11 @@
 pub mod Answering
-pub mod Built
+pub mod Checking
 pub mod Ends
 pub mod Held
 pub mod Runs
 pub mod Statuses
 pub mod Printing
 pub mod Compacting
+pub mod OneDisk
 pub mod Ran
 pub mod Spanning

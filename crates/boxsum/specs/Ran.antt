@@ -43,6 +43,7 @@ use Rattle.grid_report.specs.GridCosts.{grid_line_cost}
 use Rattle.span_planes.specs.SpanHolds.{SpanHolds}
 use Rattle.span_planes.specs.SpanRows.{span_line_cost, span_reply}
 use Rattle.boxsum.specs.Answering.{AnswersEach, text_by}
+use Rattle.boxsum.specs.Checking.{Checks}
 use Rattle.boxsum.specs.Compacting.{compacted_line}
 use Rattle.boxsum.specs.Ends as ends
 use Rattle.boxsum.specs.Held.{BeginsWith, CommitsNothing, Content, HoldsBetween, HoldsFrom, HoldsSurely, IsEmptyOrHolds, IsEmptyOrPart, IsNoWarehouse, LeavesEach, MakesAndLoads, Refuses, all_spans, warehouses}
@@ -296,6 +297,11 @@ module _ {D S K X : Type 0} (d : DiskGhosts D) (s : SourceGhosts S) (k : SinkGho
     pub source_stays : source' ≡ source
     pub exports : Exports d k i disk sink sink' ran
 
+  -- `check`
+  pub record CheckRan : Type 0 where
+    pub source_stays : source' ≡ source
+    pub checks : Checks d k i disk sink sink' ran
+
   -- The disk failed, or there was no memory: the warehouse may not have been opened.
   abbrev pub MayNotHaveOpened : Type 0
   MayNotHaveOpened = (ran.status ≡ status.DiskFault) ⊎ (ran.status ≡ status.NoMemory)
@@ -430,6 +436,7 @@ module _ {D S K X : Type 0} (d : DiskGhosts D) (s : SourceGhosts S) (k : SinkGho
     pub sample : (start count : ℕ) → asked ≡ Some (command.Sample start count) → SampleRan start count
     pub report : asked ≡ Some command.Report → ReportRan
     pub export : asked ≡ Some command.Export → ExportRan
+    pub check : asked ≡ Some command.Check → CheckRan
     -- With which statuses each may end, and what they come from.
     pub may_end : IsTrue (ends.may_end asked ran.status)
     pub causes : HasCause

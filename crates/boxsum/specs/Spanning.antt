@@ -6,16 +6,11 @@ use Rattle.bw_types.specs.History.{History, changes, last_version}
 use Rattle.bw_types.specs.declared.params.Params.{Params}
 use Rattle.byte_ports.specs.Written.{WritesPart}
 use Rattle.byte_ports.specs.declared.Sink.{Ghosts as SinkGhosts}
-use Rattle.page_disk.specs.Image.{PageList}
 use Rattle.page_disk.specs.Since.{LeavesOnly}
 use Rattle.page_disk.specs.declared.disk.Area.{Area}
 use Rattle.page_disk.specs.declared.disk.Area.TheVariants.{Pages}
 use Rattle.page_disk.specs.declared.disk.Disk.{Ghosts as DiskGhosts}
-use Rattle.page_space.specs.Opened.{StaysAsRead}
-use Rattle.page_space.specs.Opening.{StandsAlike}
-use Rattle.page_space.specs.Settling.{HasNoReplay}
 use Rattle.redo_journal.specs.Gates.{is_empty}
-use Rattle.redo_journal.specs.Settled.{SettlesTo}
 use Rattle.dom_index.specs.declared.index.DomIndex.{Ghosts as IndexGhosts}
 use Rattle.page_warehouse.specs.Shown.{HoldsHistory}
 use Rattle.span_planes.specs.Filled.{span_growth}
@@ -76,13 +71,11 @@ module _ {D E K X : Type 0} (d : DiskGhosts D) (e : DiskGhosts E) (k : SinkGhost
     pub at_limit : (allotted : ℕ) → ran.status ≡ status.PageLimit allotted → allotted ≡ params.pages
     pub there : ran.status ≢ status.AlreadyThere
 
-  -- A second disk that may not take spans is told to be there. It stands for the pages that it stood for, and so does what a stop at any moment
-  -- leaves. Where nothing is replayed, nothing is written.
+  -- A second disk that may not take spans is told to be there. It is as it was, whatever journal is open on it: no call writes to it.
   pub record KeepsThere : Type 0 where
     pub told : (ran.status ≡ status.AlreadyThere) ⊎ ((ran.status ≡ status.DiskFault) ⊎ (ran.status ≡ status.NoMemory))
-    pub stands : DidNotFail e second (second_of ran) → StandsAlike (e.image second) (e.image ran.second)
-    pub moments : (pages : PageList) → SettlesTo (e.image second) pages → LeavesOnly (λ x. SettlesTo x pages) (e.moments second) (e.moments ran.second)
-    pub untouched : HasNoReplay (e.image second) → StaysAsRead e second ran.second
+    pub image : e.image ran.second ≡ e.image second
+    pub moments : e.moments ran.second ≡ e.moments second
 
   -- What becomes of the second disk.
   pub record LeavesSpanDisk : Type 0 where

@@ -65,7 +65,7 @@ exit_code (NoVersion last) = 12
 -- what is printed to standard error after the program's name
 abbrev pub status_text : Status → List ℕ
 status_text Fine = []
-status_text Usage = codes "usage: boxsum create D [--degree G] [--events N] [--pages N] [--signed S], run, scratch D [--degree G] [--events N] [--signed S], sample START COUNT, spans, spanrun, report, export, compact V"
+status_text Usage = codes "usage: boxsum create D [--degree G] [--events N] [--pages N] [--signed S], run, scratch D [--degree G] [--events N] [--signed S], sample START COUNT, check, spans, spanrun, report, export, compact V"
 status_text NoWarehouse = codes "no warehouse here"
 status_text AlreadyThere = codes "there is a warehouse already"
 status_text ReadFault = codes "input failed"

@@ -30,7 +30,7 @@ fn by_ids(leaf: &Page) -> Page {
 }
 
 // The disk of two boxes that touch, with their table in the earlier form, and how many leaves that has.
-fn earlier(alloc: Global) -> Result<(MemDisk, u64), Fail> {
+pub(crate) fn earlier(alloc: Global) -> Result<(MemDisk, u64), Fail> {
     let (ran, _) = run_over(alloc, "run", TOUCHING.as_bytes(), new_warehouse(alloc)?)?;
     let mut disk = ran.disk;
     let pages = pages_of(alloc, &mut disk, Area::Pages)?;

@@ -22,7 +22,7 @@ pub(crate) fn pages_of(alloc: Global, disk: &mut MemDisk, area: Area) -> Result<
 }
 
 // A disk on which one page of the Pages area is another.
-fn with_page(
+pub(crate) fn with_page(
     alloc: Global,
     pages: &[Page],
     journal: &[Page],
@@ -37,7 +37,7 @@ fn with_page(
 }
 
 // A warehouse of two dimensions with 65 boxes at one point.
-fn many_boxes(alloc: Global) -> Result<MemDisk, Fail> {
+pub(crate) fn many_boxes(alloc: Global) -> Result<MemDisk, Fail> {
     let (ran, _) = run_over(alloc, "create 2", b"", MemDisk::blank(alloc))?;
     let input = many_adds(alloc, 65)?;
     let (ran, _) = run_over(alloc, "run", input.as_bytes(), ran.disk)?;

@@ -8,6 +8,9 @@
 //! `Index`: the crate `parcels` makes one, opens it, commits rows, asks and closes it.
 #![tactic(auto)]
 
+#[cfg(test)]
+mod check_tests;
+mod checking;
 mod compaction;
 #[cfg(test)]
 mod compaction_tests;

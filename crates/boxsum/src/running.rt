@@ -6,10 +6,12 @@ ghost use Rattle.bw_types.specs.declared.params.Params.{Params};
 ghost use Rattle.bw_types.specs.Fits.{IsInRange};
 ghost use Rattle.page_warehouse.specs.Created.{IsNew};
 ghost use Rattle.boxsum.specs.Ends.{ends_run, ends_scratch};
-ghost use Rattle.boxsum.specs.Built.{asks_one_disk, built_command, command_on_one};
+ghost use Rattle.command_words.specs.Command.{command_of};
+ghost use Rattle.boxsum.specs.OneDisk.{asks_one_disk, command_on_one};
 ghost use Rattle.boxsum.specs.Ran.{AnswersFromNothing, Carried, Compacts, HasCause, HasPortCause, MakesEmpty, RunRan, SpanRunRan, first_of, second_of};
 ghost use Rattle.boxsum.specs.Spanning.{Derives};
 
+use crate::checking::check_on;
 use crate::compaction::compact_on;
 use crate::derivation::spans_on;
 use crate::export::export_on;
@@ -35,7 +37,7 @@ use warehouse::ListHouse;
 /// `create` makes an empty warehouse on the disk. `run` opens the warehouse there and answers the rows of the
 /// source; `scratch` answers them over a history in memory, which begins empty. `sample` makes a warehouse, loads rows that are
 /// drawn, and writes a summary. `report` answers the grids that the lines of the source ask for. `export` prints the rows that rebuild the
-/// history of the warehouse on the disk. What `run`, `scratch` and `report` write is the text that the definitions give for all the bytes
+/// history of the warehouse on the disk. `check` tells whether the disk holds a history, and if not, which part of it is broken first. What `run`, `scratch` and `report` write is the text that the definitions give for all the bytes
 /// that the source has left, cut in whatever pieces; where the run ends early it is a part of that text, from its beginning. The disk goes in by value, and comes back at every end.
 /// `compact`, `spans` and `spanrun` need a second disk: here they are no commands.
 ///
@@ -62,6 +64,7 @@ pub fn run<D: Disk + Drop, S: Source, K: Sink>(
         }
         Ok(Command::Report) => report_on::<Index, D, S, K>(alloc, disk, source, sink),
         Ok(Command::Export) => export_on::<Index, D, K>(alloc, disk, sink),
+        Ok(Command::Check) => check_on::<Index, D, K>(alloc, disk, sink),
         Ok(_) | Err(WordsFault::Usage) => Ran {
             status: Status::Usage,
             disk,
@@ -88,14 +91,14 @@ pub fn run_two<D: Disk + Drop, E: Disk + Drop, S: Source, K: Sink>(
     source: &mut S,
     sink: &mut K,
 ) -> RanTwo<D, E>
-    ensures carried { IsTrue (asks_one_disk (built_command (map string_bytes words.now)))
-        → Carried D.Disk S.Source K.Sink ⟦<Index as DomIndex>⟧ disk source.old source.new sink.old sink.new (first_of result) (built_command (map string_bytes words.now))
+    ensures carried { IsTrue (asks_one_disk (command_of (map string_bytes words.now)))
+        → Carried D.Disk S.Source K.Sink ⟦<Index as DomIndex>⟧ disk source.old source.new sink.old sink.new (first_of result) (command_of (map string_bytes words.now))
         × (result.second ≡ second) }
-    ensures compacts { (version : ℕ) → built_command (map string_bytes words.now) ≡ Some (CommandName.Compact version)
+    ensures compacts { (version : ℕ) → command_of (map string_bytes words.now) ≡ Some (CommandName.Compact version)
         → (source.new ≡ source.old) × Compacts D.Disk E.Disk K.Sink ⟦<Index as DomIndex>⟧ disk second sink.old sink.new result version }
-    ensures derives { built_command (map string_bytes words.now) ≡ Some CommandName.Spans
+    ensures derives { command_of (map string_bytes words.now) ≡ Some CommandName.Spans
         → (source.new ≡ source.old) × Derives D.Disk E.Disk K.Sink ⟦<Index as DomIndex>⟧ disk second sink.old sink.new result }
-    ensures span_run { built_command (map string_bytes words.now) ≡ Some CommandName.SpanRun
+    ensures span_run { command_of (map string_bytes words.now) ≡ Some CommandName.SpanRun
         → (result.disk ≡ disk) × SpanRunRan E.Disk S.Source K.Sink ⟦<Index as DomIndex>⟧ second source.old source.new sink.old sink.new (second_of result) }
 {
     machine_laws();

@@ -150,7 +150,7 @@ impl fmt::Display for Status {
         match self {
             Status::Fine => f.write_str(""),
             Status::Usage => f.write_str(
-                "usage: boxsum create D [--degree G] [--events N] [--pages N] [--signed S], run, scratch D [--degree G] [--events N] [--signed S], sample START COUNT, spans, spanrun, report, export, compact V",
+                "usage: boxsum create D [--degree G] [--events N] [--pages N] [--signed S], run, scratch D [--degree G] [--events N] [--signed S], sample START COUNT, check, spans, spanrun, report, export, compact V",
             ),
             Status::NoWarehouse => f.write_str("no warehouse here"),
             Status::AlreadyThere => f.write_str("there is a warehouse already"),

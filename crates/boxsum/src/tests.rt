@@ -184,7 +184,7 @@ const CASES: [Case; 27] = [
 ];
 
 // Words that are refused: none, unknown ones, values out of range, and commands that are not built.
-const REFUSED_WORDS: [&str; 19] = [
+const REFUSED_WORDS: [&str; 18] = [
     "",
     "--help",
     "scratch",
@@ -199,7 +199,6 @@ const REFUSED_WORDS: [&str; 19] = [
     "create 2 --degree 3",
     "run x",
     "run --degree 1",
-    "check",
     "sample",
     "sample 0",
     "sample 0 20001",
@@ -500,7 +499,7 @@ fn many_objects_at_one_point(rt: HostRuntime) -> Result<(), Fail> {
 #[test]
 fn texts_of_statuses(rt: HostRuntime) -> Result<(), Fail> {
     let usage =
-        "usage: boxsum create D [--degree G] [--events N] [--pages N] [--signed S], run, scratch D [--degree G] [--events N] [--signed S], sample START COUNT, spans, spanrun, report, export, compact V";
+        "usage: boxsum create D [--degree G] [--events N] [--pages N] [--signed S], run, scratch D [--degree G] [--events N] [--signed S], sample START COUNT, check, spans, spanrun, report, export, compact V";
     let texts = [
         (Status::Usage, 2, usage),
         (Status::NoWarehouse, 3, "no warehouse here"),

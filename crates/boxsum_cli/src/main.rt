@@ -10,7 +10,7 @@ ghost use Rattle.boxsum.specs.Statuses.{exit_code};
 
 mod words;
 
-use crate::words::{is_for_spans, words_behind};
+use crate::words::{is_for_spans, spans_begin_so, words_behind};
 use boxsum::{Status, run_two};
 use byte_ports::{StdSink, StdSource};
 use page_disk::{Failure, FileDisk};
@@ -63,6 +63,8 @@ fn run_on(rt: &HostRuntime) -> (Status, Option<Failure>) {
     };
     // The files are opened, and made where absent, at the first call on a disk.
     let disk = FileDisk::new(rt.alloc(), files);
+    // The first word tells which files the command works on.
+    spans_begin_so();
     let second = if is_for_spans(words.as_slice()) {
         FileDisk::named(rt.alloc(), more_files, SPANS_PAGES, SPANS_JOURNAL)
     } else {

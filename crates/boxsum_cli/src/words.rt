@@ -1,7 +1,7 @@
 //! The words of the command line.
 ghost use Rattle.std.specs.Prelude.{◌≡◌, IfSome, drop, map, string_bytes};
 ghost use Rattle.std.specs.Vec.Iter.{into_iter_items};
-ghost use Rattle.boxsum_cli.specs.Words.{begins_with_spans};
+ghost use Rattle.boxsum_cli.specs.Words.{SpansBeginSo, begins_with_spans};
 
 use std::alloc::Global;
 use std::env::Args;
@@ -30,3 +30,8 @@ pub(crate) fn is_for_spans(words: &[String]) -> bool
         None => false,
     }
 }
+
+/// Proves that words that ask for a command begin so exactly where that is one on the files of the spans; it does nothing when it runs.
+pub(crate) fn spans_begin_so()
+    ensures { SpansBeginSo }
+{}

@@ -14,7 +14,7 @@ use Rattle.boxsum.specs.declared.status.Status.{Status}
 use Rattle.boxsum.specs.declared.status.Status.TheVariants as status
 use Rattle.boxsum.proofs.Carrying.{no_memory_leaves}
 use Rattle.boxsum.proofs.Endings.{fault_of, never_falls, no_fault, rises}
-use Rattle.boxsum.proofs.Nothing.{nothing_left, stays_read}
+use Rattle.boxsum.proofs.Nothing.{nothing_left}
 use Rattle.boxsum.proofs.Opened.{for_queries, not_damaged, only_memory, refused_status, writes_nothing}
 use Rattle.boxsum.proofs.ReadsWarehouse.{GivesBack, holds_on, never_empty, never_none, reads_opened, reads_refused, stands_here}
 use Rattle.boxsum.proofs.Spanning.{derived_complete, derived_may_end, derived_of, derived_put, derived_there, done_of, failed_by, no_failure, no_journal_of, part_by, put_by, refused_may_end, shown_stopped, silent_by, status_by}
@@ -40,9 +40,8 @@ returns-in-Err g c =
           };
           there = λ params told shows still full. record {
             told = inr (shown_stopped g.D.Disk c.args.disk g.X.DomIndex.DIMS params f s c.holds_one.ensures.one c.held_opens.ensures told shows e.refused.empty e.refused.bad_journal e.refused.damaged c.from.ensures);
-            stands = λ calm list settles. settles;
-            moments = λ list settles. nothing_left _ (g.E.Disk.moments c.args.second);
-            untouched = λ calm. stays_read g.E.Disk c.args.second;
+            image = refl;
+            moments = refl;
           };
           there_only = λ so. absurd (no_fault f s status.AlreadyThere c.from.ensures so refl);
           makes = λ params h held told takes.
@@ -162,10 +161,8 @@ returns g c =
                   let stays = d.there still (subst (λ (p : Params). MayTakeSpans p x → ⊥) (sym same) full) in
                   record {
                     told = derived_there k before put line r s ends stays.only.0 stays.only.1.0 stays.only.1.1;
-                    stands = λ calm. stays.stands
-                        (λ y is rose. calm (disk_failed y is) (subst (λ (z : g.row.E.Denot). Rose (g.E.Disk.faults c.args.second) (g.E.Disk.faults z)) (sym (ap second_out is)) rose));
+                    image = stays.image;
                     moments = stays.moments;
-                    untouched = stays.untouched;
                   };
               there_only = λ so still. false_from_ne_true (is_empty x) (λ none. (d.ready still (inl none)).there (second_out r) (is_there so));
               makes = λ params h held told takes.
