@@ -19,6 +19,7 @@ use Rattle.boxsum.proofs.Checked.{nothing_checked}
 use Rattle.boxsum.proofs.Exported.{nothing_exported}
 use Rattle.boxsum.proofs.Nothing.{nothing_caused, nothing_created, nothing_left, nothing_read, nothing_reported, nothing_run, nothing_sampled, nothing_scratched, stays_read}
 use Rattle.boxsum.proofs.Opened.{writes_nothing}
+use Rattle.boxsum.proofs.Spanning.{still_ready}
 
 -- each command may end so
 any_may_end : (asked : Option Command) → IsTrue (may_end asked NoMemory)
@@ -101,7 +102,7 @@ pub no_memory_leaves : {D E K X : Type 0} (d : DiskGhosts D) (e : DiskGhosts E) 
 no_memory_leaves d e k i disk second sink back = record {
   unopened = λ told why. refl;
   ready = λ params told shows still takes. record {
-    ready = λ undone calm. (takes, nothing_left _ (e.moments second));
+    ready = λ undone calm. (still_ready params (e.image second), nothing_left _ (e.moments second));
     at_limit = λ allotted so. cc;
     there = λ so. cc;
   };
@@ -118,7 +119,7 @@ no_memory_leaves d e k i disk second sink back = record {
     none = λ why. elim why [ inl so ↦ cc | inr so ↦ cc ];
     first = λ why. elim why [ inl so ↦ cc | inr so ↦ cc ];
     moments = nothing_left _ (e.moments second);
-    limit = λ allotted so. cc;
+    limit = λ allotted before so given. cc;
     undamaged = λ area page so. cc;
     complete = λ calm other limit. inr refl;
   };

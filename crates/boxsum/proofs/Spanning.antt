@@ -9,12 +9,13 @@ use Rattle.page_space.specs.Faults.{AtBadJournal, AtDamaged, AtEmpty}
 use Rattle.page_space.specs.Laws.{HeldOpens, HoldsOne}
 use Rattle.page_space.specs.Settling.{IsBadAt}
 use Rattle.redo_journal.specs.Gates.{is_empty}
+use Rattle.page_disk.specs.Image.{Image}
 use Rattle.page_disk.specs.declared.disk.Disk.{Ghosts as DiskGhosts}
 use Rattle.page_disk.specs.declared.disk.Area.TheVariants.{Pages, Journal}
 use Rattle.page_space.specs.declared.refusal.OpenFault.{OpenFault}
 use Rattle.page_space.specs.declared.refusal.OpenFault.TheVariants as fault
 use Rattle.page_warehouse.specs.Opened.{GoTogether, IsDamagedToOpen, IsNoWarehouseAt}
-use Rattle.span_planes.specs.Made.{second_out}
+use Rattle.span_planes.specs.Made.{IsStillReady, second_out}
 use Rattle.span_planes.specs.declared.making.Derived.{Derived}
 use Rattle.span_planes.specs.declared.making.Derived.TheVariants as derived
 use Rattle.boxsum.specs.Ends.{ends_spans}
@@ -25,6 +26,10 @@ use Rattle.boxsum.specs.Statuses.{status_of_fault}
 use Rattle.boxsum.specs.declared.status.Status.{Status}
 use Rattle.boxsum.specs.declared.status.Status.TheVariants.{Fine, AlreadyThere, WriteFault, DiskFault, NoMemory, Damaged, PageLimit}
 use Rattle.boxsum.proofs.Opened.{writes_nothing}
+
+-- a disk that is as it was is still as ready for spans as it was
+pub still_ready : (params : Params) (x : Image) → IsStillReady params x x
+still_ready params x = record { alike = λ pages settles. settles; empty = λ none. inl none }
 
 -- no page of a disk that shows a warehouse is the one for which it has none
 no_warehouse_at : {D : Type 0} (d : DiskGhosts D) (disk : D) (dims : ℕ) (params : Params) (page : ℕ) → HoldsOne → ShowsWarehouse dims params (d.image disk) → IsNoWarehouseAt dims (d.image disk) page → ⊥

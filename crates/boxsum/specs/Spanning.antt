@@ -14,7 +14,7 @@ use Rattle.redo_journal.specs.Gates.{is_empty}
 use Rattle.dom_index.specs.declared.index.DomIndex.{Ghosts as IndexGhosts}
 use Rattle.page_warehouse.specs.Shown.{HoldsHistory}
 use Rattle.span_planes.specs.Filled.{span_growth}
-use Rattle.span_planes.specs.Made.{MayTakeSpans}
+use Rattle.span_planes.specs.Made.{HasGivenOut, HoldsNoVersion, IsStillReady, MayTakeSpans}
 use Rattle.span_planes.specs.SpanHolds.{SpanHolds}
 use Rattle.span_planes.specs.declared.making.Derived.{Derived}
 use Rattle.span_planes.specs.declared.making.Derived.TheVariants as derived
@@ -50,24 +50,25 @@ module _ {D E K X : Type 0} (d : DiskGhosts D) (e : DiskGhosts E) (k : SinkGhost
     pub done : IsDone → SurelyHolds e (all_spans i) params h ran.second
     pub fine : ran.status ≡ status.Fine → IsTrue (k.tells sink) → IsTrue (k.tells sink') × (k.written sink' ≡ k.written sink ++ spans_line (last_version h))
     pub part : IsTrue (k.tells sink) → IsTrue (k.tells sink') → WritesPart (k.written sink) (k.written sink') (spans_line (last_version h))
-    -- Spans of no version may be replaced by those of more.
-    pub none : IsDone → last_version h ≡ 0 → MayTakeSpans params (e.image ran.second)
+    -- Spans of no version may be replaced by those of more, and are those that were there.
+    pub none : IsDone → last_version h ≡ 0 → HoldsNoVersion params (e.image ran.second) × IsStillReady params (e.image second) (e.image ran.second)
     -- A crash now leaves the first disk with its history.
     pub first : IsDone → HoldsSurely d i params h ran.disk
     -- A stop at any moment leaves what might have been left before, what may take spans, or all of them.
     pub moments : LeavesOnly (λ x. MayTakeSpans params x ⊎ SpanHolds i x params h) (e.moments second) (e.moments ran.second)
-    -- Pages lack only where the stated need passes the limit.
-    pub limit : (allotted : ℕ) → ran.status ≡ status.PageLimit allotted → params.pages < 3 + span_growth params (length (changes h))
+    -- Pages lack only where the stated need passes the limit, beside what was given out before.
+    pub limit : (allotted before : ℕ) → ran.status ≡ status.PageLimit allotted → HasGivenOut params (e.image second) before
+        → params.pages < before + span_growth params (length (changes h))
     pub undamaged : (area : Area) (page : ℕ) → ran.status ≢ status.Damaged area page
     -- With no fault, pages enough and ample memory it is fine.
     pub complete : (Rose (k.faults sink) (k.faults sink') → ⊥) → ran.status ≢ status.DiskFault → ((allotted : ℕ) → ran.status ≢ status.PageLimit allotted)
         → (ran.status ≡ status.Fine) ⊎ (ran.status ≡ status.NoMemory)
 
-  -- A second disk that may take spans, whatever history the first one holds: unless it is done or the second one failed, that may take them
-  -- still, and so may what a stop at any moment left beside what might have been left before.
+  -- A second disk that may take spans, whatever history the first one holds: unless it is done or the second one failed, that is still ready
+  -- for them, and what a stop at any moment left may take them, beside what might have been left before.
   pub record KeepsReady (params : Params) : Type 0 where
     pub ready : (IsDone → ⊥) → DidNotFail e second (second_of ran)
-        → MayTakeSpans params (e.image ran.second) × LeavesOnly (MayTakeSpans params) (e.moments second) (e.moments ran.second)
+        → IsStillReady params (e.image second) (e.image ran.second) × LeavesOnly (MayTakeSpans params) (e.moments second) (e.moments ran.second)
     pub at_limit : (allotted : ℕ) → ran.status ≡ status.PageLimit allotted → allotted ≡ params.pages
     pub there : ran.status ≢ status.AlreadyThere
 
@@ -81,7 +82,7 @@ module _ {D E K X : Type 0} (d : DiskGhosts D) (e : DiskGhosts E) (k : SinkGhost
   pub record LeavesSpanDisk : Type 0 where
     -- It is not called where the first one has no warehouse.
     pub unopened : IsTrue (d.tells disk) → (is_empty (d.image disk) ≡ true) ⊎ IsNoWarehouse i.DIMS (d.image disk) → ran.second ≡ second
-    -- It may take spans where it is empty, or has spans of no version, made for such a warehouse.
+    -- It may take spans where it is empty, or holds spans of no version, made for such a warehouse.
     pub ready : (params : Params) → IsTrue (d.tells disk) → ShowsWarehouse i.DIMS params (d.image disk) → IsTrue (e.tells second) → MayTakeSpans params (e.image second) → KeepsReady params
     pub there : (params : Params) → IsTrue (d.tells disk) → ShowsWarehouse i.DIMS params (d.image disk) → IsTrue (e.tells second) → (MayTakeSpans params (e.image second) → ⊥) → KeepsThere
     pub there_only : ran.status ≡ status.AlreadyThere → IsTrue (e.tells second) → is_empty (e.image second) ≡ false

@@ -6,7 +6,7 @@ use Rattle.bw_types.specs.declared.params.Params.{Params}
 use Rattle.page_space.specs.declared.refusal.OpenFault.TheVariants as fault
 use Rattle.page_warehouse.specs.Shown.{HasNewForm, HoldsHistory, disk_charge, disk_in, params_in}
 use Rattle.redo_journal.specs.Gates.{is_empty}
-use Rattle.span_planes.specs.Made.{LeavesSpans, MayTakeSpans, StaysReady, second_out}
+use Rattle.span_planes.specs.Made.{HoldsNoVersion, IsStillReady, LeavesSpans, MayTakeSpans, StaysReady, second_out}
 use Rattle.span_planes.specs.declared.making.Derived.TheVariants as derived
 use Rattle.warehouse.specs.Left.{IsAsBefore}
 use Rattle.boxsum.specs.Spanning.{Derives, failure_of, spans_line}
@@ -17,7 +17,7 @@ use Rattle.boxsum.proofs.Endings.{fault_of, never_falls, no_fault, rises}
 use Rattle.boxsum.proofs.Nothing.{nothing_left}
 use Rattle.boxsum.proofs.Opened.{for_queries, not_damaged, only_memory, refused_status, writes_nothing}
 use Rattle.boxsum.proofs.ReadsWarehouse.{GivesBack, holds_on, never_empty, never_none, reads_opened, reads_refused, stands_here}
-use Rattle.boxsum.proofs.Spanning.{derived_complete, derived_may_end, derived_of, derived_put, derived_there, done_of, failed_by, no_failure, no_journal_of, part_by, put_by, refused_may_end, shown_stopped, silent_by, status_by}
+use Rattle.boxsum.proofs.Spanning.{derived_complete, derived_may_end, derived_of, derived_put, derived_there, done_of, failed_by, no_failure, no_journal_of, part_by, put_by, refused_may_end, shown_stopped, silent_by, status_by, still_ready}
 use Rattle.boxsum.proofs.derivation.spans_on.Goals as goal
 
 pub returns-in-Err : goal.returns-in-Err
@@ -34,7 +34,7 @@ returns-in-Err g c =
         leaves = record {
           unopened = λ told why. refl;
           ready = λ params told shows still takes. record {
-            ready = λ undone calm. (takes, nothing_left _ (g.E.Disk.moments c.args.second));
+            ready = λ undone calm. (still_ready params (g.E.Disk.image c.args.second), nothing_left _ (g.E.Disk.moments c.args.second));
             at_limit = λ allotted so. absurd (no_fault f s (status.PageLimit allotted) c.from.ensures so refl);
             there = λ so. no_fault f s status.AlreadyThere c.from.ensures so refl;
           };
@@ -63,7 +63,7 @@ returns-in-Err g c =
                   | inr so ↦ no_fault f s status.WriteFault c.from.ensures so refl
                 ]);
                 moments = nothing_left _ (g.E.Disk.moments c.args.second);
-                limit = λ allotted so. absurd (no_fault f s (status.PageLimit allotted) c.from.ensures so refl);
+                limit = λ allotted before so given. absurd (no_fault f s (status.PageLimit allotted) c.from.ensures so refl);
                 undamaged = λ area page. not_damaged s area page stopped;
                 complete = λ calm other limit. only_memory s stopped other;
               };
@@ -185,11 +185,12 @@ returns g c =
                         let none : failure_of r ≡ None = elim why [ inl so ↦ (fine so).0 | inr so ↦ (wrote so).0 ] in
                         let w = done_of r none in
                         let number : w.0 ≡ 0 = (left.done (second_out r) w.0 w.1).0 ∙ zero in
-                        subst (λ (p : Params). MayTakeSpans p (g.E.Disk.image (second_out r))) here.0
-                        (d.none (second_out r) (subst (λ (n : ℕ). r ≡ derived.Done (second_out r) n) number w.1) told);
+                        let y = g.E.Disk.image (second_out r) in
+                        subst (λ (p : Params). HoldsNoVersion p y × IsStillReady p x y) here.0
+                        (d.none (second_out r) (subst (λ (n : ℕ). r ≡ derived.Done (second_out r) n) number w.1) told given);
                     first = λ why. holds_on g.D.Disk g.X.DomIndex c.args.disk house o back after d.kept params h held;
                     moments = left.moments;
-                    limit = λ allotted so. left.limit (second_out r) allotted (limited allotted so);
+                    limit = λ allotted before so first. left.limit (second_out r) allotted before (limited allotted so) first;
                     undamaged = λ area page so.
                         left.sound (second_out r) page (derived_of r (derived.Damaged (second_out r) page) (status.Damaged area page) (failed (status.Damaged area page) so (λ no. cc) (λ no. cc) (λ no. cc)) refl);
                     complete = λ calm other limit. derived_complete k before put line r s ends calm other limit (d.ready told given).there left.sound;
