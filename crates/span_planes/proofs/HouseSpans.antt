@@ -34,14 +34,14 @@ module _ {E X : Type 0} (g : Ghosts E) (i : IndexGhosts X) (params : Params) (h 
       failed_leaves g i params h second back (subst (λ (ms : List Moment). LeavesOnly (IsPossible g i params h) (g.moments second) ms) (sym same) (LeavesOnly-same (IsPossible g i params h) (g.moments second)))
   gathered_leaves second back (gather_fault.Damaged page) same sound = absurd (sound page refl)
   gathered_leaves second back gather_fault.NoMemory same sound =
-      undone_leaves g i params h second (NoMemory back) (λ e version is. cc) (λ e allotted is. absurd (cc)) (λ e page is. cc)
+      undone_leaves g i params h second (NoMemory back) (λ e version is. cc) (λ e allotted before is. absurd (cc)) (λ e page is. cc)
       (subst (λ (ms : List Moment). LeavesOnly (IsPossible g i params h) (g.moments second) ms) (sym same) (LeavesOnly-same (IsPossible g i params h) (g.moments second)))
 
   -- the second disk was refused
   pub refused_leaves : (second : E) (ended : Derived E) → IsRefused g params second ended → IsTrue (g.tells second) → MayTakeSpans params (g.image second)
       → LeavesOnly (IsPossible g i params h) (g.moments second) (g.moments (second_out ended)) → LeavesSpans g i params h second ended
   refused_leaves second ended r told may moments =
-      undone_leaves g i params h second ended r.early.not_done (λ e allotted is. absurd (r.early.not_limited e allotted is)) (r.sound told may).1 moments
+      undone_leaves g i params h second ended r.early.not_done (λ e allotted before is. absurd (r.early.not_limited e allotted is)) (r.sound told may).1 moments
 
 -- a history without a version is the empty one
 pub none_yet : (h : History) → 0 ≡ last_version h → h ≡ []

@@ -13,7 +13,9 @@ pub mod FillWeights
 pub mod FillGrowth
 pub mod FillTurns
 pub mod FilledMore
-pub mod StoodSpans
+pub mod NoVersionSpans
+pub mod StillReady
+pub mod ToldNone
 pub mod SameValues
 pub mod Readied
 pub mod InTurn

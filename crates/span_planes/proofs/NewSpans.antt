@@ -9,19 +9,12 @@ use Rattle.bw_types.specs.Fits.{IsInRange}
 use Rattle.bw_types.specs.declared.params.Params.{Params}
 use Rattle.bw_types.specs.declared.point.Point.{Point}
 use Rattle.bw_types.specs.declared.tree.Tree.{Tree}
-use Rattle.page_disk.specs.Image.{Image}
-use Rattle.page_layout.specs.Footprint.{NamesNoneTwice}
 use Rattle.page_layout.specs.Meta.{IsMeta, IsTyped}
 use Rattle.page_layout.specs.TreeValue.{IsTreeTyped, tree_fits}
-use Rattle.page_ports.specs.Pages.{PageMap, empty_map}
-use Rattle.page_space.specs.Laws.{CreatedHolds}
-use Rattle.dom_index.specs.declared.index.DomIndex.{Ghosts}
-use Rattle.corner_forest.specs.Entries.{corner_count}
 use Rattle.corner_forest.specs.Trees.{EachStands}
-use Rattle.history_laws.specs.Bounds.{HasSmallWeight}
-use Rattle.span_planes.specs.Made.{IsNew, new_meta}
-use Rattle.span_planes.specs.SpanHolds.{SpanHolds, without_degree}
-use Rattle.span_planes.specs.SpanPoints.{dated_weight, plain_weight, span_points, span_roots}
+use Rattle.span_planes.specs.Made.{new_meta}
+use Rattle.span_planes.specs.SpanHolds.{without_degree}
+use Rattle.span_planes.specs.SpanPoints.{span_roots}
 
 -- how many trees there are at most
 pub roots_few : (dims : ℕ) → dims ≤ 3 → 2 * 2 ^ dims ≤ 16
@@ -90,26 +83,3 @@ module _ (stands : Tree → List Point → Type 0) (points : ℕ → List Point)
 pub no_pages : (footprint : Tree → List ℕ) (n : ℕ) → footprint empty_tree ≡ [] → flat_map footprint (replicate n empty_tree) ≡ []
 no_pages footprint zero none = refl
 no_pages footprint (suc n) none = ap (λ (ps : List ℕ). ps ++ flat_map footprint (replicate n empty_tree)) none ∙ no_pages footprint n none
-
-module _ {X : Type 0} (g : Ghosts X) where
-  pub new_spans : CreatedHolds
-      → ((pages : PageMap) (dims : ℕ) → 1 ≤ dims → dims ≤ g.DIMS → g.stands pages dims empty_tree [] × (g.footprint pages dims empty_tree ≡ []) × g.balanced pages dims empty_tree)
-      → (x : Image) (params : Params) → IsInRange params → params.dims ≤ g.DIMS → IsNew params x → SpanHolds g x params []
-  new_spans created empty x params r dims new =
-      let tree = empty empty_map params.dims r.some_dims dims in
-      record {
-        meta = new_meta params;
-        pages = empty_map;
-        space = created x (without_degree params) (new_meta params) (range_without_degree params r) (meta_rules params r) (meta_typed params) refl refl new;
-        tells = record { version = refl; events = refl; rows = refl; table = refl; roots = length-replicate (span_roots params) empty_tree };
-        range = r;
-        lawful = tt;
-        weights = All-nil HasSmallWeight;
-        trees = record {
-          dims = dims;
-          plain = first_empty (g.stands empty_map params.dims) (span_points params plain_weight []) tree.0 (λ place. refl) 0 (corner_count params) (span_roots params);
-          dated = others_empty (g.stands empty_map params.dims) (span_points params dated_weight []) tree.0 (λ place. refl) 0 (corner_count params) (span_roots params);
-          balanced = all_same (g.balanced empty_map params.dims) (span_roots params) empty_tree tree.2;
-        };
-        apart = subst (λ (ps : List ℕ). NamesNoneTwice ps) (sym (no_pages (g.footprint empty_map params.dims) (span_roots params) tree.1)) tt;
-      }

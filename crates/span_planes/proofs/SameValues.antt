@@ -14,7 +14,7 @@ use Rattle.page_layout.specs.declared.meta.Meta.{Meta}
 abbrev tree_test : Tree → Tree → Bool
 tree_test s t = (s.root == t.root) && ((s.levels == t.levels) && ((s.count == t.count) && ((s.changes == t.changes) && (s.last == t.last))))
 
-tree_path : (s t : Tree) → s.root ≡ t.root → s.levels ≡ t.levels → s.count ≡ t.count → s.changes ≡ t.changes → s.last ≡ t.last → s ≡ t
+pub tree_path : (s t : Tree) → s.root ≡ t.root → s.levels ≡ t.levels → s.count ≡ t.count → s.changes ≡ t.changes → s.last ≡ t.last → s ≡ t
 tree_path s t root levels count changes last = λ i. record { root = root i; levels = levels i; count = count i; changes = changes i; last = last i }
 
 both : (a b : Bool) → a ≡ true → b ≡ true → (a && b) ≡ true

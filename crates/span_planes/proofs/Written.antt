@@ -19,13 +19,14 @@ use Rattle.page_ports.specs.declared.page.StageFault.TheVariants as fault
 use Rattle.page_space.specs.Space.{HoldsSpace}
 use Rattle.span_planes.specs.Ended.{abandoning_of}
 use Rattle.span_planes.specs.Filled.{FilledTrees, entries_in, span_growth}
-use Rattle.span_planes.specs.Made.{LeavesSpans, MayTakeSpans, second_out}
+use Rattle.span_planes.specs.Made.{HasGivenOut, LeavesSpans, MayTakeSpans, second_out}
 use Rattle.span_planes.specs.SpanHolds.{SpanHolds, without_degree}
 use Rattle.span_planes.specs.Writing.{AreAllOf, IsMetaFor}
 use Rattle.span_planes.specs.declared.making.Derived.{Derived}
 use Rattle.span_planes.specs.declared.making.Derived.TheVariants.{Done, PageLimit, Damaged, NoMemory, Disk}
 use Rattle.span_planes.proofs.EventEntries.{entries_permuted}
 use Rattle.span_planes.proofs.InTurn.{event_number}
+use Rattle.span_planes.proofs.NoVersionSpans.{in_order}
 use Rattle.span_planes.proofs.StandingSpans.{spans_stand}
 
 -- The space that was filled holds the spans.
@@ -37,18 +38,7 @@ module _ {X : Type 0} (i : IndexGhosts X)
   spans_held x order ordered space = record {
     meta = meta;
     pages = after;
-    space = record {
-      pages = space.pages;
-      settled = space.settled;
-      space = record {
-        superblock = space.space.superblock;
-        roots = space.space.roots;
-        there = space.space.there;
-        few = space.space.few;
-        in_use = space.space.in_use;
-        in_order = λ _. space.space.in_order ordered;
-      };
-    };
+    space = in_order x (without_degree params) meta after order ordered space;
     tells = record {
       version = is.version ∙ all.last_is;
       events = is.events;
@@ -79,13 +69,13 @@ module _ {E X : Type 0} (g : Ghosts E) (i : IndexGhosts X) (params : Params) (h 
               (holds, λ x left. subst (λ (y : Image). SpanHolds i y params h) (sym (settled x left)) holds),
         );
     moments = moments;
-    limit = λ f allotted same. absurd (cc);
+    limit = λ f allotted before same. absurd (cc);
     sound = λ f page same. cc;
   }
 
   -- not all was written
   pub undone_leaves : (second : E) (ended : Derived E) → ((e : E) (version : ℕ) → ended ≢ Done e version)
-      → ((e : E) (allotted : ℕ) → ended ≡ PageLimit e allotted → params.pages < 3 + span_growth params (length (changes h)))
+      → ((e : E) (allotted before : ℕ) → ended ≡ PageLimit e allotted → HasGivenOut params (g.image second) before → params.pages < before + span_growth params (length (changes h)))
       → ((e : E) (page : ℕ) → ended ≢ Damaged e page) → LeavesOnly IsPossible (g.moments second) (g.moments (second_out ended)) → LeavesSpans g i params h second ended
   undone_leaves second ended not_done limit sound moments = record {
     done = λ e version same. absurd (not_done e version same);
@@ -96,27 +86,27 @@ module _ {E X : Type 0} (g : Ghosts E) (i : IndexGhosts X) (params : Params) (h 
 
   -- the disk failed
   pub failed_leaves : (second e : E) → LeavesOnly IsPossible (g.moments second) (g.moments e) → LeavesSpans g i params h second (Disk e)
-  failed_leaves second e moments = undone_leaves second (Disk e) (λ f version is. cc) (λ f allotted is. absurd (cc)) (λ f page is. cc) moments
+  failed_leaves second e moments = undone_leaves second (Disk e) (λ f version is. cc) (λ f allotted before is. absurd (cc)) (λ f page is. cc) moments
 
   unchanged : (second back : E) → g.moments back ≡ g.moments second → LeavesOnly IsPossible (g.moments second) (g.moments back)
   unchanged second back same = subst (λ (ms : List Moment). LeavesOnly IsPossible (g.moments second) ms) (sym same) (LeavesOnly-same IsPossible (g.moments second))
 
   -- the stage was abandoned
   pub abandoned_leaves : (second back : E) (f : StageFault) → g.moments back ≡ g.moments second → ((page : ℕ) → f ≢ fault.Damaged page)
-      → ((n : ℕ) → f ≡ fault.PageLimit n → params.pages < 3 + span_growth params (length (changes h))) → LeavesSpans g i params h second (abandoning_of f back)
+      → ((n before : ℕ) → f ≡ fault.PageLimit n → HasGivenOut params (g.image second) before → params.pages < before + span_growth params (length (changes h))) → LeavesSpans g i params h second (abandoning_of f back)
   abandoned_leaves second back fault.Disk same sound limit = failed_leaves second back (unchanged second back same)
   abandoned_leaves second back (fault.Damaged page) same sound limit = absurd (sound page refl)
   abandoned_leaves second back (fault.PageLimit n) same sound limit =
-      undone_leaves second (PageLimit back n) (λ e version is. cc) (λ e allotted is. limit n refl) (λ e page is. cc) (unchanged second back same)
+      undone_leaves second (PageLimit back n) (λ e version is. cc) (λ e allotted before is. limit n before refl) (λ e page is. cc) (unchanged second back same)
   abandoned_leaves second back fault.NoMemory same sound limit =
-      undone_leaves second (NoMemory back) (λ e version is. cc) (λ e allotted is. absurd (cc)) (λ e page is. cc) (unchanged second back same)
+      undone_leaves second (NoMemory back) (λ e version is. cc) (λ e allotted before is. absurd (cc)) (λ e page is. cc) (unchanged second back same)
 
   -- what was so before the second disk was opened
-  pub leaves_before : (start second : E) (result : Derived E) → LeavesOnly IsPossible (g.moments start) (g.moments second) → LeavesSpans g i params h second result → LeavesSpans g i params h start result
-  leaves_before start second result earlier l = record {
+  pub leaves_before : (start second : E) (result : Derived E) → ((n : ℕ) → HasGivenOut params (g.image start) n → HasGivenOut params (g.image second) n) → LeavesOnly IsPossible (g.moments start) (g.moments second) → LeavesSpans g i params h second result → LeavesSpans g i params h start result
+  leaves_before start second result given earlier l = record {
     done = l.done;
     moments = LeavesOnly-then IsPossible (g.moments start) (g.moments second) (g.moments (second_out result)) earlier l.moments;
-    limit = l.limit;
+    limit = λ e allotted before is out. l.limit e allotted before is (given before out);
     sound = l.sound;
   }
 

@@ -1,5 +1,6 @@
 -- A disk on which spans are made.
-use Rattle.std.specs.Prelude.{◌≡◌, ◌≢◌, ◌⊎◌, ℕ, ◌+◌, ◌<◌, ◌≤◌, true, [], length, replicate}
+use Rattle.std.specs.Prelude.{◌≡◌, ◌≢◌, ◌⊎◌, ◌↔◌, ℕ, ◌+◌, ◌<◌, ◌≤◌, true, [], length, replicate}
+use Rattle.std.specs.List.{All}
 use Rattle.bw_types.specs.Empty.{empty_tree}
 use Rattle.bw_types.specs.Fits.{IsInRange}
 use Rattle.bw_types.specs.History.{History, changes, last_version}
@@ -12,11 +13,12 @@ use Rattle.page_disk.specs.declared.disk.Disk.{Ghosts}
 use Rattle.page_layout.specs.Meta.{meta_page}
 use Rattle.page_layout.specs.declared.meta.Meta.{Meta}
 use Rattle.page_ports.specs.Pages.{PageMap}
+use Rattle.page_space.specs.Opening.{StandsAlike}
 use Rattle.page_space.specs.Space.{HoldsSpace, params_page}
 use Rattle.redo_journal.specs.Gates.{IsCreated, is_empty}
 use Rattle.dom_index.specs.declared.index.DomIndex.{Ghosts as IndexGhosts}
 use Rattle.span_planes.specs.Filled.{span_growth}
-use Rattle.span_planes.specs.SpanHolds.{SpanHolds, without_degree}
+use Rattle.span_planes.specs.SpanHolds.{SpanHolds, TellsSpans, without_degree}
 use Rattle.span_planes.specs.SpanPoints.{span_roots}
 use Rattle.span_planes.specs.declared.making.Derived.{Derived}
 use Rattle.span_planes.specs.declared.making.Derived.TheVariants.{Done, AlreadyThere, PageLimit, Damaged, NoMemory, Disk}
@@ -39,14 +41,34 @@ new_meta params = record {
 abbrev pub IsNew : Params → Image → Type 0
 IsNew params x = IsCreated (params_page (without_degree params)) (meta_page (new_meta params)) x
 
--- The disk stands for new spans: of a warehouse with these params, without versions, and no page is given out to a tree.
-pub record StandsNew (params : Params) (x : Image) : Type 0 where
+-- The disk holds spans of no version, of a warehouse with these params: its meta page tells of none, each of its trees is empty, and its free
+-- pages are in order.
+pub record HoldsNoVersion (params : Params) (x : Image) : Type 0 where
+  pub meta : Meta
   pub pages : PageMap
-  pub space : HoldsSpace x (without_degree params) (new_meta params) pages ⊥
+  pub space : HoldsSpace x (without_degree params) meta pages (Unit {0})
+  pub tells : TellsSpans params meta []
+  pub empty : All (λ t. t ≡ empty_tree) meta.roots.items
 
--- Spans may be made there: it is empty, or stands for new spans.
+-- Spans may be made there: it is empty, or holds spans of no version.
 abbrev pub MayTakeSpans : Params → Image → Type 0
-MayTakeSpans params x = (is_empty x ≡ true) ⊎ StandsNew params x
+MayTakeSpans params x = (is_empty x ≡ true) ⊎ HoldsNoVersion params x
+
+-- The disk is a space of a warehouse without its degree, and this is how many page numbers it has given out.
+pub record GivesOut (params : Params) (x : Image) (n : ℕ) : Type 0 where
+  pub meta : Meta
+  pub pages : PageMap
+  pub space : HoldsSpace x (without_degree params) meta pages ⊥
+  pub allotted : meta.allotted ≡ n
+
+-- How many page numbers a disk that may take spans has given out, before any are made: those of its three first pages where it is empty.
+abbrev pub HasGivenOut : Params → Image → ℕ → Type 0
+HasGivenOut params x n = ((is_empty x ≡ true) × (n ≡ 3)) ⊎ GivesOut params x n
+
+-- The disk that may take spans is the one that might before: it stands for the same pages, and where it was empty it is so, or has new spans.
+pub record IsStillReady (params : Params) (x y : Image) : Type 0 where
+  pub alike : StandsAlike x y
+  pub empty : is_empty x ≡ true → (is_empty y ≡ true) ⊎ IsNew params y
 
 -- the second disk when the call is done
 abbrev pub second_out : {E : Type 0} → Derived E → E
@@ -62,9 +84,9 @@ module _ {X : Type 0} (i : IndexGhosts X) where
   abbrev pub NewSpansHoldNothing : Type 0
   NewSpansHoldNothing = (x : Image) (params : Params) → IsInRange params → params.dims ≤ i.DIMS → IsNew params x → SpanHolds i x params []
 
-  -- So does a disk that stands for new spans, whatever pages lie behind theirs.
-  abbrev pub StandingNewHoldsNothing : Type 0
-  StandingNewHoldsNothing = (x : Image) (params : Params) → IsInRange params → params.dims ≤ i.DIMS → StandsNew params x → SpanHolds i x params []
+  -- A disk holds spans of no version exactly where it holds those of the empty history.
+  abbrev pub NoVersionHoldsNothing : Type 0
+  NoVersionHoldsNothing = (x : Image) (params : Params) → IsInRange params → params.dims ≤ i.DIMS → HoldsNoVersion params x ↔ SpanHolds i x params []
 
 module _ {E X : Type 0} (g : Ghosts E) (i : IndexGhosts X) where
   -- What is left of a second disk that may take spans, when those of this history are written to it, however that ends.
@@ -74,16 +96,17 @@ module _ {E X : Type 0} (g : Ghosts E) (i : IndexGhosts X) where
         → (version ≡ last_version h) × (SpanHolds i (g.image e) params h × ((x : Image) → MayBeLeftNow (g.moments e) x → SpanHolds i x params h))
     -- A crash at any moment left what it might have left before, what may take spans, or all of them.
     pub moments : LeavesOnly (λ x. MayTakeSpans params x ⊎ SpanHolds i x params h) (g.moments second) (g.moments (second_out result))
-    -- Pages lack only where the stated need passes the limit.
-    pub limit : (e : E) (allotted : ℕ) → result ≡ PageLimit e allotted → params.pages < 3 + span_growth params (length (changes h))
+    -- Pages lack only where the stated need passes the limit, beside what was given out before.
+    pub limit : (e : E) (allotted before : ℕ) → result ≡ PageLimit e allotted → HasGivenOut params (g.image second) before
+        → params.pages < before + span_growth params (length (changes h))
     pub sound : (e : E) (page : ℕ) → result ≢ Damaged e page
 
 module _ {E : Type 0} (g : Ghosts E) where
   -- A second disk that may take spans, whatever the first one holds: it is not told to be there, and unless spans were written or it failed, it
-  -- may take them still, and so may what a crash at any moment left beside what it might have left before.
+  -- is still ready for them, and what a crash at any moment left may take them, beside what it might have left before.
   pub record StaysReady (params : Params) (second : E) (result : Derived E) : Type 0 where
     pub ready : ((e : E) (version : ℕ) → result ≢ Done e version) → ((e : E) → result ≡ Disk e → Rose (g.faults second) (g.faults e) → ⊥)
-        → MayTakeSpans params (g.image (second_out result)) × LeavesOnly (MayTakeSpans params) (g.moments second) (g.moments (second_out result))
+        → IsStillReady params (g.image second) (g.image (second_out result)) × LeavesOnly (MayTakeSpans params) (g.moments second) (g.moments (second_out result))
     pub at_limit : (e : E) (allotted : ℕ) → result ≡ PageLimit e allotted → allotted ≡ params.pages
     pub there : (e : E) → result ≢ AlreadyThere e
 

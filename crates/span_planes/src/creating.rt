@@ -5,7 +5,7 @@ ghost use Rattle.counts.specs.Count.{Rose};
 ghost use Rattle.page_disk.specs.Since.{LeavesNow, LeavesOnly};
 ghost use Rattle.page_warehouse.specs.Created.{IfFailed, IfMade, IfThere, created_disk};
 ghost use Rattle.redo_journal.specs.Gates.{is_empty};
-ghost use Rattle.span_planes.specs.Made.{IsNew, NewSpansHoldNothing, StandingNewHoldsNothing, new_meta};
+ghost use Rattle.span_planes.specs.Made.{IsNew, NewSpansHoldNothing, NoVersionHoldsNothing, new_meta};
 
 use crate::opening::root_count;
 use arrayvec::ArrayVec;
@@ -85,9 +85,9 @@ pub fn new_spans_hold<X: DomIndex>()
     created_holds();
 }
 
-/// A disk that stands for new spans holds those of the empty history; it does nothing when it runs.
-pub fn standing_new_spans_hold<X: DomIndex>()
-    ensures { StandingNewHoldsNothing X.DomIndex }
+/// A disk holds spans of no version exactly where it holds those of the empty history; it does nothing when it runs.
+pub fn no_version_holds_nothing<X: DomIndex>()
+    ensures { NoVersionHoldsNothing X.DomIndex }
 {
     X::index_laws();
 }

@@ -15,6 +15,8 @@ mod filling;
 mod laws;
 mod looking;
 mod making;
+#[cfg(test)]
+mod no_version_tests;
 mod opening;
 #[cfg(test)]
 mod random_tests;
@@ -28,7 +30,7 @@ mod tests;
 mod writing;
 
 pub use asked::SpanRow;
-pub use creating::{new_spans_hold, standing_new_spans_hold};
+pub use creating::{new_spans_hold, no_version_holds_nothing};
 pub use desk::SpanDesk;
 pub use laws::{spans_are_differences, spans_are_held_by_pages};
 pub use making::{Derived, derive};

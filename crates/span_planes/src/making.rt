@@ -4,19 +4,19 @@ ghost use Rattle.bw_types.specs.History.{History};
 ghost use Rattle.counts.specs.Count.{Rose};
 ghost use Rattle.page_disk.specs.Since.{LeavesNow};
 ghost use Rattle.page_warehouse.specs.Shown.{HasNewForm, HoldsHistory, disk_charge, disk_in, meta_in, params_in};
-ghost use Rattle.page_space.specs.Shown.{disk_of};
+ghost use Rattle.page_space.specs.Shown.{IsInOrder, disk_of};
 ghost use Rattle.warehouse.specs.Left.{IsAsBefore};
 ghost use Rattle.span_planes.specs.Ended.{gathering_of};
-ghost use Rattle.span_planes.specs.Made.{LeavesSpans, MayTakeSpans, StaysReady, StaysThere, second_out};
-ghost use Rattle.span_planes.specs.Readied.{IsNewSpace};
+ghost use Rattle.span_planes.specs.Made.{HoldsNoVersion, IsStillReady, LeavesSpans, MayTakeSpans, StaysReady, StaysThere, second_out};
+ghost use Rattle.span_planes.specs.Readied.{IsSpaceOfNoVersion, StaysOpened};
 
-use crate::readying::new_space;
+use crate::readying::ready_space;
 use crate::writing::{can_fill_all, write};
 use dom_index::DomIndex;
 use history_laws::lawful_histories_have_room;
 use history_list::{GatherFault, gather};
 use page_disk::Disk;
-use page_space::Space;
+use page_space::{Space, created_holds};
 use page_warehouse::Warehouse;
 use std::alloc::Global;
 
@@ -25,7 +25,7 @@ use std::alloc::Global;
 pub enum Derived<E> {
     /// It has them, up to this version.
     Done { second: E, version: u32 },
-    /// The second disk is not empty, and has no new spans of such a warehouse. It is as it was.
+    /// The second disk is not empty, and does not hold spans of no version of such a warehouse. It is as it was.
     AlreadyThere(E),
     /// As many pages are given out there as may be.
     PageLimit { second: E, allotted: u64 },
@@ -37,12 +37,13 @@ pub enum Derived<E> {
     Disk(E),
 }
 
-/// Writes the spans of a warehouse to a second disk, which is empty or has new spans without versions: all of them in one commit.
+/// Writes the spans of a warehouse to a second disk, which is empty or holds spans of no version: all of them in one commit.
 ///
-/// The house and its disk stay as they were. Unless it is done or the second disk failed, that may take spans as before, whatever the first
-/// one holds. A second disk with anything else is as it was: it is read through its journal first, and nothing is written to it. It takes
-/// memory for a list of all adds and withdrawals, for the points of one tree, and for the pages of the trees, and before that 16 bytes, or up
-/// to twice that, for each image in a journal that is open on the second disk.
+/// The house and its disk stay as they were. Unless it is done or the second disk failed, that stands for the same pages as before, or still
+/// for none, or for new spans, whatever the first one holds. A second disk with anything else is as it was: it is read through its journal
+/// first, and nothing is written to it. It takes memory for a list of all adds and withdrawals, for the points of one tree, and for the pages
+/// of the trees, and before that 16 bytes, or up to twice that, for each image in a journal that is open on the second disk, and 8 bytes, or
+/// up to twice that, for each of its free pages.
 pub fn derive<D: Disk, X: DomIndex + Drop, E: Disk + Drop>(
     alloc: Global,
     house: &mut Warehouse<D, X>,
@@ -53,8 +54,9 @@ pub fn derive<D: Disk, X: DomIndex + Drop, E: Disk + Drop>(
     ensures ready { IsTrue (E.tells second) → MayTakeSpans (params_in house.old) (E.image second) → StaysReady E.Disk (params_in house.old) second result }
     ensures there { IsTrue (E.tells second) → (MayTakeSpans (params_in house.old) (E.image second) → ⊥) → StaysThere E.Disk second result }
     ensures version { (e : E) (version : ℕ) → result ≡ Derived.Done e version → version ≡ (meta_in house.old).version }
-    // Spans of no version may be replaced by those of more.
-    ensures none { (e : E) → result ≡ Derived.Done e 0 → IsTrue (E.tells second) → MayTakeSpans (params_in house.old) (E.image e) }
+    // Spans of no version may be replaced by those of more, and are those that were there.
+    ensures none { (e : E) → result ≡ Derived.Done e 0 → IsTrue (E.tells second) → MayTakeSpans (params_in house.old) (E.image second)
+        → HoldsNoVersion (params_in house.old) (E.image e) × IsStillReady (params_in house.old) (E.image second) (E.image e) }
     ensures disk { (e : E) → result ≡ Derived.Disk e → Rose (D.faults (disk_in house.old)) (D.faults (disk_in house.new)) ⊎ Rose (E.faults second) (E.faults e) }
     ensures kept { IsAsBefore params_in disk_in (HoldsHistory D.Disk X.DomIndex) (HasNewForm D.Disk) D.tells D.image D.moments (disk_charge D.Disk) house.old house.new }
     ensures meta { meta_in house.new ≡ meta_in house.old }
@@ -62,27 +64,30 @@ pub fn derive<D: Disk, X: DomIndex + Drop, E: Disk + Drop>(
     ensures second_faults { E.faults second ≤ E.faults (second_out result) }
     ensures tells { E.tells (second_out result) ≡ E.tells second }
 {
-    X::index_laws();
+    created_holds();
     let params = house.params();
-    match new_space(alloc, second, &params) {
+    match ready_space(alloc, second, &params) {
         Ok(space) => derive_to(alloc, house, space),
         Err(ended) => ended,
     }
 }
 
-// Writes the spans of the house to the space of new spans.
+// Writes the spans of the house to the space of spans of no version.
 fn derive_to<D: Disk, X: DomIndex + Drop, E: Disk + Drop>(
     alloc: Global,
     house: &mut Warehouse<D, X>,
     space: Space<E>,
 ) -> Derived<E>
-    requires new { IsNewSpace (params_in house.old) space }
+    requires none { IsSpaceOfNoVersion (params_in house.old) space }
+    requires ordered { IsTrue (E.tells (disk_of space)) → IsInOrder space }
     requires settled { LeavesNow (E.moments (disk_of space)) (E.image (disk_of space)) }
     ensures leaves { (h : History) → HoldsHistory D.Disk X.DomIndex true (disk_in house.old) (params_in house.old) h → IsTrue (E.tells (disk_of space))
         → LeavesSpans E.Disk X.DomIndex (params_in house.old) h (disk_of space) result }
-    ensures ready { IsTrue (E.tells (disk_of space)) → StaysReady E.Disk (params_in house.old) (disk_of space) result }
+    ensures opened { StaysOpened E.Disk (params_in house.old) (disk_of space) result }
     ensures version { (e : E) (version : ℕ) → result ≡ Derived.Done e version → version ≡ (meta_in house.old).version }
-    ensures none { (e : E) → result ≡ Derived.Done e 0 → IsTrue (E.tells (disk_of space)) → MayTakeSpans (params_in house.old) (E.image e) }
+    // Where there is no version, the disk is as it was.
+    ensures none { (e : E) → result ≡ Derived.Done e 0 → IsTrue (E.tells (disk_of space))
+        → HoldsNoVersion (params_in house.old) (E.image e) × (E.image e ≡ E.image (disk_of space)) }
     ensures disk { (e : E) → result ≡ Derived.Disk e → Rose (D.faults (disk_in house.old)) (D.faults (disk_in house.new)) ⊎ Rose (E.faults (disk_of space)) (E.faults e) }
     ensures kept { IsAsBefore params_in disk_in (HoldsHistory D.Disk X.DomIndex) (HasNewForm D.Disk) D.tells D.image D.moments (disk_charge D.Disk) house.old house.new }
     ensures meta { meta_in house.new ≡ meta_in house.old }
@@ -96,7 +101,7 @@ fn derive_to<D: Disk, X: DomIndex + Drop, E: Disk + Drop>(
     let params = house.params();
     let last = house.last();
     if last == 0 {
-        // The new spans are those of no version.
+        // It holds the spans of no version.
         return Derived::Done {
             second: space.into_disk(),
             version: 0,

@@ -96,7 +96,7 @@ fn each_call_of_a_derivation_fails(rt: HostRuntime) -> Result<(), Fail> {
 }
 
 // The pages of a disk, area by area.
-fn pages_on(alloc: Global, disk: &mut MemDisk) -> Result<Vec<Page>, Fail> {
+pub(crate) fn pages_on(alloc: Global, disk: &mut MemDisk) -> Result<Vec<Page>, Fail> {
     let mut pages = Vec::new(alloc);
     for area in [Area::Pages, Area::Journal] {
         for page in 0..disk.len(area)? {

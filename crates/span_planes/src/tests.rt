@@ -17,7 +17,7 @@ pub(crate) type Stored = Warehouse<PlainDisk, PointList>;
 
 pub(crate) type Kept = Spans<PlainDisk, PointList>;
 
-const LINE: Params = Params {
+pub(crate) const LINE: Params = Params {
     dims: 1,
     degree: Some(1),
     events: 1000000,

@@ -1,4 +1,4 @@
-//! The writing of spans to a second disk that has new ones, all of them in one commit.
+//! The writing of spans to a second disk that holds those of no version, all of them in one commit.
 ghost use Rattle.std.specs.Prelude.{◌≡◌, ◌≢◌, ◌+◌, ◌<◌, ◌≤◌, ◌^◌, ℕ, true, false, length, Err, IsTrue, OnErr, OnOk};
 ghost use Rattle.std.specs.List.{All};
 ghost use Rattle.bw_types.specs.Fits.{IsInRange};
@@ -6,11 +6,11 @@ ghost use Rattle.bw_types.specs.History.{History};
 ghost use Rattle.counts.specs.Count.{Rose};
 ghost use Rattle.page_ports.specs.Calls.{Changes};
 ghost use Rattle.page_space.specs.MetaSet.{FitsBesideCounts, with_counts_of};
-ghost use Rattle.page_space.specs.Shown.{IsMetaSet, IsStagedInOrder, base_of, disk_of, disk_under, staged_map, staged_meta};
+ghost use Rattle.page_space.specs.Shown.{IsInOrder, IsMetaSet, IsStagedInOrder, base_of, disk_of, disk_under, staged_map, staged_meta};
 ghost use Rattle.span_planes.specs.Ended.{abandoning_of};
 ghost use Rattle.span_planes.specs.Filled.{CanFill, ComeInTurn, FilledTrees, entries_in, span_growth};
-ghost use Rattle.span_planes.specs.Made.{LeavesSpans, StaysReady, second_out};
-ghost use Rattle.span_planes.specs.Readied.{IsNewSpace};
+ghost use Rattle.span_planes.specs.Made.{LeavesSpans, second_out};
+ghost use Rattle.span_planes.specs.Readied.{IsSpaceOfNoVersion, StaysOpened};
 ghost use Rattle.span_planes.specs.Writing.{AreAllOf, IsMetaFor};
 
 use crate::Derived;
@@ -22,10 +22,10 @@ use history_list::Event;
 use page_disk::Disk;
 use page_layout::Meta;
 use page_ports::{Pages, StageFault};
-use page_space::{Space, Staged};
+use page_space::{Space, Staged, holds_one};
 use std::alloc::Global;
 
-/// Writes the spans of these events to the space of new spans.
+/// Writes the spans of these events to the space of spans of no version.
 pub(crate) fn write<X: DomIndex, E: Disk + Drop>(
     alloc: Global,
     space: Space<E>,
@@ -36,10 +36,11 @@ pub(crate) fn write<X: DomIndex, E: Disk + Drop>(
     requires range { IsInRange params.now }
     requires dims { params.now.dims ≤ X.DIMS }
     requires events { All (CanFill params.now) events.now }
-    requires new { IsNewSpace params.now space }
+    requires none { IsSpaceOfNoVersion params.now space }
+    requires ordered { IsTrue (E.tells (disk_of space)) → IsInOrder space }
     ensures leaves { (h : History) → AreAllOf params.now events.now last h → IsTrue (E.tells (disk_of space))
         → LeavesSpans E.Disk X.DomIndex params.now h (disk_of space) result }
-    ensures ready { IsTrue (E.tells (disk_of space)) → StaysReady E.Disk params.now (disk_of space) result }
+    ensures opened { StaysOpened E.Disk params.now (disk_of space) result }
     ensures version { (e : E) (version : ℕ) → result ≡ Derived.Done e version → version ≡ last }
     ensures disk { (e : E) → result ≡ Derived.Disk e → Rose (E.faults (disk_of space)) (E.faults e) }
     ensures faults { E.faults (disk_of space) ≤ E.faults (second_out result) }
@@ -47,6 +48,7 @@ pub(crate) fn write<X: DomIndex, E: Disk + Drop>(
 {
     X::index_laws();
     lawful_histories_have_room();
+    holds_one();
     space.is_held();
     let mut stage = space.begin();
     if let Err(fault) = draft::<X, E>(alloc, &mut stage, params, events, last) {

@@ -6,17 +6,18 @@ use Rattle.bw_types.specs.declared.params.Params.{Params}
 use Rattle.history_list.specs.declared.event.Event.{Event}
 use Rattle.page_disk.specs.Image.{Image}
 use Rattle.page_disk.specs.SinceLaws.{LeavesOnly-same}
-use Rattle.page_space.specs.Shown.{disk_of}
+use Rattle.page_space.specs.Shown.{disk_of, meta_of, params_of}
 use Rattle.page_warehouse.specs.Shown.{disk_in, params_in}
 use Rattle.span_planes.specs.Filled.{CanFill}
-use Rattle.span_planes.specs.Made.{LeavesSpans, MayTakeSpans, StaysReady}
+use Rattle.span_planes.specs.Made.{HoldsNoVersion, LeavesSpans}
+use Rattle.span_planes.specs.Readied.{StaysOpened, TellNoVersion}
 use Rattle.span_planes.specs.Writing.{AreAllOf}
 use Rattle.span_planes.proofs.FillableEvents.{all_fill}
 use Rattle.span_planes.specs.declared.making.Derived.TheVariants.{Done}
 use Rattle.span_planes.proofs.HouseSpans.{all_of, gathered_leaves, none_yet}
-use Rattle.span_planes.proofs.Readied.{stands_there}
-use Rattle.span_planes.proofs.StayingReady.{damaged_ready, done_ready, gathered_ready}
-use Rattle.span_planes.proofs.StoodSpans.{stood_spans}
+use Rattle.span_planes.proofs.NoVersionSpans.{none_held}
+use Rattle.span_planes.proofs.Readied.{none_there}
+use Rattle.span_planes.proofs.StayingReady.{damaged_stays, done_stays, gathered_stays}
 use Rattle.span_planes.proofs.Written.{IsPossible, done_leaves}
 use Rattle.span_planes.proofs.making.derive_to.Goals as goal
 
@@ -32,9 +33,8 @@ returns-in-Ok-clause-leaves g c = λ h held told.
     (subst (λ (es : List Event). AreAllOf (params_in c.args.house.now) es c.last-last.result h) (sym c.deref-in-Ok.ensures.value) all) in
     subst (λ (p : Params). LeavesSpans g.E.Disk i p h (disk_of c.args.space) c.write.result) is (c.write.ensures.leaves h given told)
 
-pub returns-in-Ok-clause-ready : goal.returns-in-Ok-clause-ready
-returns-in-Ok-clause-ready g c = λ told.
-    subst (λ (p : Params). StaysReady g.E.Disk p (disk_of c.args.space) c.write.result) c.params-params.ensures.value (c.write.ensures.ready told)
+pub returns-in-Ok-clause-opened : goal.returns-in-Ok-clause-opened
+returns-in-Ok-clause-opened g c = subst (λ (p : Params). StaysOpened g.E.Disk p (disk_of c.args.space) c.write.result) c.params-params.ensures.value c.write.ensures.opened
 
 pub returns-in-Ok-clause-disk : goal.returns-in-Ok-clause-disk
 returns-in-Ok-clause-disk g c = λ e is. inr (c.write.ensures.disk e is)
@@ -60,24 +60,19 @@ returns-in-Err-clause-leaves g c = λ h held told.
     (gathered_leaves disk g.X.DomIndex (params_in c.args.house.now) h (disk_of c.args.space) c.into_disk-in-Err.result c.in-Err.fault (ap disk.moments out)
     (λ page bad. c.gather.ensures.sound h page held (c.in-Err.is ∙ ap Err bad)))
 
-pub returns-in-Err-clause-ready : goal.returns-in-Err-clause-ready
-returns-in-Err-clause-ready g c = λ told.
+pub returns-in-Err-clause-opened : goal.returns-in-Err-clause-opened
+returns-in-Err-clause-opened g c =
     let disk = g.E.Disk in
     let params = params_in c.args.house.now in
     let out = c.into_disk-in-Err.ensures.disk in
-    let stood = stands_there disk params (disk_of c.args.space) c.args.space (c.is_held.ensures.held told) c.requires.new in
-    subst (λ r. StaysReady disk params (disk_of c.args.space) r) (sym c.ended.ensures)
-    (gathered_ready disk params (disk_of c.args.space) c.into_disk-in-Err.result (ap disk.moments out)
-    (subst (λ (x : Image). MayTakeSpans params x) (sym (ap disk.image out)) (inr stood)) c.in-Err.fault)
+    subst (λ r. StaysOpened disk params (disk_of c.args.space) r) (sym c.ended.ensures)
+    (gathered_stays disk params (disk_of c.args.space) c.into_disk-in-Err.result (ap disk.image out) (ap disk.moments out) c.in-Err.fault)
 
-pub returns-in-Ok-2-clause-ready : goal.returns-in-Ok-2-clause-ready
-returns-in-Ok-2-clause-ready g c = λ told.
+pub returns-in-Ok-2-clause-opened : goal.returns-in-Ok-2-clause-opened
+returns-in-Ok-2-clause-opened g c =
     let disk = g.E.Disk in
-    let params = params_in c.args.house.now in
     let out = c.into_disk-in-Ok-2.ensures.disk in
-    let stood = stands_there disk params (disk_of c.args.space) c.args.space (c.is_held.ensures.held told) c.requires.new in
-    damaged_ready disk params (disk_of c.args.space) c.into_disk-in-Ok-2.result (ap disk.moments out)
-    (subst (λ (x : Image). MayTakeSpans params x) (sym (ap disk.image out)) (inr stood)) 2
+    damaged_stays disk (params_in c.args.house.now) (disk_of c.args.space) c.into_disk-in-Ok-2.result (ap disk.image out) (ap disk.moments out) 2
 
 pub returns-in-Ok-clause-version : goal.returns-in-Ok-clause-version
 returns-in-Ok-clause-version g c = λ e version is. c.write.ensures.version e version is ∙ c.last-last.ensures.value
@@ -91,25 +86,30 @@ returns-then-last-eq0-clause-leaves g c = λ h held told.
     let i = g.X.DomIndex in
     let params = params_in c.args.house.now in
     let range : IsInRange params = subst (λ (p : Params). IsInRange p) c.params-params.ensures.value c.params-params.ensures.in_range in
-    let stood = stands_there disk params (disk_of c.args.space) c.args.space (c.is_held.ensures.held told) c.requires.new in
+    let held_there = none_there disk params (disk_of c.args.space) c.args.space (c.is_held.ensures.held told) (c.requires.ordered told) c.requires.none in
     let none : h ≡ [] = none_yet h (sym c.if-last-eq0.true ∙ c.last-last.ensures.held true h held) in
     subst (λ (k : History). LeavesSpans disk i params k (disk_of c.args.space) (Done c.into_disk.result 0)) (sym none)
     (subst (λ d. LeavesSpans disk i params [] (disk_of c.args.space) (Done d 0)) (sym c.into_disk.ensures.disk)
     (done_leaves disk i params [] (disk_of c.args.space) (disk_of c.args.space) 0 refl
-    (stood_spans i c.index_laws.ensures.empty params range held.1.trees.dims (disk.image (disk_of c.args.space)) stood) c.requires.settled
+    (none_held i c.index_laws.ensures.empty params range held.1.trees.dims (disk.image (disk_of c.args.space)) held_there) c.requires.settled
     (LeavesOnly-same (IsPossible disk i params []) (disk.moments (disk_of c.args.space)))))
 
-pub returns-then-last-eq0-clause-ready : goal.returns-then-last-eq0-clause-ready
-returns-then-last-eq0-clause-ready g c = λ told. done_ready g.E.Disk (params_in c.args.house.now) (disk_of c.args.space) c.into_disk.result 0
+pub returns-then-last-eq0-clause-opened : goal.returns-then-last-eq0-clause-opened
+returns-then-last-eq0-clause-opened g c = done_stays g.E.Disk (params_in c.args.house.now) (disk_of c.args.space) c.into_disk.result 0
 
 pub returns-then-last-eq0-clause-none : goal.returns-then-last-eq0-clause-none
 returns-then-last-eq0-clause-none g c = λ e is told.
     let disk = g.E.Disk in
     let params = params_in c.args.house.now in
-    let stood = stands_there disk params (disk_of c.args.space) c.args.space (c.is_held.ensures.held told) c.requires.new in
+    let space = c.args.space in
+    let held = none_there disk params (disk_of space) space (c.is_held.ensures.held told) (c.requires.ordered told) c.requires.none in
     let same : c.into_disk.result ≡ e = cc in
-    subst (λ d. MayTakeSpans params (disk.image d)) (sym c.into_disk.ensures.disk ∙ same) (inr stood)
+    let image : disk.image e ≡ disk.image (disk_of space) = ap disk.image (sym same ∙ c.into_disk.ensures.disk) in
+    (subst (λ (x : Image). HoldsNoVersion params x) (sym image) held, image)
 
 pub write-requires-clause-events : goal.write-requires-clause-events
 write-requires-clause-events g c =
     subst (λ (es : List Event). All (CanFill c.params-params.result) es) (c.deref.ensures.value ∙ sym c.deref-in-Ok.ensures.value) (c.can_fill_all.ensures.yes c.if-can_fill_all.true)
+
+pub write-requires-clause-none : goal.write-requires-clause-none
+write-requires-clause-none g c = subst (λ (p : Params). TellNoVersion p (params_of c.args.space) (meta_of c.args.space)) (sym c.params-params.ensures.value) c.requires.none

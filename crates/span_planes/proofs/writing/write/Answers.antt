@@ -1,4 +1,4 @@
-use Rattle.std.proofs.Common.{◌≡◌, ℕ, IsTrue, [], Err, length, inl, inr, refl, sym, ◌∙◌, ap, subst, arith, rules}
+use Rattle.std.proofs.Common.{◌≡◌, ℕ, IsTrue, Err, length, inl, inr, sym, ◌∙◌, ap, subst, arith, rules}
 use Rattle.bw_types.specs.declared.params.Params.{Params}
 use Rattle.counts.specs.Count.{Rose}
 use Rattle.page_disk.specs.Image.{Image}
@@ -6,29 +6,30 @@ use Rattle.page_disk.specs.Since.{LeavesOnly}
 use Rattle.page_disk.specs.SinceLaws.{LeavesOnly-weaken}
 use Rattle.page_layout.specs.declared.meta.Meta.{Meta}
 use Rattle.page_ports.specs.Pages.{PageMap}
-use Rattle.page_space.specs.Begun.{Begun, OrderedUnder, bytes_under, map_under}
-use Rattle.page_space.specs.Chain.{FreeInOrder}
-use Rattle.page_space.specs.Shown.{IsInOrder, IsStagedInOrder, base_of, begun_of, disk_of, disk_under, meta_of, params_of, staged_map, staged_meta}
+use Rattle.page_space.specs.Begun.{Begun, OrderedUnder, map_under}
+use Rattle.page_space.specs.Shown.{IsInOrder, IsStagedInOrder, base_of, begun_of, disk_of, disk_under, map_of, meta_of, params_of, staged_map, staged_meta}
 use Rattle.page_space.specs.Space.{HoldsSpace}
 use Rattle.bw_types.specs.History.{changes}
 use Rattle.span_planes.specs.Filled.{FilledTrees, entries_in, span_growth}
-use Rattle.span_planes.specs.Made.{LeavesSpans, StandsNew, StaysReady, second_out}
+use Rattle.span_planes.specs.Made.{HoldsNoVersion, LeavesSpans, second_out}
+use Rattle.span_planes.specs.Readied.{StaysOpened, TellNoVersion}
 use Rattle.span_planes.specs.SpanHolds.{SpanHolds, without_degree}
 use Rattle.span_planes.specs.Writing.{IsMetaFor}
 use Rattle.span_planes.specs.declared.making.Derived.TheVariants.{Done}
 use Rattle.span_planes.proofs.FillableEvents.{few_rows}
 use Rattle.span_planes.proofs.InTurn.{come_in_turn, event_number}
-use Rattle.span_planes.proofs.Readied.{stands_there}
-use Rattle.span_planes.proofs.StayingReady.{abandoned_ready, done_ready, failed_ready}
-use Rattle.span_planes.proofs.StoodSpans.{stands_new}
+use Rattle.span_planes.proofs.NoVersionSpans.{space_none}
+use Rattle.span_planes.proofs.SpanOpened.{unordered}
+use Rattle.span_planes.proofs.StayingReady.{abandoned_stays, done_stays, failed_stays}
+use Rattle.span_planes.proofs.StillReady.{given_here}
 use Rattle.span_planes.proofs.Written.{IsPossible, abandoned_disk, abandoned_done, abandoned_leaves, abandoned_out, done_leaves, failed_leaves, spans_held}
 use Rattle.span_planes.proofs.writing.write.Goals as goal
 
 pub returns-in-Err-clause-version : goal.returns-in-Err-clause-version
 returns-in-Err-clause-version g c = λ e version same. absurd (abandoned_done c.in-Err.fault c.into_disk.result e version (sym c.abandoned.ensures ∙ same))
 
-pub returns-in-Err-clause-ready : goal.returns-in-Err-clause-ready
-returns-in-Err-clause-ready g c = λ told.
+pub returns-in-Err-clause-opened : goal.returns-in-Err-clause-opened
+returns-in-Err-clause-opened g c =
     let disk = g.E.Disk in
     let params = c.args.params.now in
     let space = c.args.space in
@@ -36,19 +37,18 @@ returns-in-Err-clause-ready g c = λ told.
     let out = c.into_disk.ensures.disk in
     let image = ap disk.image out ∙ ap (λ (b : Begun). b.image) back in
     let moments = ap disk.moments out ∙ ap (λ (b : Begun). b.moments) back in
-    let stood : StandsNew params (disk.image (disk_of space)) = stands_there disk params (disk_of space) space (c.is_held.ensures.held told) c.requires.new in
-    subst (λ r. StaysReady disk params (disk_of space) r) (sym c.abandoned.ensures)
-    (abandoned_ready disk params (disk_of space) c.into_disk.result moments (inr (subst (λ (x : Image). StandsNew params x) (sym image) stood)) c.in-Err.fault
-    (λ n is. (c.in-Err.ensures.changes.page_limit n (ap Err is)).0 ∙ ap (λ (b : Begun). b.params.pages) c.begin-stage.ensures.base ∙ ap (λ (p : Params). p.pages) c.requires.new.0))
+    subst (λ r. StaysOpened disk params (disk_of space) r) (sym c.abandoned.ensures)
+    (abandoned_stays disk params (disk_of space) c.into_disk.result image moments c.in-Err.fault
+    (λ n is. (c.in-Err.ensures.changes.page_limit n (ap Err is)).0 ∙ ap (λ (b : Begun). b.params.pages) c.begin-stage.ensures.base ∙ ap (λ (p : Params). p.pages) c.requires.none.own))
 
-pub returns-in-Ok-clause-ready : goal.returns-in-Ok-clause-ready
-returns-in-Ok-clause-ready g c = λ told. done_ready g.E.Disk c.args.params.now (disk_of c.args.space) c.into_disk-in-Ok.result c.args.last
+pub returns-in-Ok-clause-opened : goal.returns-in-Ok-clause-opened
+returns-in-Ok-clause-opened g c = done_stays g.E.Disk c.args.params.now (disk_of c.args.space) c.into_disk-in-Ok.result c.args.last
 
-pub returns-in-Err-commit-clause-ready : goal.returns-in-Err-commit-clause-ready
-returns-in-Err-commit-clause-ready g c = λ told.
+pub returns-in-Err-commit-clause-opened : goal.returns-in-Err-commit-clause-opened
+returns-in-Err-commit-clause-opened g c =
     let disk = g.E.Disk in
     let rose : Rose (disk.faults (disk_of c.args.space)) (disk.faults c.in-Err-commit.second) = search rules in
-    failed_ready disk c.args.params.now (disk_of c.args.space) c.in-Err-commit.second rose
+    failed_stays disk c.args.params.now (disk_of c.args.space) c.in-Err-commit.second rose
 
 pub returns-in-Err-clause-faults : goal.returns-in-Err-clause-faults
 returns-in-Err-clause-faults g c =
@@ -79,11 +79,11 @@ returns-in-Err-clause-leaves g c = λ h all told.
     let i = g.X.DomIndex in
     let params = c.args.params.now in
     let space = c.args.space in
-    let new = c.requires.new in
+    let none = c.requires.none in
     let mid = c.draft.new.stage in
     let turn = come_in_turn c.args.events.now h all.all in
     let told0 : IsTrue (disk.tells (disk_under c.begin-stage.result)) = subst IsTrue (sym (ap disk.tells c.begin-stage.ensures.disk)) told in
-    let order : IsInOrder space = subst (λ (m : Meta). FreeInOrder (bytes_under (begun_of space)) m.allotted m.free) (sym new.1) (record { chain = []; leads = refl; once = tt }) in
+    let order : IsInOrder space = c.requires.ordered told in
     let order0 : IsStagedInOrder c.begin-stage.result = c.begin-stage.ensures.in_order order in
     let back : begun_of c.abandon.result ≡ begun_of space = c.abandon.ensures.base ∙ c.draft.ensures.changes.went_on.base ∙ c.begin-stage.ensures.base in
     let out = c.into_disk.ensures.disk in
@@ -91,10 +91,13 @@ returns-in-Err-clause-leaves g c = λ h all told.
     subst (λ r. LeavesSpans disk i params h (disk_of space) r) (sym c.abandoned.ensures)
     (abandoned_leaves disk i params h (disk_of space) c.into_disk.result c.in-Err.fault moments
     (λ page is. c.in-Err.ensures.sound page told0 turn order0 (ap Err is))
-    (λ n is.
+    (λ n before is out.
     let limit = (c.in-Err.ensures.growth told0 turn).page_limit n (ap Err is) in
-    let pages : n ≡ params.pages = limit.0 ∙ ap (λ (b : Begun). b.params.pages) c.begin-stage.ensures.base ∙ ap (λ (p : Params). p.pages) new.0 in
-    let first : (staged_meta c.begin-stage.result).allotted ≡ 3 = ap (λ (m : Meta). m.allotted) (c.begin-stage.ensures.meta ∙ new.1) in
+    let pages : n ≡ params.pages = limit.0 ∙ ap (λ (b : Begun). b.params.pages) c.begin-stage.ensures.base ∙ ap (λ (p : Params). p.pages) none.own in
+    let x = disk.image (disk_of space) in
+    let given = given_here c.holds_one.ensures.one params x (params_of space) (meta_of space) (map_of space)
+    (unordered x (params_of space) (meta_of space) (map_of space) (IsInOrder space) (c.is_held.ensures.held told)) before out in
+    let first : (staged_meta c.begin-stage.result).allotted ≡ before = ap (λ (m : Meta). m.allotted) c.begin-stage.ensures.meta ∙ given in
     let most = limit.2 in
     let many = event_number c.args.events.now h all.all in
     let need : span_growth params (length c.args.events.now) ≡ span_growth params (length (changes h)) = ap (λ (k : ℕ). span_growth params k) many in
@@ -106,26 +109,26 @@ returns-in-Ok-clause-leaves g c = λ h all told.
     let i = g.X.DomIndex in
     let params = c.args.params.now in
     let space = c.args.space in
-    let new = c.requires.new in
+    let none = c.requires.none in
     let mid = c.draft.new.stage in
     let turn = come_in_turn c.args.events.now h all.all in
     let told0 : IsTrue (disk.tells (disk_under c.begin-stage.result)) = subst IsTrue (sym (ap disk.tells c.begin-stage.ensures.disk)) told in
-    let order : IsInOrder space = subst (λ (m : Meta). FreeInOrder (bytes_under (begun_of space)) m.allotted m.free) (sym new.1) (record { chain = []; leads = refl; once = tt }) in
+    let order : IsInOrder space = c.requires.ordered told in
     let order0 : IsStagedInOrder c.begin-stage.result = c.begin-stage.ensures.in_order order in
     let went = c.draft.ensures.changes.went_on in
     let order1 : IsStagedInOrder mid = went.free_in_order told0 order0 in
     let told1 : IsTrue (disk.tells (disk_under mid)) = subst IsTrue (sym went.tells) told0 in
     let base : base_of mid ≡ begun_of space = went.base ∙ c.begin-stage.ensures.base in
-    let own : (base_of mid).params ≡ without_degree params = ap (λ (b : Begun). b.params) base ∙ new.0 in
+    let own : (base_of mid).params ≡ without_degree params = ap (λ (b : Begun). b.params) base ∙ none.own in
     let is : IsMetaFor params c.args.last (length c.args.events.now) (staged_meta mid) = c.in_default.ensures.meta (few_rows c.lawful_histories_have_room.ensures params c.requires.range c.args.events.now c.args.last h all) in
     let filled : FilledTrees i (staged_map c.begin-stage.result) (staged_map mid) params (entries_in c.args.events.now) (staged_meta mid).roots.items = c.in_default.ensures.fills told0 turn in
     let held : (x : Image) → HoldsSpace x (base_of mid).params (staged_meta mid) (staged_map mid) (IsStagedInOrder mid) → SpanHolds i x params h = λ x s.
     spans_held i c.index_laws.ensures.any_order params c.requires.range c.requires.dims c.args.events.now c.args.last h all (staged_map c.begin-stage.result) (staged_map mid) (staged_meta mid) is filled x (IsStagedInOrder mid) order1
     (subst (λ (p : Params). HoldsSpace x p (staged_meta mid) (staged_map mid) (IsStagedInOrder mid)) own s) in
-    let stood : (x : Image) → HoldsSpace x (base_of mid).params (base_of mid).meta (map_under (base_of mid)) (OrderedUnder (base_of mid)) → StandsNew params x = λ x s.
-    stands_new params x (map_under (base_of mid)) (OrderedUnder (base_of mid))
-    (subst (λ (m : Meta). HoldsSpace x (without_degree params) m (map_under (base_of mid)) (OrderedUnder (base_of mid))) (ap (λ (b : Begun). b.meta) base ∙ new.1)
-    (subst (λ (p : Params). HoldsSpace x p (base_of mid).meta (map_under (base_of mid)) (OrderedUnder (base_of mid))) own s)) in
+    let order2 : OrderedUnder (base_of mid) = subst OrderedUnder (sym base) order in
+    let told2 : TellNoVersion params (base_of mid).params (base_of mid).meta = subst (λ (b : Begun). TellNoVersion params b.params b.meta) (sym base) none in
+    let stood : (x : Image) → HoldsSpace x (base_of mid).params (base_of mid).meta (map_under (base_of mid)) (OrderedUnder (base_of mid)) → HoldsNoVersion params x = λ x s.
+    space_none params x (base_of mid).params (base_of mid).meta (map_under (base_of mid)) (OrderedUnder (base_of mid)) order2 s told2 in
     let made = c.in-Ok.space in
     let y = disk.image (disk_of made) in
     let stands : HoldsSpace y (base_of mid).params (staged_meta mid) (staged_map mid) (IsStagedInOrder mid) =
@@ -145,26 +148,26 @@ returns-in-Err-commit-clause-leaves g c = λ h all told.
     let i = g.X.DomIndex in
     let params = c.args.params.now in
     let space = c.args.space in
-    let new = c.requires.new in
+    let none = c.requires.none in
     let mid = c.draft.new.stage in
     let turn = come_in_turn c.args.events.now h all.all in
     let told0 : IsTrue (disk.tells (disk_under c.begin-stage.result)) = subst IsTrue (sym (ap disk.tells c.begin-stage.ensures.disk)) told in
-    let order : IsInOrder space = subst (λ (m : Meta). FreeInOrder (bytes_under (begun_of space)) m.allotted m.free) (sym new.1) (record { chain = []; leads = refl; once = tt }) in
+    let order : IsInOrder space = c.requires.ordered told in
     let order0 : IsStagedInOrder c.begin-stage.result = c.begin-stage.ensures.in_order order in
     let went = c.draft.ensures.changes.went_on in
     let order1 : IsStagedInOrder mid = went.free_in_order told0 order0 in
     let told1 : IsTrue (disk.tells (disk_under mid)) = subst IsTrue (sym went.tells) told0 in
     let base : base_of mid ≡ begun_of space = went.base ∙ c.begin-stage.ensures.base in
-    let own : (base_of mid).params ≡ without_degree params = ap (λ (b : Begun). b.params) base ∙ new.0 in
+    let own : (base_of mid).params ≡ without_degree params = ap (λ (b : Begun). b.params) base ∙ none.own in
     let is : IsMetaFor params c.args.last (length c.args.events.now) (staged_meta mid) = c.in_default.ensures.meta (few_rows c.lawful_histories_have_room.ensures params c.requires.range c.args.events.now c.args.last h all) in
     let filled : FilledTrees i (staged_map c.begin-stage.result) (staged_map mid) params (entries_in c.args.events.now) (staged_meta mid).roots.items = c.in_default.ensures.fills told0 turn in
     let held : (x : Image) → HoldsSpace x (base_of mid).params (staged_meta mid) (staged_map mid) (IsStagedInOrder mid) → SpanHolds i x params h = λ x s.
     spans_held i c.index_laws.ensures.any_order params c.requires.range c.requires.dims c.args.events.now c.args.last h all (staged_map c.begin-stage.result) (staged_map mid) (staged_meta mid) is filled x (IsStagedInOrder mid) order1
     (subst (λ (p : Params). HoldsSpace x p (staged_meta mid) (staged_map mid) (IsStagedInOrder mid)) own s) in
-    let stood : (x : Image) → HoldsSpace x (base_of mid).params (base_of mid).meta (map_under (base_of mid)) (OrderedUnder (base_of mid)) → StandsNew params x = λ x s.
-    stands_new params x (map_under (base_of mid)) (OrderedUnder (base_of mid))
-    (subst (λ (m : Meta). HoldsSpace x (without_degree params) m (map_under (base_of mid)) (OrderedUnder (base_of mid))) (ap (λ (b : Begun). b.meta) base ∙ new.1)
-    (subst (λ (p : Params). HoldsSpace x p (base_of mid).meta (map_under (base_of mid)) (OrderedUnder (base_of mid))) own s)) in
+    let order2 : OrderedUnder (base_of mid) = subst OrderedUnder (sym base) order in
+    let told2 : TellNoVersion params (base_of mid).params (base_of mid).meta = subst (λ (b : Begun). TellNoVersion params b.params b.meta) (sym base) none in
+    let stood : (x : Image) → HoldsSpace x (base_of mid).params (base_of mid).meta (map_under (base_of mid)) (OrderedUnder (base_of mid)) → HoldsNoVersion params x = λ x s.
+    space_none params x (base_of mid).params (base_of mid).meta (map_under (base_of mid)) (OrderedUnder (base_of mid)) order2 s told2 in
     failed_leaves disk i params h (disk_of space) c.in-Err-commit.second
     (subst (λ (b : Begun). LeavesOnly (IsPossible disk i params h) b.moments (disk.moments c.in-Err-commit.second)) base
     (LeavesOnly-weaken _ (IsPossible disk i params h) (base_of mid).moments (disk.moments c.in-Err-commit.second)
