@@ -1,15 +1,17 @@
 //! The program `boxsum`.
 //!
-//! `main` makes the devices, hands the words on to `run_two` of the library, whose contract says all that the program promises, prints
-//! the text of the status and ends with its number.
+//! `main` holds the places of the standard streams, makes the devices, hands the words on to `run_two` of the library, whose contract says
+//! all that the program promises, prints the text of the status and ends with its number.
 #![tactic(auto)]
 
 ghost use Rattle.std.specs.Prelude.{◌≡◌};
 ghost use Rattle.std.specs.Process.{exit_status};
 ghost use Rattle.boxsum.specs.Statuses.{exit_code};
 
+mod places;
 mod words;
 
+use crate::places::hold_places;
 use crate::words::{is_for_spans, spans_begin_so, words_behind};
 use boxsum::{Status, run_two};
 use byte_ports::{StdSink, StdSource};
@@ -28,7 +30,12 @@ const SPANS_PAGES: &str = "boxsum.spans.pages";
 const SPANS_JOURNAL: &str = "boxsum.spans.journal";
 
 fn main(rt: HostRuntime) -> ExitCode {
-    let (status, failure) = run_on(&rt);
+    let held = hold_places(&rt);
+    let (status, failure) = match &held {
+        Ok(_) => run_on(&rt),
+        // The system has no place for three files.
+        Err(_) => (Status::NoMemory, None),
+    };
     if status != Status::Fine {
         // A text that standard error does not take is not worth another status.
         let _ = eprintln!(rt; "boxsum: {status}");
