@@ -1,11 +1,13 @@
 -- What becomes of a second disk to which the spans of a warehouse are written, and what is printed.
-use Rattle.std.specs.Prelude.{◌≡◌, ◌≢◌, ◌⊎◌, ℕ, ◌+◌, ◌<◌, true, false, IsTrue, List, ◌++◌, length, Option, Some, None, codes}
+use Rattle.std.specs.Prelude.{◌≡◌, ◌≢◌, ◌⊎◌, ℕ, ◌+◌, ◌<◌, true, false, IsTrue, List, ◌≤◌, ◌++◌, length, Option, Some, None, codes}
 use Rattle.std.specs.Fmt.{decimal}
 use Rattle.counts.specs.Count.{Rose}
 use Rattle.bw_types.specs.History.{History, changes, last_version}
 use Rattle.bw_types.specs.declared.params.Params.{Params}
 use Rattle.byte_ports.specs.Written.{WritesPart}
 use Rattle.byte_ports.specs.declared.Sink.{Ghosts as SinkGhosts}
+use Rattle.page_disk.specs.Image.{Image}
+use Rattle.page_disk.specs.Moment.{MayBeLeftNow}
 use Rattle.page_disk.specs.Since.{LeavesOnly}
 use Rattle.page_disk.specs.declared.disk.Area.{Area}
 use Rattle.page_disk.specs.declared.disk.Area.TheVariants.{Pages}
@@ -14,7 +16,7 @@ use Rattle.redo_journal.specs.Gates.{is_empty}
 use Rattle.dom_index.specs.declared.index.DomIndex.{Ghosts as IndexGhosts}
 use Rattle.page_warehouse.specs.Shown.{HoldsHistory}
 use Rattle.span_planes.specs.Filled.{span_growth}
-use Rattle.span_planes.specs.Made.{HasGivenOut, HoldsNoVersion, IsStillReady, MayTakeSpans}
+use Rattle.span_planes.specs.Made.{HasGivenOut, HoldsNoVersion, IsStillReady, MayTakeSpans, ShowsSpans}
 use Rattle.span_planes.specs.SpanHolds.{SpanHolds}
 use Rattle.span_planes.specs.declared.making.Derived.{Derived}
 use Rattle.span_planes.specs.declared.making.Derived.TheVariants as derived
@@ -50,12 +52,13 @@ module _ {D E K X : Type 0} (d : DiskGhosts D) (e : DiskGhosts E) (k : SinkGhost
     pub done : IsDone → SurelyHolds e (all_spans i) params h ran.second
     pub fine : ran.status ≡ status.Fine → IsTrue (k.tells sink) → IsTrue (k.tells sink') × (k.written sink' ≡ k.written sink ++ spans_line (last_version h))
     pub part : IsTrue (k.tells sink) → IsTrue (k.tells sink') → WritesPart (k.written sink) (k.written sink') (spans_line (last_version h))
-    -- Spans of no version may be replaced by those of more, and are those that were there.
-    pub none : IsDone → last_version h ≡ 0 → HoldsNoVersion params (e.image ran.second) × IsStillReady params (e.image second) (e.image ran.second)
     -- A crash now leaves the first disk with its history.
     pub first : IsDone → HoldsSurely d i params h ran.disk
     -- A stop at any moment leaves what might have been left before, what may take spans, or all of them.
     pub moments : LeavesOnly (λ x. MayTakeSpans params x ⊎ SpanHolds i x params h) (e.moments second) (e.moments ran.second)
+    -- The second disk gives out no more page numbers than are stated, beside those of before.
+    pub growth : IsDone → (before after : ℕ) → HasGivenOut params (e.image second) before → HasGivenOut params (e.image ran.second) after
+        → after ≤ before + span_growth params (length (changes h))
     -- Pages lack only where the stated need passes the limit, beside what was given out before.
     pub limit : (allotted before : ℕ) → ran.status ≡ status.PageLimit allotted → HasGivenOut params (e.image second) before
         → params.pages < before + span_growth params (length (changes h))
@@ -64,11 +67,19 @@ module _ {D E K X : Type 0} (d : DiskGhosts D) (e : DiskGhosts E) (k : SinkGhost
     pub complete : (Rose (k.faults sink) (k.faults sink') → ⊥) → ran.status ≢ status.DiskFault → ((allotted : ℕ) → ran.status ≢ status.PageLimit allotted)
         → (ran.status ≡ status.Fine) ⊎ (ran.status ≡ status.NoMemory)
 
-  -- A second disk that may take spans, whatever history the first one holds: unless it is done or the second one failed, that is still ready
-  -- for them, and what a stop at any moment left may take them, beside what might have been left before.
-  pub record KeepsReady (params : Params) : Type 0 where
+  -- A second disk that may take spans, where the first one shows a warehouse with this version, whatever history it holds or none.
+  pub record KeepsReady (params : Params) (version : ℕ) : Type 0 where
+    -- Unless it is done or the second one failed, that is still ready for them, and what a stop at any moment left may take them, beside what
+    -- might have been left before.
     pub ready : (IsDone → ⊥) → DidNotFail e second (second_of ran)
         → IsStillReady params (e.image second) (e.image ran.second) × LeavesOnly (MayTakeSpans params) (e.moments second) (e.moments ran.second)
+    -- Where it is done, the second one shows spans up to that version, and so does what a crash now leaves of it.
+    pub done : IsDone → ShowsSpans params version (e.image ran.second) × ((x : Image) → MayBeLeftNow (e.moments ran.second) x → ShowsSpans params version x)
+    pub fine : ran.status ≡ status.Fine → IsTrue (k.tells sink) → IsTrue (k.tells sink') × (k.written sink' ≡ k.written sink ++ spans_line version)
+    -- Spans of no version may be replaced by those of more, and are those that were there.
+    pub none : IsDone → version ≡ 0 → HoldsNoVersion params (e.image ran.second) × IsStillReady params (e.image second) (e.image ran.second)
+    -- A stop at any moment leaves what might have been left before, what may take spans, or what shows them.
+    pub moments : LeavesOnly (λ x. MayTakeSpans params x ⊎ ShowsSpans params version x) (e.moments second) (e.moments ran.second)
     pub at_limit : (allotted : ℕ) → ran.status ≡ status.PageLimit allotted → allotted ≡ params.pages
     pub there : ran.status ≢ status.AlreadyThere
 
@@ -83,7 +94,8 @@ module _ {D E K X : Type 0} (d : DiskGhosts D) (e : DiskGhosts E) (k : SinkGhost
     -- It is not called where the first one has no warehouse.
     pub unopened : IsTrue (d.tells disk) → (is_empty (d.image disk) ≡ true) ⊎ IsNoWarehouse i.DIMS (d.image disk) → ran.second ≡ second
     -- It may take spans where it is empty, or holds spans of no version, made for such a warehouse.
-    pub ready : (params : Params) → IsTrue (d.tells disk) → ShowsWarehouse i.DIMS params (d.image disk) → IsTrue (e.tells second) → MayTakeSpans params (e.image second) → KeepsReady params
+    pub ready : (params : Params) → IsTrue (d.tells disk) → (shows : ShowsWarehouse i.DIMS params (d.image disk)) → IsTrue (e.tells second) → MayTakeSpans params (e.image second)
+        → KeepsReady params shows.meta.version
     pub there : (params : Params) → IsTrue (d.tells disk) → ShowsWarehouse i.DIMS params (d.image disk) → IsTrue (e.tells second) → (MayTakeSpans params (e.image second) → ⊥) → KeepsThere
     pub there_only : ran.status ≡ status.AlreadyThere → IsTrue (e.tells second) → is_empty (e.image second) ≡ false
     pub makes : (params : Params) (h : History) → HoldsHistory d i true disk params h → IsTrue (e.tells second) → MayTakeSpans params (e.image second) → MakesSpans params h

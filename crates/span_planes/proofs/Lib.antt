@@ -24,5 +24,6 @@ pub mod FillableEvents
 pub mod StandingSpans
 pub mod Staged
 pub mod Written
+pub mod ShownSpans
 pub mod StayingReady
 pub mod HouseSpans

@@ -1,5 +1,5 @@
 -- What is left of a second disk to which the spans of a history are written.
-use Rattle.std.proofs.Common.{◌≡◌, ◌≢◌, ◌⊎◌, ℕ, ◌+◌, ◌<◌, ◌≤◌, List, length, refl, sym, ◌∙◌, subst, IsPermutation}
+use Rattle.std.proofs.Common.{◌≡◌, ◌≢◌, ◌⊎◌, ℕ, ◌+◌, ◌<◌, ◌≤◌, List, length, inl, inr, refl, sym, ◌∙◌, ap, subst, IsPermutation}
 use Rattle.bw_types.specs.Fits.{IsInRange}
 use Rattle.bw_types.specs.History.{History, changes, last_version}
 use Rattle.bw_types.specs.declared.params.Params.{Params}
@@ -10,23 +10,25 @@ use Rattle.history_list.specs.declared.event.Event.{Event}
 use Rattle.page_disk.specs.Image.{Image}
 use Rattle.page_disk.specs.Moment.{Moment, MayBeLeftNow}
 use Rattle.page_disk.specs.Since.{LeavesNow, LeavesOnly}
-use Rattle.page_disk.specs.SinceLaws.{LeavesOnly-same, LeavesOnly-then}
+use Rattle.page_disk.specs.SinceLaws.{LeavesOnly-same, LeavesOnly-then, LeavesOnly-weaken}
 use Rattle.page_disk.specs.declared.disk.Disk.{Ghosts}
 use Rattle.page_layout.specs.declared.meta.Meta.{Meta}
 use Rattle.page_ports.specs.Pages.{PageMap}
 use Rattle.page_ports.specs.declared.page.StageFault.{StageFault}
 use Rattle.page_ports.specs.declared.page.StageFault.TheVariants as fault
+use Rattle.page_space.specs.Begun.{Begun, OrderedUnder, map_under}
 use Rattle.page_space.specs.Space.{HoldsSpace}
 use Rattle.span_planes.specs.Ended.{abandoning_of}
 use Rattle.span_planes.specs.Filled.{FilledTrees, entries_in, span_growth}
 use Rattle.span_planes.specs.Made.{HasGivenOut, LeavesSpans, MayTakeSpans, second_out}
+use Rattle.span_planes.specs.Readied.{TellNoVersion}
 use Rattle.span_planes.specs.SpanHolds.{SpanHolds, without_degree}
 use Rattle.span_planes.specs.Writing.{AreAllOf, IsMetaFor}
 use Rattle.span_planes.specs.declared.making.Derived.{Derived}
 use Rattle.span_planes.specs.declared.making.Derived.TheVariants.{Done, PageLimit, Damaged, NoMemory, Disk}
 use Rattle.span_planes.proofs.EventEntries.{entries_permuted}
 use Rattle.span_planes.proofs.InTurn.{event_number}
-use Rattle.span_planes.proofs.NoVersionSpans.{in_order}
+use Rattle.span_planes.proofs.NoVersionSpans.{in_order, space_none}
 use Rattle.span_planes.proofs.StandingSpans.{spans_stand}
 
 -- The space that was filled holds the spans.
@@ -53,14 +55,31 @@ module _ {X : Type 0} (i : IndexGhosts X)
     apart = filled.once;
   }
 
+-- A commit over a space of spans of no version: a crash leaves what may take spans, or what the stage holds.
+pub commit_leaves : (params : Params) (begun based : Begun) (meta : Meta) (map : PageMap) (order : Type 0) (P : Image → Type 0) (new : List Moment)
+    → based ≡ begun → OrderedUnder begun → TellNoVersion params begun.params begun.meta → ((x : Image) → HoldsSpace x (without_degree params) meta map order → P x)
+    → LeavesOnly (λ x. HoldsSpace x based.params based.meta (map_under based) (OrderedUnder based) ⊎ HoldsSpace x based.params meta map order) based.moments new
+    → LeavesOnly (λ x. MayTakeSpans params x ⊎ P x) begun.moments new
+commit_leaves params begun based meta map order P new is ordered told holds leaves =
+    let own : based.params ≡ without_degree params = ap (λ (b : Begun). b.params) is ∙ told.own in
+    let ordered_there : OrderedUnder based = subst OrderedUnder (sym is) ordered in
+    let told_there : TellNoVersion params based.params based.meta = subst (λ (b : Begun). TellNoVersion params b.params b.meta) (sym is) told in
+    subst (λ (b : Begun). LeavesOnly (λ x. MayTakeSpans params x ⊎ P x) b.moments new) is
+    (LeavesOnly-weaken _ (λ x. MayTakeSpans params x ⊎ P x) based.moments new
+    (λ x has. elim has [
+      | inl before ↦ inl (inr (space_none params x based.params based.meta (map_under based) (OrderedUnder based) ordered_there before told_there))
+      | inr after ↦ inr (holds x (subst (λ (p : Params). HoldsSpace x p meta map order) own after))
+    ]) leaves)
+
 module _ {E X : Type 0} (g : Ghosts E) (i : IndexGhosts X) (params : Params) (h : History) where
   abbrev pub IsPossible : Image → Type 0
   IsPossible x = MayTakeSpans params x ⊎ SpanHolds i x params h
 
   -- all was written
   pub done_leaves : (second e : E) (last : ℕ) → last ≡ last_version h → SpanHolds i (g.image e) params h → LeavesNow (g.moments e) (g.image e) → LeavesOnly IsPossible (g.moments second) (g.moments e)
+      → ((before after : ℕ) → HasGivenOut params (g.image second) before → HasGivenOut params (g.image e) after → after ≤ before + span_growth params (length (changes h)))
       → LeavesSpans g i params h second (Done e last)
-  done_leaves second e last is holds settled moments = record {
+  done_leaves second e last is holds settled moments growth = record {
     done = λ f version same.
         let version_is : version ≡ last = cc in
         let disk_is : e ≡ f = cc in (
@@ -69,6 +88,9 @@ module _ {E X : Type 0} (g : Ghosts E) (i : IndexGhosts X) (params : Params) (h 
               (holds, λ x left. subst (λ (y : Image). SpanHolds i y params h) (sym (settled x left)) holds),
         );
     moments = moments;
+    growth = λ f version before after same first now.
+        let disk_is : e ≡ f = cc in
+        growth before after first (subst (λ (d : E). HasGivenOut params (g.image d) after) (sym disk_is) now);
     limit = λ f allotted before same. absurd (cc);
     sound = λ f page same. cc;
   }
@@ -80,6 +102,7 @@ module _ {E X : Type 0} (g : Ghosts E) (i : IndexGhosts X) (params : Params) (h 
   undone_leaves second ended not_done limit sound moments = record {
     done = λ e version same. absurd (not_done e version same);
     moments = moments;
+    growth = λ e version before after same. absurd (not_done e version same);
     limit = limit;
     sound = sound;
   }
@@ -106,6 +129,7 @@ module _ {E X : Type 0} (g : Ghosts E) (i : IndexGhosts X) (params : Params) (h 
   leaves_before start second result given earlier l = record {
     done = l.done;
     moments = LeavesOnly-then IsPossible (g.moments start) (g.moments second) (g.moments (second_out result)) earlier l.moments;
+    growth = λ e version before after is out. l.growth e version before after is (given before out);
     limit = λ e allotted before is out. l.limit e allotted before is (given before out);
     sound = l.sound;
   }

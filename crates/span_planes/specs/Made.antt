@@ -54,6 +54,21 @@ pub record HoldsNoVersion (params : Params) (x : Image) : Type 0 where
 abbrev pub MayTakeSpans : Params → Image → Type 0
 MayTakeSpans params x = (is_empty x ≡ true) ⊎ HoldsNoVersion params x
 
+-- The meta page is one of spans up to this version.
+pub record TellsVersion (params : Params) (version : ℕ) (meta : Meta) : Type 0 where
+  pub version_is : meta.version ≡ version
+  pub events : meta.events ≡ 0
+  pub table : meta.table ≡ empty_tree
+  pub roots : length meta.roots.items ≡ span_roots params
+
+-- The disk shows spans up to this version, of a warehouse with these params: a space with its free pages in order, whose meta page tells of
+-- them. What its trees stand for is left open.
+pub record ShowsSpans (params : Params) (version : ℕ) (x : Image) : Type 0 where
+  pub meta : Meta
+  pub pages : PageMap
+  pub space : HoldsSpace x (without_degree params) meta pages (Unit {0})
+  pub tells : TellsVersion params version meta
+
 -- The disk is a space of a warehouse without its degree, and this is how many page numbers it has given out.
 pub record GivesOut (params : Params) (x : Image) (n : ℕ) : Type 0 where
   pub meta : Meta
@@ -96,17 +111,30 @@ module _ {E X : Type 0} (g : Ghosts E) (i : IndexGhosts X) where
         → (version ≡ last_version h) × (SpanHolds i (g.image e) params h × ((x : Image) → MayBeLeftNow (g.moments e) x → SpanHolds i x params h))
     -- A crash at any moment left what it might have left before, what may take spans, or all of them.
     pub moments : LeavesOnly (λ x. MayTakeSpans params x ⊎ SpanHolds i x params h) (g.moments second) (g.moments (second_out result))
+    -- It gives out no more page numbers than are stated, beside those of before.
+    pub growth : (e : E) (version before after : ℕ) → result ≡ Done e version → HasGivenOut params (g.image second) before → HasGivenOut params (g.image e) after
+        → after ≤ before + span_growth params (length (changes h))
     -- Pages lack only where the stated need passes the limit, beside what was given out before.
     pub limit : (e : E) (allotted before : ℕ) → result ≡ PageLimit e allotted → HasGivenOut params (g.image second) before
         → params.pages < before + span_growth params (length (changes h))
     pub sound : (e : E) (page : ℕ) → result ≢ Damaged e page
 
 module _ {E : Type 0} (g : Ghosts E) where
-  -- A second disk that may take spans, whatever the first one holds: it is not told to be there, and unless spans were written or it failed, it
-  -- is still ready for them, and what a crash at any moment left may take them, beside what it might have left before.
-  pub record StaysReady (params : Params) (second : E) (result : Derived E) : Type 0 where
-    pub ready : ((e : E) (version : ℕ) → result ≢ Done e version) → ((e : E) → result ≡ Disk e → Rose (g.faults second) (g.faults e) → ⊥)
+  -- A second disk, when spans up to this version are to be written to it, whatever they stand for.
+  pub record LeavesShown (params : Params) (version : ℕ) (second : E) (result : Derived E) : Type 0 where
+    -- Where it is done, it shows them, and a crash from now on leaves them.
+    pub done : (e : E) (last : ℕ) → result ≡ Done e last → ShowsSpans params version (g.image e) × ((x : Image) → MayBeLeftNow (g.moments e) x → ShowsSpans params version x)
+    -- A crash at any moment left what it might have left before, what may take spans, or what shows them.
+    pub moments : LeavesOnly (λ x. MayTakeSpans params x ⊎ ShowsSpans params version x) (g.moments second) (g.moments (second_out result))
+
+  -- A second disk that may take spans, whatever the first one holds up to this version: it is not told to be there, and where it is done it
+  -- shows spans up to that version. Unless spans were written or it failed, it is still ready for them, and what a crash at any moment left may
+  -- take them, beside what it might have left before. Spans of no version may be replaced by those of more, and are those that were there.
+  pub record StaysReady (params : Params) (version : ℕ) (second : E) (result : Derived E) : Type 0 where
+    pub ready : ((e : E) (last : ℕ) → result ≢ Done e last) → ((e : E) → result ≡ Disk e → Rose (g.faults second) (g.faults e) → ⊥)
         → IsStillReady params (g.image second) (g.image (second_out result)) × LeavesOnly (MayTakeSpans params) (g.moments second) (g.moments (second_out result))
+    pub shown : LeavesShown params version second result
+    pub none : (e : E) → result ≡ Done e 0 → HoldsNoVersion params (g.image e) × IsStillReady params (g.image second) (g.image e)
     pub at_limit : (e : E) (allotted : ℕ) → result ≡ PageLimit e allotted → allotted ≡ params.pages
     pub there : (e : E) → result ≢ AlreadyThere e
 

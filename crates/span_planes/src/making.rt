@@ -7,7 +7,7 @@ ghost use Rattle.page_warehouse.specs.Shown.{HasNewForm, HoldsHistory, disk_char
 ghost use Rattle.page_space.specs.Shown.{IsInOrder, disk_of};
 ghost use Rattle.warehouse.specs.Left.{IsAsBefore};
 ghost use Rattle.span_planes.specs.Ended.{gathering_of};
-ghost use Rattle.span_planes.specs.Made.{HoldsNoVersion, IsStillReady, LeavesSpans, MayTakeSpans, StaysReady, StaysThere, second_out};
+ghost use Rattle.span_planes.specs.Made.{HoldsNoVersion, LeavesShown, LeavesSpans, MayTakeSpans, StaysReady, StaysThere, second_out};
 ghost use Rattle.span_planes.specs.Readied.{IsSpaceOfNoVersion, StaysOpened};
 
 use crate::readying::ready_space;
@@ -16,7 +16,7 @@ use dom_index::DomIndex;
 use history_laws::lawful_histories_have_room;
 use history_list::{GatherFault, gather};
 use page_disk::Disk;
-use page_space::{Space, created_holds};
+use page_space::{Space, created_holds, holds_one};
 use page_warehouse::Warehouse;
 use std::alloc::Global;
 
@@ -51,12 +51,10 @@ pub fn derive<D: Disk, X: DomIndex + Drop, E: Disk + Drop>(
 ) -> Derived<E>
     ensures leaves { (h : History) → HoldsHistory D.Disk X.DomIndex true (disk_in house.old) (params_in house.old) h → IsTrue (E.tells second)
         → MayTakeSpans (params_in house.old) (E.image second) → LeavesSpans E.Disk X.DomIndex (params_in house.old) h second result }
-    ensures ready { IsTrue (E.tells second) → MayTakeSpans (params_in house.old) (E.image second) → StaysReady E.Disk (params_in house.old) second result }
+    ensures ready { IsTrue (E.tells second) → MayTakeSpans (params_in house.old) (E.image second)
+        → StaysReady E.Disk (params_in house.old) (meta_in house.old).version second result }
     ensures there { IsTrue (E.tells second) → (MayTakeSpans (params_in house.old) (E.image second) → ⊥) → StaysThere E.Disk second result }
     ensures version { (e : E) (version : ℕ) → result ≡ Derived.Done e version → version ≡ (meta_in house.old).version }
-    // Spans of no version may be replaced by those of more, and are those that were there.
-    ensures none { (e : E) → result ≡ Derived.Done e 0 → IsTrue (E.tells second) → MayTakeSpans (params_in house.old) (E.image second)
-        → HoldsNoVersion (params_in house.old) (E.image e) × IsStillReady (params_in house.old) (E.image second) (E.image e) }
     ensures disk { (e : E) → result ≡ Derived.Disk e → Rose (D.faults (disk_in house.old)) (D.faults (disk_in house.new)) ⊎ Rose (E.faults second) (E.faults e) }
     ensures kept { IsAsBefore params_in disk_in (HoldsHistory D.Disk X.DomIndex) (HasNewForm D.Disk) D.tells D.image D.moments (disk_charge D.Disk) house.old house.new }
     ensures meta { meta_in house.new ≡ meta_in house.old }
@@ -83,6 +81,7 @@ fn derive_to<D: Disk, X: DomIndex + Drop, E: Disk + Drop>(
     requires settled { LeavesNow (E.moments (disk_of space)) (E.image (disk_of space)) }
     ensures leaves { (h : History) → HoldsHistory D.Disk X.DomIndex true (disk_in house.old) (params_in house.old) h → IsTrue (E.tells (disk_of space))
         → LeavesSpans E.Disk X.DomIndex (params_in house.old) h (disk_of space) result }
+    ensures shown { IsTrue (E.tells (disk_of space)) → LeavesShown E.Disk (params_in house.old) (meta_in house.old).version (disk_of space) result }
     ensures opened { StaysOpened E.Disk (params_in house.old) (disk_of space) result }
     ensures version { (e : E) (version : ℕ) → result ≡ Derived.Done e version → version ≡ (meta_in house.old).version }
     // Where there is no version, the disk is as it was.
@@ -97,6 +96,7 @@ fn derive_to<D: Disk, X: DomIndex + Drop, E: Disk + Drop>(
 {
     X::index_laws();
     lawful_histories_have_room();
+    holds_one();
     space.is_held();
     let params = house.params();
     let last = house.last();

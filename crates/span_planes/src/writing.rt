@@ -9,7 +9,7 @@ ghost use Rattle.page_space.specs.MetaSet.{FitsBesideCounts, with_counts_of};
 ghost use Rattle.page_space.specs.Shown.{IsInOrder, IsMetaSet, IsStagedInOrder, base_of, disk_of, disk_under, staged_map, staged_meta};
 ghost use Rattle.span_planes.specs.Ended.{abandoning_of};
 ghost use Rattle.span_planes.specs.Filled.{CanFill, ComeInTurn, FilledTrees, entries_in, span_growth};
-ghost use Rattle.span_planes.specs.Made.{LeavesSpans, second_out};
+ghost use Rattle.span_planes.specs.Made.{LeavesShown, LeavesSpans, TellsVersion, second_out};
 ghost use Rattle.span_planes.specs.Readied.{IsSpaceOfNoVersion, StaysOpened};
 ghost use Rattle.span_planes.specs.Writing.{AreAllOf, IsMetaFor};
 
@@ -40,6 +40,7 @@ pub(crate) fn write<X: DomIndex, E: Disk + Drop>(
     requires ordered { IsTrue (E.tells (disk_of space)) → IsInOrder space }
     ensures leaves { (h : History) → AreAllOf params.now events.now last h → IsTrue (E.tells (disk_of space))
         → LeavesSpans E.Disk X.DomIndex params.now h (disk_of space) result }
+    ensures shown { IsTrue (E.tells (disk_of space)) → LeavesShown E.Disk params.now last (disk_of space) result }
     ensures opened { StaysOpened E.Disk params.now (disk_of space) result }
     ensures version { (e : E) (version : ℕ) → result ≡ Derived.Done e version → version ≡ last }
     ensures disk { (e : E) → result ≡ Derived.Disk e → Rose (E.faults (disk_of space)) (E.faults e) }
@@ -88,6 +89,7 @@ fn draft<X: DomIndex, E: Disk>(
     requires events { All (CanFill params.now) events.now }
     ensures fills { OnOk result (IsTrue (E.tells (disk_under stage.old)) → ComeInTurn events.now
         → FilledTrees X.DomIndex (staged_map stage.old) (staged_map stage.new) params.now (entries_in events.now) (staged_meta stage.new).roots.items) }
+    ensures shown { OnOk result (TellsVersion params.now last (staged_meta stage.new)) }
     ensures meta { OnOk result (length events.now < 2 ^ 32 → IsMetaFor params.now last (length events.now) (staged_meta stage.new)) }
     ensures set { OnOk result (IsMetaSet stage.new) }
     ensures sound { (page : ℕ) → IsTrue (E.tells (disk_under stage.old)) → ComeInTurn events.now → IsStagedInOrder stage.old → result ≢ Err (StageFault.Damaged page) }

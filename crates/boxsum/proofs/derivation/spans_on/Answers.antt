@@ -1,12 +1,13 @@
-use Rattle.std.proofs.Common.{◌≡◌, ◌≢◌, ℕ, List, true, ◌++◌, None, refl, sym, ◌∙◌, ap, subst, inl, inr, arith}
+use Rattle.std.proofs.Common.{◌≡◌, ◌≢◌, ◌⊎◌, ℕ, List, true, ◌++◌, None, refl, sym, ◌∙◌, ap, subst, inl, inr, arith}
 use Rattle.std.proofs.lemmas.Bool.{false_from_ne_true}
 use Rattle.counts.specs.Count.{Rose}
 use Rattle.bw_types.specs.History.{last_version}
 use Rattle.bw_types.specs.declared.params.Params.{Params}
+use Rattle.page_layout.specs.declared.meta.Meta.{Meta}
 use Rattle.page_space.specs.declared.refusal.OpenFault.TheVariants as fault
-use Rattle.page_warehouse.specs.Shown.{HasNewForm, HoldsHistory, disk_charge, disk_in, params_in}
+use Rattle.page_warehouse.specs.Shown.{HasNewForm, HoldsHistory, disk_charge, disk_in, meta_in, params_in}
 use Rattle.redo_journal.specs.Gates.{is_empty}
-use Rattle.span_planes.specs.Made.{HoldsNoVersion, IsStillReady, LeavesSpans, MayTakeSpans, StaysReady, second_out}
+use Rattle.span_planes.specs.Made.{LeavesSpans, MayTakeSpans, StaysReady, second_out}
 use Rattle.span_planes.specs.declared.making.Derived.TheVariants as derived
 use Rattle.warehouse.specs.Left.{IsAsBefore}
 use Rattle.boxsum.specs.Spanning.{Derives, failure_of, spans_line}
@@ -26,6 +27,10 @@ returns-in-Err g c =
     let s = c.from.result in
     let e = c.in-Err.ensures in
     let x = g.D.Disk.image c.args.disk in
+    let not_done : (s ≡ status.Fine) ⊎ (s ≡ status.WriteFault) → ⊥ = λ why. elim why [
+      | inl so ↦ no_fault f s status.Fine c.from.ensures so refl
+      | inr so ↦ no_fault f s status.WriteFault c.from.ensures so refl
+    ] in
     record {
       derives = record {
         silent = λ fine put. refl;
@@ -35,6 +40,10 @@ returns-in-Err g c =
           unopened = λ told why. refl;
           ready = λ params told shows still takes. record {
             ready = λ undone calm. (still_ready params (g.E.Disk.image c.args.second), nothing_left _ (g.E.Disk.moments c.args.second));
+            done = λ why. absurd (not_done why);
+            fine = λ so. absurd (no_fault f s status.Fine c.from.ensures so refl);
+            none = λ why. absurd (not_done why);
+            moments = nothing_left _ (g.E.Disk.moments c.args.second);
             at_limit = λ allotted so. absurd (no_fault f s (status.PageLimit allotted) c.from.ensures so refl);
             there = λ so. no_fault f s status.AlreadyThere c.from.ensures so refl;
           };
@@ -48,21 +57,12 @@ returns-in-Err g c =
               let known = for_queries g.D.Disk g.X.DomIndex c.holding_laws.ensures.queries true c.args.disk params h held in
               let stopped = refused_status g.D.Disk g.X.DomIndex f s c.from.ensures (e.refused.sound known.0 params h known.1) in
               record {
-                done = λ why. absurd (elim why [
-                  | inl so ↦ no_fault f s status.Fine c.from.ensures so refl
-                  | inr so ↦ no_fault f s status.WriteFault c.from.ensures so refl
-                ]);
+                done = λ why. absurd (not_done why);
                 fine = λ so. absurd (no_fault f s status.Fine c.from.ensures so refl);
                 part = λ before still. writes_nothing (g.K.Sink.written c.args.sink.now) (spans_line (last_version h));
-                none = λ why. absurd (elim why [
-                  | inl so ↦ no_fault f s status.Fine c.from.ensures so refl
-                  | inr so ↦ no_fault f s status.WriteFault c.from.ensures so refl
-                ]);
-                first = λ why. absurd (elim why [
-                  | inl so ↦ no_fault f s status.Fine c.from.ensures so refl
-                  | inr so ↦ no_fault f s status.WriteFault c.from.ensures so refl
-                ]);
+                first = λ why. absurd (not_done why);
                 moments = nothing_left _ (g.E.Disk.moments c.args.second);
+                growth = λ why. absurd (not_done why);
                 limit = λ allotted before so given. absurd (no_fault f s (status.PageLimit allotted) c.from.ensures so refl);
                 undamaged = λ area page. not_damaged s area page stopped;
                 complete = λ calm other limit. only_memory s stopped other;
@@ -130,6 +130,7 @@ returns g c =
     derived_of r (derived.AlreadyThere (second_out r)) status.AlreadyThere (failed status.AlreadyThere so (λ no. cc) (λ no. cc) (λ no. cc)) refl in
     let fine = λ (so : s ≡ status.Fine). put_by k before put line (failure_of r) s status.Fine ends so (λ no. no_failure r status.Fine no refl) in
     let wrote = λ (so : s ≡ status.WriteFault). put_by k before put line (failure_of r) s status.WriteFault ends so (λ no. no_failure r status.WriteFault no refl) in
+    let printed : (s ≡ status.Fine) ⊎ (s ≡ status.WriteFault) → failure_of r ≡ None = λ why. elim why [ inl so ↦ (fine so).0 | inr so ↦ (wrote so).0 ] in
     let disk_failed = λ (y : g.row.E.Denot) (is : r ≡ derived.Disk y). status_by k before put line (failure_of r) s status.DiskFault ends (ap failure_of is) in
     record {
       derives = subst (λ (first : g.row.D.Denot). Derives g.D.Disk g.E.Disk k g.X.DomIndex c.args.disk c.args.second before put
@@ -147,12 +148,25 @@ returns g c =
                 | inr none ↦ never_none g.D.Disk g.X.DomIndex c.args.disk house o told none
               ]);
               ready = λ params told shows still takes.
-                  let same : params_in house ≡ params = (c.holds_one.ensures.one _ _ _ _ _ _ _ (o.whole told).1 shows.space).0 in
-                  let stays = subst (λ (p : Params). StaysReady g.E.Disk p c.args.second r) same (d.ready still (subst (λ (p : Params). MayTakeSpans p x) (sym same) takes)) in
+                  let one = c.holds_one.ensures.one _ _ _ _ _ _ _ (o.whole told).1 shows.space in
+                  let same : params_in house ≡ params = one.0 in
+                  let version : (meta_in house).version ≡ shows.meta.version = ap (λ (m : Meta). m.version) one.1 in
+                  let stays = subst (λ (n : ℕ). StaysReady g.E.Disk params n c.args.second r) version
+                  (subst (λ (p : Params). StaysReady g.E.Disk p (meta_in house).version c.args.second r) same (d.ready still (subst (λ (p : Params). MayTakeSpans p x) (sym same) takes))) in
+                  let is_line : line ≡ spans_line shows.meta.version = c.as_bytes.ensures.value ∙ (c.in-Ok-spans_line.ensures ∙ ap spans_line (c.last.ensures.value ∙ version)) in
                   record {
                     ready = λ undone calm. stays.ready
                         (λ y version is. undone (derived_put k before put line r s ends (c.ended-status.ensures.memory (ap failure_of is)) (ap failure_of is)))
                         (λ y is rose. calm (disk_failed y is) (subst (λ (z : g.row.E.Denot). Rose (g.E.Disk.faults c.args.second) (g.E.Disk.faults z)) (sym (ap second_out is)) rose));
+                    done = λ why. (let w = done_of r (printed why) in stays.shown.done (second_out r) w.0 w.1);
+                    fine = λ so tells.
+                        let text = (fine so).1.fine so tells in
+                        (text.0, text.1 ∙ ap (λ (t : List ℕ). k.written before ++ t) is_line);
+                    none = λ why zero.
+                        let w = done_of r (printed why) in
+                        let number : w.0 ≡ 0 = d.version (second_out r) w.0 w.1 ∙ (version ∙ zero) in
+                        stays.none (second_out r) (subst (λ (n : ℕ). r ≡ derived.Done (second_out r) n) number w.1);
+                    moments = stays.shown.moments;
                     at_limit = λ allotted so. stays.at_limit (second_out r) allotted (limited allotted so);
                     there = λ so. stays.there (second_out r) (is_there so);
                   };
@@ -175,21 +189,15 @@ returns g c =
                   let w = done_of r none in (left.done (second_out r) w.0 w.1) in
                   record {
                     done = λ why.
-                        let there = (done (elim why [ inl so ↦ (fine so).0 | inr so ↦ (wrote so).0 ])).1 in
+                        let there = (done (printed why)).1 in
                         record { holds = (d.tells ∙ told, there.0); left = there.1 };
                     fine = λ so tells.
                         let text = (fine so).1.fine so tells in
                         (text.0, text.1 ∙ ap (λ (t : List ℕ). k.written before ++ t) is_line);
                     part = part_by k before put line (spans_line (last_version h)) (failure_of r) s ends (λ none. is_line);
-                    none = λ why zero.
-                        let none : failure_of r ≡ None = elim why [ inl so ↦ (fine so).0 | inr so ↦ (wrote so).0 ] in
-                        let w = done_of r none in
-                        let number : w.0 ≡ 0 = (left.done (second_out r) w.0 w.1).0 ∙ zero in
-                        let y = g.E.Disk.image (second_out r) in
-                        subst (λ (p : Params). HoldsNoVersion p y × IsStillReady p x y) here.0
-                        (d.none (second_out r) (subst (λ (n : ℕ). r ≡ derived.Done (second_out r) n) number w.1) told given);
                     first = λ why. holds_on g.D.Disk g.X.DomIndex c.args.disk house o back after d.kept params h held;
                     moments = left.moments;
+                    growth = λ why first now. (let w = done_of r (printed why) in left.growth (second_out r) w.0 first now w.1);
                     limit = λ allotted before so first. left.limit (second_out r) allotted before (limited allotted so) first;
                     undamaged = λ area page so.
                         left.sound (second_out r) page (derived_of r (derived.Damaged (second_out r) page) (status.Damaged area page) (failed (status.Damaged area page) so (λ no. cc) (λ no. cc) (λ no. cc)) refl);

@@ -4,10 +4,9 @@ use Rattle.bw_types.specs.declared.params.Params.{Params}
 use Rattle.page_disk.specs.Since.{LeavesOnly}
 use Rattle.page_disk.specs.SinceLaws.{LeavesOnly-weaken}
 use Rattle.page_disk.specs.declared.disk.Disk.{Ghosts}
-use Rattle.page_disk.specs.Image.{Image}
 use Rattle.page_space.specs.Shown.{disk_of, meta_of, params_of}
 use Rattle.page_space.specs.declared.space.Space.{Space}
-use Rattle.page_warehouse.specs.Shown.{params_in}
+use Rattle.page_warehouse.specs.Shown.{meta_in, params_in}
 use Rattle.span_planes.specs.Made.{IsStillReady, MayTakeSpans, second_out}
 use Rattle.span_planes.specs.Readied.{IsReadied, IsRefused, TellNoVersion}
 use Rattle.span_planes.proofs.HouseSpans.{refused_leaves}
@@ -42,18 +41,11 @@ pub returns-in-Ok-clause-ready : goal.returns-in-Ok-clause-ready
 returns-in-Ok-clause-ready g c = λ told may.
     let disk = g.E.Disk in
     let params = params_in c.args.house.now in
-    opened_ready disk params c.args.second (disk_of c.in-Ok.space) c.derive_to.result c.in-Ok.ensures.faults
+    let still_told = subst IsTrue (sym c.in-Ok.ensures.tells) told in
+    opened_ready disk params (meta_in c.args.house.now).version c.args.second (disk_of c.in-Ok.space) c.derive_to.result c.in-Ok.ensures.faults
     (opened_still disk c.params-params.result params c.args.second c.in-Ok.space c.params-params.ensures.value c.in-Ok.ensures.readied told)
     (opened_moments disk c.params-params.result params c.args.second (disk_of c.in-Ok.space) c.params-params.ensures.value (c.in-Ok.ensures.any_moment told) may)
-    c.derive_to.ensures.opened
-
-pub returns-in-Ok-clause-none : goal.returns-in-Ok-clause-none
-returns-in-Ok-clause-none g c = λ e is told may.
-    let disk = g.E.Disk in
-    let params = params_in c.args.house.now in
-    let none = c.derive_to.ensures.none e is (subst IsTrue (sym c.in-Ok.ensures.tells) told) in
-    let still = opened_still disk c.params-params.result params c.args.second c.in-Ok.space c.params-params.ensures.value c.in-Ok.ensures.readied told in
-    (none.0, subst (λ (x : Image). IsStillReady params (disk.image c.args.second) x) (sym none.1) still)
+    c.derive_to.ensures.opened (c.derive_to.ensures.shown still_told) (λ e is. c.derive_to.ensures.none e is still_told)
 
 pub returns-in-Ok-clause-there : goal.returns-in-Ok-clause-there
 returns-in-Ok-clause-there g c = λ told never.
@@ -72,14 +64,11 @@ pub returns-in-Err-clause-ready : goal.returns-in-Err-clause-ready
 returns-in-Err-clause-ready g c = λ told may.
     let disk = g.E.Disk in
     let params = params_in c.args.house.now in
-    refused_ready disk params c.args.second c.in-Err.ended (subst (λ (p : Params). IsRefused disk p c.args.second c.in-Err.ended) c.params-params.ensures.value c.in-Err.ensures.refused) told may
+    refused_ready disk params (meta_in c.args.house.now).version c.args.second c.in-Err.ended (subst (λ (p : Params). IsRefused disk p c.args.second c.in-Err.ended) c.params-params.ensures.value c.in-Err.ensures.refused) told may
     (opened_moments disk c.params-params.result params c.args.second (second_out c.in-Err.ended) c.params-params.ensures.value (c.in-Err.ensures.any_moment told) may)
 
 pub returns-in-Err-clause-version : goal.returns-in-Err-clause-version
 returns-in-Err-clause-version g c = λ e version is. absurd (c.in-Err.ensures.refused.early.not_done e version is)
-
-pub returns-in-Err-clause-none : goal.returns-in-Err-clause-none
-returns-in-Err-clause-none g c = λ e is told may. absurd (c.in-Err.ensures.refused.early.not_done e 0 is)
 
 pub returns-in-Err-clause-there : goal.returns-in-Err-clause-there
 returns-in-Err-clause-there g c = λ told never.
