@@ -11,11 +11,12 @@ use Rattle.page_disk.specs.declared.disk.Disk.{Ghosts as DiskGhosts}
 use Rattle.row_machine.specs.Ended.{AfterGoesOn, SilentLinesKeep}
 use Rattle.boxsum.specs.Ends.{may_end}
 use Rattle.boxsum.specs.Held.{warehouses}
-use Rattle.boxsum.specs.Ran.{Carried, Compacts, compacted_text}
+use Rattle.boxsum.specs.Ran.{Carried, Compacts}
 use Rattle.boxsum.specs.Spanning.{Derives, LeavesSpanDisk, spans_line}
 use Rattle.boxsum.specs.declared.status.Ran.{Ran}
 use Rattle.boxsum.specs.declared.status.Status.TheVariants.{NoMemory}
 use Rattle.boxsum.proofs.Checked.{nothing_checked}
+use Rattle.boxsum.proofs.Compacting.{nothing_written, some_history}
 use Rattle.boxsum.proofs.Exported.{nothing_exported}
 use Rattle.boxsum.proofs.Nothing.{nothing_caused, nothing_created, nothing_left, nothing_read, nothing_reported, nothing_run, nothing_sampled, nothing_scratched, stays_read}
 use Rattle.boxsum.proofs.Opened.{writes_nothing}
@@ -71,19 +72,25 @@ nothing_compacted d e k i disk second sink version = record {
     there_held = λ params h held within told full. inr (inr refl);
     there_only = λ so. cc;
     makes = λ params h held within told none. record {
-      done = λ why. elim why [ inl so ↦ cc | inr so ↦ cc ];
-      fine = λ so. cc;
+      writes = nothing_written d e k i disk disk second sink NoMemory params (kept h version) (λ so. cc) (λ so. cc) (λ allotted so. cc) told none;
       last = λ so. cc;
       alike = λ later q so. cc;
       first = λ why. elim why [ inl so ↦ cc | inr so ↦ cc ];
-      part = λ before still. writes_nothing (k.written sink) (compacted_text (kept h version));
-      stays = λ other. (told, inl none);
-      moments = nothing_left _ (e.moments second);
-      limit = λ allotted so. cc;
       enough_pages = λ allotted few so. cc;
       undamaged = λ area page so. cc;
       complete = λ calm other limit. inr refl;
     };
+    shown = λ params told shows within still none.
+        let some = some_history shows.meta.version in
+        record {
+          whole = some.0;
+          last = some.1;
+          writes = nothing_written d e k i disk disk second sink NoMemory params some.0 (λ so. cc) (λ so. cc) (λ allotted so. cc) still none;
+          later = λ why. elim why [ inl so ↦ cc | inr so ↦ cc ];
+          has_version = λ other so. cc;
+        };
+    shown_above = λ params told shows above. (refl, inr (inr refl));
+    shown_there = λ params told shows within still full. inr (inr refl);
   };
   causes = record {
     may_end = refl;

@@ -1,21 +1,46 @@
 -- How a compaction ends, told from its status, and what is left then.
-use Rattle.std.proofs.Common.{◌≡◌, ◌≢◌, ◌⊎◌, ℕ, IsTrue, List, inl, inr, refl, sym, ◌∙◌, subst}
+use Rattle.std.proofs.Common.{◌≡◌, ◌≢◌, ◌⊎◌, ℕ, zero, suc, true, IsTrue, List, [], ◌∷◌, inl, inr, refl, sym, ◌∙◌, ap, subst}
 use Rattle.counts.specs.Count.{Rose}
+use Rattle.bw_types.specs.History.{History, last_version}
+use Rattle.bw_types.specs.declared.params.Params.{Params}
 use Rattle.byte_ports.specs.declared.Sink.{Ghosts as SinkGhosts}
 use Rattle.compact_store.specs.Compacted.{second_out}
 use Rattle.compact_store.specs.declared.compacting.Compacted.{Compacted}
 use Rattle.compact_store.specs.declared.compacting.Compacted.TheVariants as made
+use Rattle.dom_index.specs.declared.index.DomIndex.{Ghosts as IndexGhosts}
+use Rattle.page_disk.specs.declared.disk.Disk.{Ghosts as DiskGhosts}
 use Rattle.page_disk.specs.declared.disk.Area.{Area}
 use Rattle.page_disk.specs.declared.disk.Area.TheVariants.{Pages, Journal}
 use Rattle.byte_ports.specs.Written.{WritesPart}
 use Rattle.boxsum.specs.Compacting.{EndsAs, PutsCompacted, compacted_line}
 use Rattle.boxsum.specs.Ends.{ends_compact}
+use Rattle.boxsum.specs.Ran.{WritesHistory, compacted_text}
 use Rattle.boxsum.specs.Statuses.{status_of_fault}
 use Rattle.page_space.specs.declared.refusal.OpenFault.{OpenFault}
 use Rattle.page_space.specs.declared.refusal.OpenFault.TheVariants as fault
 use Rattle.boxsum.specs.declared.status.Status.{Status}
 use Rattle.boxsum.specs.declared.status.Status.TheVariants.{Fine, NoWarehouse, AlreadyThere, WriteFault, DiskFault, NoMemory, Damaged, PageLimit, NoVersion}
+use Rattle.redo_journal.specs.Gates.{is_empty}
+use Rattle.boxsum.proofs.Nothing.{nothing_left}
 use Rattle.boxsum.proofs.Opened.{writes_nothing}
+
+-- a history with so many versions
+pub some_history : (n : ℕ) → (h : History) × (last_version h ≡ n)
+some_history zero = ([], refl)
+some_history (suc n) = (let rest = some_history n in ([] ∷ rest.0, ap suc rest.1))
+
+-- no history is written where the second disk is not called
+pub nothing_written : {D E K X : Type 0} (d : DiskGhosts D) (e : DiskGhosts E) (k : SinkGhosts K) (i : IndexGhosts X) (disk back : D) (second : E) (sink : K) (s : Status) (params : Params) (whole : History)
+    → s ≢ Fine → s ≢ WriteFault → ((allotted : ℕ) → s ≢ PageLimit allotted) → IsTrue (e.tells second) → is_empty (e.image second) ≡ true
+    → WritesHistory d e k i disk second sink sink (record { status = s; disk = back; second = second }) params whole
+nothing_written d e k i disk back second sink s params whole fine put limit told none = record {
+  done = λ why. absurd (elim why [ inl so ↦ fine so | inr so ↦ put so ]);
+  fine = λ so. absurd (fine so);
+  part = λ before still. writes_nothing (k.written sink) (compacted_text whole);
+  stays = λ other. (told, inl none);
+  moments = nothing_left _ (e.moments second);
+  limit = λ allotted so. absurd (limit allotted so);
+}
 
 -- the line is put with one of three statuses
 three : {P : Type 0} (s : Status) → (s ≡ Fine) ⊎ ((s ≡ WriteFault) ⊎ (s ≡ NoMemory)) → (s ≡ Fine → P) → (s ≡ WriteFault → P) → (s ≡ NoMemory → P) → P

@@ -36,6 +36,12 @@ gathers_pages gathering.Disk s page is e = (let no : DiskFault ≡ Damaged Journ
 gathers_pages (gathering.Damaged p) s page is e = (let no : Damaged Pages p ≡ Damaged Journal page = sym is ∙ e in cc)
 gathers_pages gathering.NoMemory s page is e = (let no : NoMemory ≡ Damaged Journal page = sym is ∙ e in cc)
 
+-- nothing is printed
+pub gathers_nothing : (f : GatherFault) (s : Status) → s ≡ status_of_gathering f → (s ≢ Fine) × (s ≢ WriteFault)
+gathers_nothing gathering.Disk s is = ((λ e. let no : DiskFault ≡ Fine = sym is ∙ e in cc), (λ e. let no : DiskFault ≡ WriteFault = sym is ∙ e in cc))
+gathers_nothing (gathering.Damaged p) s is = ((λ e. let no : Damaged Pages p ≡ Fine = sym is ∙ e in cc), (λ e. let no : Damaged Pages p ≡ WriteFault = sym is ∙ e in cc))
+gathers_nothing gathering.NoMemory s is = ((λ e. let no : NoMemory ≡ Fine = sym is ∙ e in cc), (λ e. let no : NoMemory ≡ WriteFault = sym is ∙ e in cc))
+
 -- with no fault an export is fine, unless memory ran out
 pub exports_whole : (s : Status) → IsTrue (ends_export s) → s ≢ NoWarehouse → s ≢ WriteFault → s ≢ DiskFault → ((area : Area) (page : ℕ) → s ≢ Damaged area page)
     → (s ≡ Fine) ⊎ (s ≡ NoMemory)
@@ -65,6 +71,7 @@ module _ {D K X : Type 0} (d : DiskGhosts D) (k : SinkGhosts K) (i : IndexGhosts
       undamaged = λ area page e. cc;
       complete = λ calm other. inr refl;
     };
+    shown = λ params told shows. record { fine = λ e. cc; part = λ e. cc };
   }
 
   pub nothing_exported : {S : Type 0} (s : SourceGhosts S) (source : S) → ExportRan d s k i disk source source sink sink (record { status = NoMemory; disk = disk })

@@ -1,5 +1,5 @@
 -- What a run of the program leaves behind, command by command.
-use Rattle.std.specs.Prelude.{◌≡◌, ◌≢◌, ◌⊎◌, ℕ, ◌+◌, ◌<◌, ◌≤◌, ◌^◌, ◌++◌, List, [], Option, Some, None, Bool, true, false, IsTrue, length}
+use Rattle.std.specs.Prelude.{◌≡◌, ◌≢◌, ◌⊎◌, ℕ, ◌+◌, ◌<◌, ◌≤◌, ◌^◌, ◌++◌, List, [], Option, Some, None, Bool, true, false, IsTrue, drop, length}
 use Rattle.counts.specs.Count.{Rose}
 use Rattle.bw_types.specs.Answers.{answer}
 use Rattle.bw_types.specs.History.{History, changes, last_version}
@@ -32,6 +32,7 @@ use Rattle.page_warehouse.specs.Opened.{IsDamagedToOpen}
 use Rattle.page_warehouse.specs.Shown.{HoldsHistory}
 use Rattle.compact_store.specs.Compacted.{IsEmptyOrHoldsPart, LacksNext, batches_need}
 use Rattle.compact_store.specs.Kept.{kept}
+use Rattle.history_list.specs.Told.{HasNumbersOf}
 use Rattle.history_text.specs.Rebuilt.{Rebuilds}
 use Rattle.history_text.specs.Rows.{rows_of}
 use Rattle.byte_ports.specs.Written.{WritesPart}
@@ -46,7 +47,7 @@ use Rattle.boxsum.specs.Answering.{AnswersEach, text_by}
 use Rattle.boxsum.specs.Checking.{Checks}
 use Rattle.boxsum.specs.Compacting.{compacted_line}
 use Rattle.boxsum.specs.Ends as ends
-use Rattle.boxsum.specs.Held.{BeginsWith, CommitsNothing, Content, HoldsBetween, HoldsFrom, HoldsSurely, IsEmptyOrHolds, IsEmptyOrPart, IsNoWarehouse, LeavesEach, MakesAndLoads, Refuses, all_spans, warehouses}
+use Rattle.boxsum.specs.Held.{BeginsWith, CommitsNothing, Content, HoldsBetween, HoldsFrom, HoldsSurely, IsEmptyOrHolds, IsEmptyOrPart, IsNoWarehouse, LeavesEach, MakesAndLoads, Refuses, ShowsWarehouse, all_spans, warehouses}
 use Rattle.boxsum.specs.Runs.{AreReplied, IsInputStatus, LacksPagesAmid, LacksPagesNext, ReadsForLines, ServesLines, WritesWholeLines, history_by}
 use Rattle.boxsum.specs.declared.status.Ran.{Ran}
 use Rattle.boxsum.specs.declared.status.RanTwo.{RanTwo}
@@ -187,6 +188,13 @@ module _ {D : Type 0} (d : DiskGhosts D) (disk : D) (ran : Ran D) where
 abbrev pub ReadsWarehouse : {D X : Type 0} → DiskGhosts D → IndexGhosts X → D → Ran D → Type 0
 ReadsWarehouse d i disk ran = ReadsContent d disk ran (warehouses i)
 
+-- What an export prints of a disk that shows a warehouse with this meta page, whatever history it holds or none.
+module _ {K : Type 0} (k : SinkGhosts K) (sink sink' : K) (ended : Status) where
+  -- The rows of some history with the numbers of that page are printed, or a part of them.
+  pub record PrintsSome (params : Params) (meta : Meta) : Type 0 where
+    pub fine : ended ≡ status.Fine → IsTrue (k.tells sink) → IsTrue (k.tells sink') × ((h : History) × HasNumbersOf meta h × (k.written sink' ≡ k.written sink ++ rows_of params h))
+    pub part : ended ≡ status.WriteFault → IsTrue (k.tells sink) → IsTrue (k.tells sink') → (h : History) × HasNumbersOf meta h × WritesPart (k.written sink) (k.written sink') (rows_of params h)
+
 -- An export.
 module _ {D K X : Type 0} (d : DiskGhosts D) (k : SinkGhosts K) (i : IndexGhosts X) (disk : D) (sink sink' : K) (ran : Ran D) where
   -- What is printed of a disk that holds this history, and what it holds then.
@@ -208,6 +216,7 @@ module _ {D K X : Type 0} (d : DiskGhosts D) (k : SinkGhosts K) (i : IndexGhosts
     pub silent : ran.status ≢ status.Fine → ran.status ≢ status.WriteFault → sink' ≡ sink
     pub reads : ReadsWarehouse d i disk ran
     pub prints : (params : Params) (h : History) → HoldsHistory d i true disk params h → PrintsRows params h
+    pub shown : (params : Params) → IsTrue (d.tells disk) → (shows : ShowsWarehouse i.DIMS params (d.image disk)) → PrintsSome k sink sink' ran.status params shows.meta
 
 -- what is printed of a compaction, by the history that is kept
 abbrev pub compacted_text : History → List ℕ
@@ -215,25 +224,39 @@ compacted_text h = compacted_line (last_version h) (length (changes h))
 
 -- A compaction.
 module _ {D E K X : Type 0} (d : DiskGhosts D) (e : DiskGhosts E) (k : SinkGhosts K) (i : IndexGhosts X) (disk : D) (second : E) (sink sink' : K) (ran : RanTwo D E) where
-  -- What is left on an empty second disk, and printed, where the first one holds this history and has this version.
+  -- What is left on an empty second disk, and printed, where this history is written to it.
+  pub record WritesHistory (params : Params) (whole : History) : Type 0 where
+    -- The second disk holds the history, and a crash now leaves it.
+    pub done : (ran.status ≡ status.Fine) ⊎ (ran.status ≡ status.WriteFault) → HoldsSurely e i params whole ran.second
+    pub fine : ran.status ≡ status.Fine → IsTrue (k.tells sink) → IsTrue (k.tells sink') × (k.written sink' ≡ k.written sink ++ compacted_text whole)
+    pub part : IsTrue (k.tells sink) → IsTrue (k.tells sink') → WritesPart (k.written sink) (k.written sink') (compacted_text whole)
+    -- However it ends, it is empty or holds a first part of that, and a stop at any moment leaves no more than that.
+    pub stays : ran.status ≢ status.DiskFault → IsTrue (e.tells ran.second) × IsEmptyOrHoldsPart i params whole (e.image ran.second)
+    pub moments : LeavesOnly (IsEmptyOrHoldsPart i params whole) (e.moments second) (e.moments ran.second)
+    pub limit : (allotted : ℕ) → ran.status ≡ status.PageLimit allotted → (allotted ≡ params.pages) × LacksNext i params whole (e.image ran.second)
+
+  -- Where the first disk holds this history and has this version: what is kept of it is written.
   pub record MakesKept (params : Params) (h : History) (version : ℕ) : Type 0 where
-    -- The second disk holds the history from this version on, and a crash now leaves it.
-    pub done : (ran.status ≡ status.Fine) ⊎ (ran.status ≡ status.WriteFault) → HoldsSurely e i params (kept h version) ran.second
-    pub fine : ran.status ≡ status.Fine → IsTrue (k.tells sink) → IsTrue (k.tells sink') × (k.written sink' ≡ k.written sink ++ compacted_text (kept h version))
+    pub writes : WritesHistory params (kept h version)
     -- It has as many versions, and answers each query alike from this one on.
     pub last : ran.status ≡ status.Fine → last_version (kept h version) ≡ last_version h
     pub alike : (later : ℕ) (q : Query) → ran.status ≡ status.Fine → version ≤ later → later ≤ last_version h → answer params (kept h version) later q ≡ answer params h later q
     -- A crash now leaves the first disk with its history.
     pub first : (ran.status ≡ status.Fine) ⊎ (ran.status ≡ status.WriteFault) → HoldsSurely d i params h ran.disk
-    pub part : IsTrue (k.tells sink) → IsTrue (k.tells sink') → WritesPart (k.written sink) (k.written sink') (compacted_text (kept h version))
-    -- However it ends, it is empty or holds a first part of that, and a stop at any moment leaves no more than that.
-    pub stays : ran.status ≢ status.DiskFault → IsTrue (e.tells ran.second) × IsEmptyOrHoldsPart i params (kept h version) (e.image ran.second)
-    pub moments : LeavesOnly (IsEmptyOrHoldsPart i params (kept h version)) (e.moments second) (e.moments ran.second)
-    pub limit : (allotted : ℕ) → ran.status ≡ status.PageLimit allotted → (allotted ≡ params.pages) × LacksNext i params (kept h version) (e.image ran.second)
     pub enough_pages : (allotted : ℕ) → 3 + batches_need params [] (kept h version) ≤ params.pages → ran.status ≢ status.PageLimit allotted
     pub undamaged : (area : Area) (page : ℕ) → ran.status ≢ status.Damaged area page
     pub complete : (Rose (k.faults sink) (k.faults sink') → ⊥) → ran.status ≢ status.DiskFault → ((allotted : ℕ) → ran.status ≢ status.PageLimit allotted)
         → (ran.status ≡ status.Fine) ⊎ (ran.status ≡ status.NoMemory)
+
+  -- Where the first disk shows a warehouse with this meta page, which has this version, whatever history it holds or none: some history with as
+  -- many versions is written.
+  pub record MakesSome (params : Params) (meta : Meta) (version : ℕ) : Type 0 where
+    pub whole : History
+    pub last : last_version whole ≡ meta.version
+    pub writes : WritesHistory params whole
+    -- The batches after that version are those of a history with the numbers of the meta page.
+    pub later : (ran.status ≡ status.Fine) ⊎ (ran.status ≡ status.WriteFault) → (h : History) × HasNumbersOf meta h × (drop version whole ≡ drop version h)
+    pub has_version : (other : ℕ) → ran.status ≢ status.NoVersion other
 
   -- What becomes of the second disk.
   pub record LeavesSecond (version : ℕ) : Type 0 where
@@ -251,6 +274,13 @@ module _ {D E K X : Type 0} (d : DiskGhosts D) (e : DiskGhosts E) (k : SinkGhost
     pub there_only : ran.status ≡ status.AlreadyThere → IsTrue (e.tells second) → is_empty (e.image second) ≡ false
     pub makes : (params : Params) (h : History) → HoldsHistory d i true disk params h → version ≤ last_version h → IsTrue (e.tells second)
         → is_empty (e.image second) ≡ true → MakesKept params h version
+    -- What is said where the first one shows a warehouse, whatever history it holds or none.
+    pub shown : (params : Params) → IsTrue (d.tells disk) → (shows : ShowsWarehouse i.DIMS params (d.image disk)) → version ≤ shows.meta.version → IsTrue (e.tells second)
+        → is_empty (e.image second) ≡ true → MakesSome params shows.meta version
+    pub shown_above : (params : Params) → IsTrue (d.tells disk) → (shows : ShowsWarehouse i.DIMS params (d.image disk)) → shows.meta.version < version
+        → (ran.second ≡ second) × ((ran.status ≡ status.NoVersion shows.meta.version) ⊎ ((ran.status ≡ status.DiskFault) ⊎ (ran.status ≡ status.NoMemory)))
+    pub shown_there : (params : Params) → IsTrue (d.tells disk) → (shows : ShowsWarehouse i.DIMS params (d.image disk)) → version ≤ shows.meta.version → IsTrue (e.tells second)
+        → is_empty (e.image second) ≡ false → (ran.status ≡ status.AlreadyThere) ⊎ ((ran.status ≡ status.DiskFault) ⊎ (ran.status ≡ status.NoMemory))
 
   -- What its statuses come from, and what the disks tell.
   pub record HasCauses (ends_so : Status → Bool) : Type 0 where

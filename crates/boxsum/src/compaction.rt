@@ -10,7 +10,7 @@ use byte_ports::Sink;
 use compact_store::{Compacted, compact, kept_laws};
 use dom_index::DomIndex;
 use page_disk::{Area, Disk};
-use page_space::holds_one;
+use page_space::{held_opens, holds_one};
 use page_warehouse::{Warehouse, holding_laws};
 use redo_journal::settling_laws;
 use std::alloc::{AllocError, Global};
@@ -27,6 +27,7 @@ pub(crate) fn compact_on<X: DomIndex + Drop, D: Disk + Drop, E: Disk + Drop, K: 
 {
     settling_laws();
     holds_one();
+    held_opens();
     holding_laws::<X>();
     kept_laws();
     let mut house = match Warehouse::<D, X>::open_on(alloc, disk) {

@@ -5,11 +5,11 @@ ghost use Rattle.bw_types.specs.History.{History};
 ghost use Rattle.history_text.specs.Rebuilt.{Rebuilds};
 ghost use Rattle.history_text.specs.Rows.{rows_of};
 ghost use Rattle.page_disk.specs.declared.disk.Area.{Area as AreaName};
-ghost use Rattle.page_warehouse.specs.Shown.{HasNewForm, HoldsHistory, disk_charge, disk_in, params_in};
+ghost use Rattle.page_warehouse.specs.Shown.{HasNewForm, HoldsHistory, disk_charge, disk_in, meta_in, params_in};
 ghost use Rattle.byte_ports.specs.Written.{WritesPart};
 ghost use Rattle.warehouse.specs.Left.{IsAsBefore};
 ghost use Rattle.boxsum.specs.Ends.{ends_export};
-ghost use Rattle.boxsum.specs.Ran.{Exports};
+ghost use Rattle.boxsum.specs.Ran.{Exports, PrintsSome};
 
 use crate::status::{Ran, Status};
 use byte_ports::Sink;
@@ -63,6 +63,8 @@ fn put_rows<X: DomIndex + Drop, D: Disk + Drop, K: Sink>(
     ensures fine { (h : History) → HoldsHistory D.Disk X.DomIndex true (disk_in house.old) (params_in house.old) h → result ≡ Status.Fine → IsTrue (K.tells sink.old)
         → IsTrue (K.tells sink.new) × (K.written sink.new ≡ K.written sink.old ++ rows_of (params_in house.old) h) }
     ensures rebuilds { (h : History) → HoldsHistory D.Disk X.DomIndex true (disk_in house.old) (params_in house.old) h → result ≡ Status.Fine → Rebuilds (params_in house.old) h }
+    // Whatever the disk holds.
+    ensures some { PrintsSome K.Sink sink.old sink.new result (params_in house.old) (meta_in house.old) }
     ensures part { (h : History) → HoldsHistory D.Disk X.DomIndex true (disk_in house.old) (params_in house.old) h → IsTrue (K.tells sink.old) → IsTrue (K.tells sink.new)
         → WritesPart (K.written sink.old) (K.written sink.new) (rows_of (params_in house.old) h) }
     ensures silent { result ≢ Status.Fine → result ≢ Status.WriteFault → sink.new ≡ sink.old }

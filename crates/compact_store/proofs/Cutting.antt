@@ -1,8 +1,9 @@
 -- Lists of events that are cut into batches.
-use Rattle.std.proofs.Common.{◌≡◌, ℕ, zero, suc, ◌+◌, ◌-◌, ◌≤◌, nat_le, min, List, [], ◌∷◌, ◌++◌, length, map, take, drop, refl, sym, ◌∙◌, ap, subst, arith, inl, inr}
+use Rattle.std.proofs.Common.{◌≡◌, ℕ, zero, suc, ◌+◌, ◌-◌, ◌*◌, ◌≤◌, nat_le, min, List, [], ◌∷◌, ◌++◌, length, map, take, drop, refl, sym, ◌∙◌, ap, subst, arith, inl, inr}
 use Rattle.std.proofs.lemmas.Bool.{cases_lt, le-leb, lt-leb}
-use Rattle.std.proofs.lemmas.List.{drop-drop, drop-map, drop_all, length-append, length-drop, length-map, take-map, take_min}
+use Rattle.std.proofs.lemmas.List.{drop-drop, drop-map, drop_all, length-append, length-drop, length-map, length-take, take-map, take_min}
 use Rattle.std.proofs.lemmas.List.Concat.{flat_map-append}
+use Rattle.bw_types.specs.Fits.{IsInRange}
 use Rattle.bw_types.specs.History.{History, changes, last_version, live}
 use Rattle.bw_types.specs.Lawful.{IsLawful}
 use Rattle.bw_types.specs.Lives.{numbered_batch, numbered_from}
@@ -10,14 +11,17 @@ use Rattle.bw_types.specs.declared.change.Change.{Change}
 use Rattle.bw_types.specs.declared.change.Change.TheVariants as change
 use Rattle.bw_types.specs.declared.object.Object.{Object}
 use Rattle.bw_types.specs.declared.params.Params.{Params}
+use Rattle.history_laws.proofs.Room.{lawful_room}
 use Rattle.history_list.proofs.CutByVersion.{batches_are, both_cons, passes, stops}
+use Rattle.history_list.proofs.Numbers.{events_count}
 use Rattle.history_list.specs.Batches.{batches_from}
-use Rattle.history_list.specs.Events.{change_in, numbered_in}
+use Rattle.history_list.specs.Events.{AreEventsOf, change_in, numbered_in}
 use Rattle.history_list.specs.declared.event.Event.{Event}
-use Rattle.compact_store.specs.Cuts.{batches_by_size, count_to}
-use Rattle.compact_store.specs.Keeping.{IsKept}
+use Rattle.compact_store.specs.Cuts.{batches_by_size, batches_of, count_to}
+use Rattle.compact_store.specs.Keeping.{HaveRoom, IsKept}
 use Rattle.compact_store.specs.Kept.{kept, most_adds}
-use Rattle.compact_store.proofs.KeptLaws.{adds_of}
+use Rattle.compact_store.proofs.KeptLaws.{front_lawful, live_room}
+use Rattle.compact_store.proofs.LiveAgain.{adds_like}
 use Rattle.compact_store.proofs.Pieces.{kept_is, pieces}
 
 -- a front of the next n, or of all where there are fewer
@@ -86,37 +90,92 @@ from_length v e (batch ∷ h) =
       length-append batch (changes h),
     )
 
--- what is gathered, cut into batches, is the history from the version on
-kept_cut : (h : History) (version last : ℕ) (adds events : List Event) → last ≡ last_version h → IsKept h version adds events
-    → kept h version ≡ batches_by_size version adds ++ batches_from (version + 1) (last - version) (drop (count_to version events) events)
-kept_cut h version last adds events all is =
-    let after = after_is h version version 1 0 events (omega arith) is.events_are in
-    let rest : List Event = drop (count_to version events) events in
+-- Events of a history: those after a version, cut by version, are its later batches, and they are as many as the changes of these.
+record IsLater (h : History) (version last : ℕ) (later : List Event) : Type 0 where
+  are : batches_from (version + 1) (last - version) later ≡ drop version h
+  count : length later ≡ length (changes (drop version h))
+
+later_is : (h : History) (version last : ℕ) (events later : List Event) → last ≡ last_version h → AreEventsOf events h → later ≡ drop (count_to version events) events → IsLater h version last later
+later_is h version last events later all are left =
+    let after = after_is h version version 1 0 events (omega arith) are in
     let size : length (drop version h) ≡ last - version = length-drop version h ∙ ap (λ (n : ℕ). n - version) (sym all) in
-    let later : batches_from (version + 1) (last - version) rest ≡ drop version h =
-    subst (λ (n : ℕ). batches_from (version + 1) n rest ≡ drop version h) size (batches_are (drop version h) (version + 1) after.0 rest after.1) in
-    kept_is h version
-    ∙ (ap (λ (bs : History). bs ++ drop version h) (sym (by_size_is version adds (live h version) is.adds_are)) ∙ ap (λ (bs : History). batches_by_size version adds ++ bs) (sym later))
+    let own : map numbered_in later ≡ numbered_from (version + 1) after.0 (drop version h) = ap (map numbered_in) left ∙ after.1 in
+    record {
+      are = subst (λ (n : ℕ). batches_from (version + 1) n later ≡ drop version h) size (batches_are (drop version h) (version + 1) after.0 later own);
+      count = sym (length-map later numbered_in) ∙ (ap length own ∙ from_length (version + 1) after.0 (drop version h));
+    }
 
--- and there are as many as that has changes
-kept_count : (params : Params) (h : History) (version : ℕ) (adds events : List Event) → IsLawful params h → version ≤ last_version h → IsKept h version adds events
-    → length adds + length (drop (count_to version events) events) ≡ length (changes (kept h version))
-kept_count params h version adds events lawful le is =
-    let after = after_is h version version 1 0 events (omega arith) is.events_are in
-    let rest : List Event = drop (count_to version events) events in
-    let whole : changes (kept h version) ≡ map change.Add (live h version) ++ changes (drop version h) =
-    ap changes (kept_is h version) ∙ (flat_map-append (λ (b : List Change). b) (pieces (live h version) version) (drop version h) ∙ ap (λ (cs : List Change). cs ++ changes (drop version h)) (adds_of params h version lawful le)) in
-    let count_adds : length adds ≡ length (map change.Add (live h version)) = sym (length-map adds change_in) ∙ ap length is.adds_are in
-    let count_later : length rest ≡ length (changes (drop version h)) = sym (length-map rest numbered_in) ∙ (ap length after.1 ∙ from_length (version + 1) after.0 (drop version h)) in
-    omega (arith, ap length whole, count_adds, count_later, length-append (map change.Add (live h version)) (changes (drop version h)))
+-- what is gathered, cut into batches, is the history from the version on
+pub kept_cut : (h : History) (version last : ℕ) (adds events later : List Event) → last ≡ last_version h → IsKept h version adds events → later ≡ drop (count_to version events) events
+    → batches_of version last adds later ≡ kept h version
+kept_cut h version last adds events later all is left =
+    ap (λ (bs : History). bs ++ batches_from (version + 1) (last - version) later) (by_size_is version adds (live h version) is.adds_are)
+    ∙ (ap (λ (bs : History). pieces (live h version) version ++ bs) (later_is h version last events later all is.events_are left).are ∙ sym (kept_is h version))
 
--- both of what was gathered, as it is handed on
-pub gathered : (params : Params) (h : History) (version last : ℕ) (adds events later kept_adds kept_events : List Event) → IsLawful params h → version ≤ last → last ≡ last_version h
-    → adds ≡ kept_adds → events ≡ kept_events → later ≡ drop (count_to version events) events → IsKept h version kept_adds kept_events
-    → (kept h version ≡ batches_by_size version adds ++ batches_from (version + 1) (last - version) later) × (length adds + length later ≡ length (changes (kept h version)))
-gathered params h version last adds events later kept_adds kept_events lawful le all same_adds same_events left is =
-    let found : IsKept h version adds events =
-    subst (λ (es : List Event). IsKept h version es events) (sym same_adds) (subst (λ (es : List Event). IsKept h version kept_adds es) (sym same_events) is) in (
-      kept_cut h version last adds events all found ∙ ap (λ (es : List Event). batches_by_size version adds ++ batches_from (version + 1) (last - version) es) (sym left),
-      ap (λ (es : List Event). length adds + length es) left ∙ kept_count params h version adds events lawful (subst (λ (n : ℕ). version ≤ n) all le) found,
+-- what is behind a front
+behind : (front rest : History) → drop (length front) (front ++ rest) ≡ rest
+behind [] rest = refl
+behind (b ∷ front) rest = behind front rest
+
+-- so many batches by size, with all adds that they have room for
+by_size_length : (n : ℕ) (adds : List Event) → length (batches_by_size n adds) ≡ n
+by_size_length zero adds = refl
+by_size_length (suc n) adds = omega (arith, by_size_length n (drop most_adds adds))
+
+by_size_count : (n : ℕ) (adds : List Event) → length adds ≤ most_adds * n → length (changes (batches_by_size n adds)) ≡ length adds
+by_size_count zero adds few = omega (arith, few)
+by_size_count (suc n) adds few =
+    let front : List Change = map change_in (take most_adds adds) in
+    let rest : List Event = drop most_adds adds in
+    omega (
+      arith,
+      few,
+      length-append front (changes (batches_by_size n rest)),
+      length-map (take most_adds adds) change_in,
+      length-take most_adds adds,
+      length-drop most_adds adds,
+      by_size_count n rest (omega (arith, few, length-drop most_adds adds)),
+    )
+
+-- the batches have all adds and all later events
+pub all_there : (h : History) (version last : ℕ) (adds events later : List Event) → last ≡ last_version h → AreEventsOf events h → later ≡ drop (count_to version events) events
+    → length adds ≤ most_adds * version → length adds + length later ≡ length (changes (batches_of version last adds later))
+all_there h version last adds events later all are left few =
+    let is = later_is h version last events later all are left in
+    let first : History = batches_by_size version adds in
+    let rest : History = batches_from (version + 1) (last - version) later in
+    omega (
+      arith,
+      by_size_count version adds few,
+      is.count,
+      ap (λ (bs : History). length (changes bs)) is.are,
+      ap length (flat_map-append (λ (b : List Change). b) first rest),
+      length-append (changes first) (changes rest),
+    )
+
+-- and there are as many of them as versions
+pub all_versions : (h : History) (version last : ℕ) (adds events later : List Event) → last ≡ last_version h → AreEventsOf events h → later ≡ drop (count_to version events) events
+    → version ≤ last → last_version (batches_of version last adds later) ≡ last
+all_versions h version last adds events later all are left le =
+    let is = later_is h version last events later all are left in
+    let first : History = batches_by_size version adds in
+    let rest : History = batches_from (version + 1) (last - version) later in
+    omega (arith, le, all, length-append first rest, by_size_length version adds, ap length is.are, length-drop version h)
+
+-- and those after the version are those of the history
+pub later_there : (h : History) (version last : ℕ) (adds events later : List Event) → last ≡ last_version h → AreEventsOf events h → later ≡ drop (count_to version events) events
+    → drop version (batches_of version last adds later) ≡ drop version h
+later_there h version last adds events later all are left =
+    let first : History = batches_by_size version adds in
+    let rest : History = batches_from (version + 1) (last - version) later in
+    ap (λ (n : ℕ). drop n (first ++ rest)) (sym (by_size_length version adds)) ∙ (behind first rest ∙ (later_is h version last events later all are left).are)
+
+-- What is gathered of a lawful history has room.
+pub has_room : (params : Params) (h : History) (version : ℕ) (adds events : List Event) → IsInRange params → IsLawful params h → IsKept h version adds events → HaveRoom version adds events
+has_room params h version adds events range lawful is =
+    let count : length adds ≡ length (map change.Add (live h version)) = sym (length-map adds change_in) ∙ ap length is.adds_are in
+    let first = lawful_room params (take version h) (front_lawful params h version lawful) in
+    let all = lawful_room params h lawful in (
+      omega (arith, count, length-map (live h version) change.Add, live_room params h version lawful),
+      omega (arith, count, (adds_like params (changes (take version h))).count, first.events, all.events, events_count h events is.events_are, range.events),
     )

@@ -1,6 +1,6 @@
 -- A second disk with a new warehouse, to which a history is written.
-use Rattle.std.proofs.Common.{◌≡◌, ◌≢◌, ℕ, ◌<◌, ◌≤◌, ◌^◌, true, false, IsTrue, List, [], Result, Ok, Err, length, inl, inr, refl, sym, ◌∙◌, ap, subst, arith}
-use Rattle.std.proofs.lemmas.List.{append-nil}
+use Rattle.std.proofs.Common.{◌≡◌, ◌≢◌, ℕ, ◌≤◌, true, false, IsTrue, List, [], ◌++◌, Result, Ok, Err, length, replicate, inl, inr, refl, sym, ◌∙◌, ap, subst, arith}
+use Rattle.std.proofs.lemmas.List.{append-nil, length-replicate}
 use Rattle.std.specs.Bool.{MatchBool}
 use Rattle.bw_types.specs.Fits.{IsInRange}
 use Rattle.bw_types.specs.History.{History, changes}
@@ -8,7 +8,6 @@ use Rattle.bw_types.specs.Lawful.{IsLawful}
 use Rattle.bw_types.specs.declared.params.Params.{Params}
 use Rattle.counts.specs.Count.{Rose}
 use Rattle.dom_index.specs.declared.index.DomIndex.{Ghosts as IndexGhosts}
-use Rattle.history_laws.specs.Bounds.{LawfulHasRoom}
 use Rattle.history_list.specs.declared.gathering.GatherFault.{GatherFault}
 use Rattle.history_list.specs.declared.gathering.GatherFault.TheVariants as gather_fault
 use Rattle.page_disk.specs.Image.{Image}
@@ -24,16 +23,17 @@ use Rattle.page_warehouse.specs.Created.{IsEmptyOrNew, IsNew}
 use Rattle.page_warehouse.specs.Holds.{Holds}
 use Rattle.page_warehouse.specs.Laws.{HoldsForQueries, NewHoldsNothing}
 use Rattle.page_warehouse.specs.Opened.{IsOpenedFrom, IsRefusedFor, opened_disk}
-use Rattle.page_warehouse.specs.Shown.{disk_charge, disk_in}
+use Rattle.page_warehouse.specs.Shown.{disk_charge, disk_in, params_in}
 use Rattle.page_warehouse.specs.declared.state.Warehouse.{Warehouse}
 use Rattle.redo_journal.specs.Gates.{is_empty}
-use Rattle.compact_store.specs.Compacted.{IsEmptyOrHoldsPart, LeavesPart, StaysWhereFull, second_out}
+use Rattle.compact_store.specs.Compacted.{IsEmptyOrHoldsPart, LeavesPart, LeavesSome, StaysWhereFull, second_out}
 use Rattle.compact_store.specs.Ended.{ended_of, refusal_of}
-use Rattle.compact_store.specs.Putting.{CountsItsPages, GoesTo, Puts, StandsBefore, is_written}
+use Rattle.compact_store.specs.Putting.{CountsItsPages, GoesTo, IsReady, Puts, StandsBefore, is_written}
+use Rattle.page_layout.specs.declared.meta.Meta.{Meta}
 use Rattle.compact_store.specs.declared.compacting.Compacted.{Compacted}
-use Rattle.compact_store.specs.declared.compacting.Compacted.TheVariants.{Done, NoVersion, AlreadyThere, Disk}
-use Rattle.compact_store.proofs.NewCharge.{new_charge}
-use Rattle.compact_store.proofs.Steps.{failed_leaves, memory_leaves, went_on}
+use Rattle.compact_store.specs.declared.compacting.Compacted.TheVariants.{Done, NoVersion, AlreadyThere, Damaged, NoMemory, Disk}
+use Rattle.compact_store.proofs.NewCharge.{new_charge, new_counts}
+use Rattle.compact_store.proofs.Steps.{damaged_leaves, failed_leaves, memory_leaves, went_on}
 
 -- one stretch of calls after the other
 then_only : (Q R : Image → Type 0) (first second third : List Moment) → ((x : Image) → Q x → R x) → LeavesOnly R first second → LeavesOnly Q second third → LeavesOnly R first third
@@ -63,6 +63,16 @@ pub ended_written : {E : Type 0} (fault : GatherFault) (second : E) → IsTrue (
 ended_written gather_fault.Disk second = refl
 ended_written (gather_fault.Damaged page) second = refl
 ended_written gather_fault.NoMemory second = refl
+
+pub ended_damaged : {E : Type 0} (fault : GatherFault) (second e : E) (page : ℕ) → ended_of fault second ≡ Damaged e page → fault ≡ gather_fault.Damaged page
+ended_damaged gather_fault.Disk second e page is = absurd (cc)
+ended_damaged (gather_fault.Damaged n) second e page is = (let same : n ≡ page = cc in ap gather_fault.Damaged same)
+ended_damaged gather_fault.NoMemory second e page is = absurd (cc)
+
+pub ended_undone : {E : Type 0} (fault : GatherFault) (second e : E) (rows : ℕ) → ended_of fault second ≢ Done e rows
+ended_undone gather_fault.Disk second e rows is = cc
+ended_undone (gather_fault.Damaged page) second e rows is = cc
+ended_undone gather_fault.NoMemory second e rows is = cc
 
 pub ended_disk : {E : Type 0} (fault : GatherFault) (second e : E) → ended_of fault second ≡ Disk e → fault ≡ gather_fault.Disk
 ended_disk gather_fault.Disk second e is = refl
@@ -114,7 +124,6 @@ module _ {E X : Type 0} (g : Ghosts E) (i : IndexGhosts X) where
   opened_before params whole later start second new b tells holds settled moments charge = record {
     part = b.part;
     cut = b.cut;
-    lawful = b.lawful;
     tells = subst IsTrue (sym tells) b.tells;
     holds = holds;
     left = λ x left. subst (λ (y : Image). Holds i y params b.part) (sym (settled x left)) holds;
@@ -130,14 +139,13 @@ module _ {E X : Type 0} (g : Ghosts E) (i : IndexGhosts X) where
   ]
 
   -- a new warehouse stands before the whole history
-  pub new_before : NewHoldsNothing i → (params : Params) (whole : History) (disk new : E) → IsInRange params → params.dims ≤ i.DIMS → IsLawful params whole → IsTrue (g.tells new)
+  new_before : NewHoldsNothing i → (params : Params) (whole : History) (disk new : E) → IsInRange params → params.dims ≤ i.DIMS → IsTrue (g.tells new)
       → IsNew params (g.image new) → LeavesNow (g.moments new) (g.image new) → LeavesOnly (IsEmptyOrNew params) (g.moments disk) (g.moments new) → StandsBefore g i params whole whole disk new
-  new_before law params whole disk new range dims lawful tells is settled moments =
+  new_before law params whole disk new range dims tells is settled moments =
       let holds : Holds i (g.image new) params [] = law (g.image new) params range dims is in
       record {
         part = [];
         cut = refl;
-        lawful = lawful;
         tells = tells;
         holds = holds;
         left = λ x left. subst (λ (y : Image). Holds i y params []) (sym (settled x left)) holds;
@@ -145,18 +153,39 @@ module _ {E X : Type 0} (g : Ghosts E) (i : IndexGhosts X) where
         charge = omega (arith, new_charge params range (g.image new) is);
       }
 
+  -- so it is ready for any
+  pub new_ready : NewHoldsNothing i → (params given : Params) (disk new : E) → given ≡ params → IsInRange given → params.dims ≤ i.DIMS → IsTrue (g.tells new)
+      → IsNew given (g.image new) → LeavesNow (g.moments new) (g.image new) → LeavesOnly (IsEmptyOrNew given) (g.moments disk) (g.moments new) → IsReady g i params disk new
+  new_ready law params given disk new same range dims tells is settled moments =
+      let is_new : IsNew params (g.image new) = subst (λ (p : Params). IsNew p (g.image new)) same is in (
+        (λ whole. new_before law params whole disk new (subst IsInRange same range) dims tells is_new settled (subst (λ (p : Params). LeavesOnly (IsEmptyOrNew p) (g.moments disk) (g.moments new)) same moments)),
+        (λ pages settles. new_counts params (g.image new) pages is_new settles),
+      )
+
   -- and where it failed on the way, the moments tell
-  pub new_failed : NewHoldsNothing i → (params : Params) (whole : History) (disk new : E) → IsInRange params → params.dims ≤ i.DIMS → LeavesOnly (IsEmptyOrNew params) (g.moments disk) (g.moments new)
-      → LeavesPart g i params whole disk (Disk new)
-  new_failed law params whole disk new range dims moments =
-      failed_leaves g i params whole disk new (wider (IsEmptyOrNew params) (IsEmptyOrHoldsPart i params whole) (g.moments disk) (g.moments new) (new_part law params whole range dims) moments)
+  pub new_failed : NewHoldsNothing i → (params given : Params) (whole : History) (disk new : E) → given ≡ params → IsInRange given → params.dims ≤ i.DIMS
+      → LeavesOnly (IsEmptyOrNew given) (g.moments disk) (g.moments new) → LeavesPart g i params whole disk (Disk new)
+  new_failed law params given whole disk new same range dims moments =
+      failed_leaves g i params whole disk new
+      (wider (IsEmptyOrNew given) (IsEmptyOrHoldsPart i params whole) (g.moments disk) (g.moments new)
+      (subst (λ (p : Params). (x : Image) → IsEmptyOrNew p x → IsEmptyOrHoldsPart i params whole x) (sym same) (new_part law params whole (subst IsInRange same range) dims)) moments)
 
   -- where nothing was gathered
   pub nothing_gathered : (params : Params) (whole : History) (start second : E) (fault : GatherFault) → StandsBefore g i params whole whole start second
-      → ((page : ℕ) → fault ≢ gather_fault.Damaged page) → LeavesPart g i params whole start (ended_of fault second)
-  nothing_gathered params whole start second gather_fault.Disk b sound = failed_leaves g i params whole start second b.moments
-  nothing_gathered params whole start second (gather_fault.Damaged page) b sound = absurd (sound page refl)
-  nothing_gathered params whole start second gather_fault.NoMemory b sound = memory_leaves g i params whole whole start second second b refl refl refl
+      → LeavesPart g i params whole start (ended_of fault second)
+  nothing_gathered params whole start second gather_fault.Disk b = failed_leaves g i params whole start second b.moments
+  nothing_gathered params whole start second (gather_fault.Damaged page) b = damaged_leaves g i params whole whole start second second page b refl refl refl
+  nothing_gathered params whole start second gather_fault.NoMemory b = memory_leaves g i params whole whole start second second b refl refl refl
+
+  -- what leaves a part of any history leaves one of empty batches
+  pub some_of_any : (params : Params) (meta : Meta) (version : ℕ) (start : E) (result : Compacted E) → ((e : E) (rows : ℕ) → result ≢ Done e rows) → ((whole : History) → LeavesPart g i params whole start result)
+      → LeavesSome g i params meta version start result
+  some_of_any params meta version start result undone leaves = record {
+    whole = replicate meta.version [];
+    last = length-replicate meta.version [];
+    leaves = leaves (replicate meta.version []);
+    later = λ e rows done. absurd (undone e rows done);
+  }
 
   -- what an opening leaves of a disk that stands before the history
   module _ (params : Params) (whole : History) (start second : E) (opening : Result (Warehouse E X g i) (OpenRefused E)) (b : StandsBefore g i params whole whole start second)
@@ -192,17 +221,36 @@ module _ {E X : Type 0} (g : Ghosts E) (i : IndexGhosts X) where
                 done = λ e rows ended. absurd (cc);
                 limit = λ e allotted ended. absurd (cc);
                 enough_pages = λ e allotted few ended. absurd (cc);
-                sound = λ e page ended. absurd (cc);
               })
         ]
 
-    -- all batches are put on the warehouse that was opened
-    pub all_put : CountsItsPages g i second → (batches : History) (house : Warehouse E X g i) (result : Result (Warehouse E X g i) (Compacted E)) → opening ≡ Ok house → IsOpenedFrom g i second house
-        → Puts g i batches house result → whole ≡ batches → GoesTo g i params whole [] start result
-    all_put counts batches house result is opened puts cut =
-        let held = opened.holds params b.part b.tells b.holds in
-        let at = opened_before params whole whole start second (disk_in house) b (tells_on (Ok house) is) held.1 opened.settled (moments_on (Ok house) is) (counts (g.image (disk_in house)).pages (opened.settles b.tells)) in
-        puts.goes params whole [] start held.0 (subst (λ (k : History). StandsBefore g i params whole k start (disk_in house)) (cut ∙ sym (append-nil batches)) at)
+    -- no page was damaged then
+    pub refused_sound : HoldsForQueries i → (refused : OpenRefused E) (e : E) (page : ℕ) → IsRefusedFor g i second refused.fault refused.disk
+        → refusal_of refused.fault refused.disk ≢ Damaged e page
+    refused_sound law refused e page told is =
+        elim (told.sound b.tells params b.part (law (g.image second) params b.part b.holds)) [
+          | inl disk ↦ (let no : Disk refused.disk ≡ Damaged e page = subst (λ (f : OpenFault). refusal_of f refused.disk ≡ Damaged e page) disk is in cc)
+          | inr memory ↦ (let no : NoMemory refused.disk ≡ Damaged e page = subst (λ (f : OpenFault). refusal_of f refused.disk ≡ Damaged e page) memory is in cc)
+        ]
+
+    -- the warehouse that was opened stands before all batches
+    module _ (counts : CountsItsPages g i second) (house : Warehouse E X g i) (result : Result (Warehouse E X g i) (Compacted E)) (is : opening ≡ Ok house) (opened : IsOpenedFrom g i second house)
+        (puts : Puts g i whole house result) where
+      stands : (params_in house ≡ params) × StandsBefore g i params whole (whole ++ []) start (disk_in house)
+      stands =
+          let held = opened.holds params b.part b.tells b.holds in (
+            held.0,
+            subst (λ (k : History). StandsBefore g i params whole k start (disk_in house)) (sym (append-nil whole))
+                (opened_before params whole whole start second (disk_in house) b (tells_on (Ok house) is) held.1 opened.settled (moments_on (Ok house) is) (counts (g.image (disk_in house)).pages (opened.settles b.tells))),
+          )
+
+      -- they are put
+      pub all_put : GoesTo g i params whole [] start result
+      all_put = puts.goes params whole [] start stands.0 stands.1
+
+      -- and where they are lawful, nothing is damaged
+      pub all_sound : IsLawful params whole → (e : E) (page : ℕ) → result ≢ Err (Damaged e page)
+      all_sound lawful e page = puts.sound params whole [] start e page stands.0 lawful stands.1
 
   -- the whole is there
   pub done_leaves : (params : Params) (whole : History) (start disk : E) (rows : ℕ) → StandsBefore g i params whole [] start disk → rows ≡ length (changes whole) → LeavesPart g i params whole start (Done disk rows)
@@ -220,14 +268,7 @@ module _ {E X : Type 0} (g : Ghosts E) (i : IndexGhosts X) where
             );
         limit = λ e allotted is. absurd (cc);
         enough_pages = λ e allotted few is. absurd (cc);
-        sound = λ e page is. absurd (cc);
       }
-
--- rows that are counted in 32 bits are counted well
-pub well_counted : LawfulHasRoom → (params : Params) (whole : History) (n rows : ℕ) → IsInRange params → IsLawful params whole → n ≡ length (changes whole) → (n < 2 ^ 32 → rows ≡ n) → rows ≡ length (changes whole)
-well_counted law params whole n rows range lawful count counted =
-    let few : n < 2 ^ 32 = omega (arith, count, (law params whole lawful).events, range.events) in
-    counted few ∙ count
 
 module _ {E : Type 0} (g : Ghosts E) where
   -- an end other than these two where the disk is empty

@@ -1,7 +1,7 @@
 -- The laws of histories that are kept from a version on.
 use Rattle.std.proofs.Common.{◌≡◌, ℕ, ◌+◌, ◌-◌, ◌*◌, ◌≤◌, List, [], ◌∷◌, ◌++◌, pos, length, map, take, drop, sym, ◌∙◌, ap, subst, arith, append_assoc}
 use Rattle.std.proofs.Math.Seq.{take-append-add}
-use Rattle.std.proofs.lemmas.List.{append-nil, length-append, length-drop, length-map, length-take-le, take-append-drop}
+use Rattle.std.proofs.lemmas.List.{append-nil, length-append, length-drop, length-map, length-take, length-take-le, take-append-drop}
 use Rattle.std.proofs.lemmas.List.Concat.{flat_map-append}
 use Rattle.std.proofs.lemmas.List.Elements.{All-append, All-contains, All-contains_itself, All-weaker, Contains-append_left, Contains-append_right}
 use Rattle.std.specs.List.{All, Contains, filter}
@@ -44,15 +44,16 @@ take_past : {X : Type 0} (xs ys : List X) (n : ℕ) → length xs ≤ n → take
 take_past xs ys n le = ap (λ (k : ℕ). take k (xs ++ ys)) (let e : n ≡ length xs + (n - length xs) = omega (arith, le) in e) ∙ take-append-add xs ys (n - length xs)
 
 -- the history up to a version is lawful
-front_lawful : (params : Params) (h : History) (version : ℕ) → IsLawful params h → IsLawful params (take version h)
+pub front_lawful : (params : Params) (h : History) (version : ℕ) → IsLawful params h → IsLawful params (take version h)
 front_lawful params h version lawful = begins params (take version h) (drop version h) (subst (λ (k : History). IsLawful params k) (sym (take-append-drop version h)) lawful)
 
+-- what is live at the version has room in the batches up to it
+pub live_room : (params : Params) (h : History) (version : ℕ) → IsLawful params h → length (live h version) ≤ most_adds * version
+live_room params h version lawful = omega (arith, live_bounded params [] (take version h) (front_lawful params h version lawful), length-take version h)
+
 -- the batches of adds leave what is live at the version
-pub adds_of : (params : Params) (h : History) (version : ℕ) → IsLawful params h → version ≤ last_version h → changes (pieces (live h version) version) ≡ map change.Add (live h version)
-adds_of params h version lawful le =
-    let few = live_bounded params [] (take version h) (front_lawful params h version lawful) in
-    let size : length (take version h) ≡ version = length-take-le version h le in
-    pieces_whole (live h version) version (subst (λ (n : ℕ). length (live h version) ≤ most_adds * n) size few)
+adds_of : (params : Params) (h : History) (version : ℕ) → IsLawful params h → changes (pieces (live h version) version) ≡ map change.Add (live h version)
+adds_of params h version lawful = pieces_whole (live h version) version (live_room params h version lawful)
 
 -- the batches of adds are lawful
 first_batches_lawful : (params : Params) (h : History) (version : ℕ) → IsLawful params h → version ≤ last_version h → IsLawful params (pieces (live h version) version)
@@ -75,7 +76,7 @@ kept_lawful params h version lawful le =
     let rest : AreLawfulAfter params (take version h) later =
     lawful_rest params [] (take version h) later (subst (λ (k : History). IsLawful params k) (sym (take-append-drop version h)) lawful) in
     let like : Like params (changes (take version h)) (changes adds) =
-    subst (λ (cs : List Change). Like params (changes (take version h)) cs) (sym (adds_of params h version lawful le)) (adds_like params (changes (take version h))) in
+    subst (λ (cs : List Change). Like params (changes (take version h)) cs) (sym (adds_of params h version lawful)) (adds_like params (changes (take version h))) in
     let stay = batches_stay params (take version h) adds later like (omega (arith, size, pieces_length (live h version) version)) rest in (
       subst (λ (k : History). IsLawful params k) (sym (kept_is h version)) (lawful_join params [] adds later (first_batches_lawful params h version lawful le) stay),
       ap length (kept_is h version) ∙ (let e : length (adds ++ later) ≡ length h = omega (arith, length-append adds later, pieces_length (live h version) version, length-drop version h, le) in e),
@@ -100,7 +101,7 @@ live_alike params h version later lawful le most =
     let old : take later h ≡ take version h ++ take (later - version) rest =
     ap (take later) (sym (take-append-drop version h)) ∙ (take_past (take version h) rest later (omega (arith, size, le)) ∙ ap (λ (n : ℕ). take version h ++ take (later - n) rest) size) in
     let new_changes : changes (take later (kept h version)) ≡ map change.Add (live h version) ++ changes (take (later - version) rest) =
-    ap changes new ∙ (flat_map-append (λ (b : List Change). b) adds (take (later - version) rest) ∙ ap (λ (cs : List Change). cs ++ changes (take (later - version) rest)) (adds_of params h version lawful small)) in
+    ap changes new ∙ (flat_map-append (λ (b : List Change). b) adds (take (later - version) rest) ∙ ap (λ (cs : List Change). cs ++ changes (take (later - version) rest)) (adds_of params h version lawful)) in
     let old_changes : changes (take later h) ≡ changes (take version h) ++ changes (take (later - version) rest) =
     ap changes old ∙ flat_map-append (λ (b : List Change). b) (take version h) (take (later - version) rest) in
     ap live_of new_changes ∙ (live_again (changes (take version h)) (changes (take (later - version) rest)) ∙ ap live_of (sym old_changes))

@@ -9,6 +9,7 @@ use Rattle.bw_types.specs.Lawful.{AreLawfulAfter, IsLawful, IsLawfulBatch, stage
 use Rattle.bw_types.specs.Refusals.{first_refusal}
 use Rattle.bw_types.specs.declared.change.Change.{Change}
 use Rattle.bw_types.specs.declared.params.Params.{Params}
+use Rattle.bw_types.specs.declared.refusal.Refusal.{Refusal}
 use Rattle.bw_types.specs.declared.row.Row.{Row}
 use Rattle.counts.specs.Count.{Rose}
 use Rattle.dom_index.specs.declared.index.DomIndex.{Ghosts as IndexGhosts}
@@ -53,16 +54,14 @@ module _ {E X : Type 0} (g : Ghosts E) (i : IndexGhosts X) where
   pub ended_leaves : (params : Params) (whole later : History) (start disk : E) (result : Compacted E) → StandsBefore g i params whole later start disk
       → g.tells (second_out result) ≡ g.tells disk → g.image (second_out result) ≡ g.image disk → g.moments (second_out result) ≡ g.moments disk
       → ((e : E) (rows : ℕ) → result ≢ Done e rows) → ((e : E) (allotted : ℕ) → result ≡ PageLimit e allotted → (allotted ≡ params.pages) × LacksNext i params whole (g.image e))
-      → ((e : E) (allotted : ℕ) → 3 + batches_need params [] whole ≤ params.pages → result ≢ PageLimit e allotted)
-      → ((e : E) (page : ℕ) → result ≢ Damaged e page) → LeavesPart g i params whole start result
-  ended_leaves params whole later start disk result b tells image moments not_done limit enough sound = record {
+      → ((e : E) (allotted : ℕ) → 3 + batches_need params [] whole ≤ params.pages → result ≢ PageLimit e allotted) → LeavesPart g i params whole start result
+  ended_leaves params whole later start disk result b tells image moments not_done limit enough = record {
     now = λ other.
         (subst IsTrue (sym tells) b.tells, inr (subst (λ (x : Image). HoldsPart i params whole x) (sym image) (record { part = b.part; later = later; cut = b.cut; holds = b.holds })));
     moments = subst (λ (ms : List Moment). LeavesOnly (IsEmptyOrHoldsPart i params whole) (g.moments start) ms) (sym moments) b.moments;
     done = λ e rows is. absurd (not_done e rows is);
     limit = limit;
     enough_pages = enough;
-    sound = sound;
   }
 
   -- where the disk failed, only the moments tell
@@ -73,18 +72,24 @@ module _ {E X : Type 0} (g : Ghosts E) (i : IndexGhosts X) where
     done = λ e rows is. absurd (cc);
     limit = λ e allotted is. absurd (cc);
     enough_pages = λ e allotted few is. absurd (cc);
-    sound = λ e page is. absurd (cc);
   }
 
   -- for want of memory
   pub memory_leaves : (params : Params) (whole later : History) (start disk end : E) → StandsBefore g i params whole later start disk
       → g.tells end ≡ g.tells disk → g.image end ≡ g.image disk → g.moments end ≡ g.moments disk → LeavesPart g i params whole start (NoMemory end)
   memory_leaves params whole later start disk end b tells image moments =
-      ended_leaves params whole later start disk (NoMemory end) b tells image moments (λ e rows is. absurd (cc)) (λ e allotted is. absurd (cc)) (λ e allotted few is. absurd (cc)) (λ e page is. absurd (cc))
+      ended_leaves params whole later start disk (NoMemory end) b tells image moments (λ e rows is. absurd (cc)) (λ e allotted is. absurd (cc)) (λ e allotted few is. absurd (cc))
 
-  -- the next batch is lawful on those that are there
-  next_is : (params : Params) (whole later : History) (batch : List Change) (start disk : E) → (b : StandsBefore g i params whole (batch ∷ later) start disk) → IsLawfulBatch params b.part batch
-  next_is params whole later batch start disk b = next_lawful params [] b.part batch later (subst (λ (k : History). IsLawful params k) b.cut b.lawful)
+  -- for a page that is damaged
+  pub damaged_leaves : (params : Params) (whole later : History) (start disk end : E) (page : ℕ) → StandsBefore g i params whole later start disk
+      → g.tells end ≡ g.tells disk → g.image end ≡ g.image disk → g.moments end ≡ g.moments disk → LeavesPart g i params whole start (Damaged end page)
+  damaged_leaves params whole later start disk end page b tells image moments =
+      ended_leaves params whole later start disk (Damaged end page) b tells image moments (λ e rows is. absurd (cc)) (λ e allotted is. absurd (cc)) (λ e allotted few is. absurd (cc))
+
+  -- the next batch of a lawful history is lawful on those that are there
+  next_is : (params : Params) (whole later : History) (batch : List Change) (start disk : E) → IsLawful params whole → (b : StandsBefore g i params whole (batch ∷ later) start disk)
+      → IsLawfulBatch params b.part batch
+  next_is params whole later batch start disk lawful b = next_lawful params [] b.part batch later (subst (λ (k : History). IsLawful params k) b.cut lawful)
 
   pub longer : (params : Params) (whole later : History) (batch : List Change) (start disk : E) → (b : StandsBefore g i params whole (batch ∷ later) start disk) → whole ≡ (b.part ++ batch ∷ []) ++ later
   longer params whole later batch start disk b = b.cut ∙ sym (append_assoc b.part (batch ∷ []) later)
@@ -97,33 +102,52 @@ module _ {E X : Type 0} (g : Ghosts E) (i : IndexGhosts X) where
       subst (λ (p : Params). GoesTo g i p whole later start result) same
       (goes (subst (λ (p : Params). StandsBefore g i p whole (batches ++ later) start (disk_in house)) (sym same) b))
 
+  -- A batch is refused, and the house is as it was. The batch is the next one of no lawful history.
+  refused_puts : (batch : List Change) (house : Warehouse E X g i) (new : E) → g.tells new ≡ g.tells (disk_in house) → g.image new ≡ g.image (disk_in house) → g.moments new ≡ g.moments (disk_in house)
+      → g.faults (disk_in house) ≤ g.faults new → ((h : History) → HoldsHistory g i true (disk_in house) (params_in house) h → IsLawfulBatch (params_in house) h batch → ⊥)
+      → Puts g i (batch ∷ []) house (Err (Damaged new 2))
+  refused_puts batch house new tells image moments faults not_so = record {
+    tells = tells;
+    faults = faults;
+    disk = λ e failed. absurd (cc);
+    written = refl;
+    goes = λ params whole later start same. by_params params (batch ∷ []) whole later start house (Err (Damaged new 2)) (λ b.
+        damaged_leaves (params_in house) whole (batch ∷ later) start (disk_in house) new 2 b tells image moments) same;
+    sound = λ params whole later start e page same lawful b ended.
+        let own = subst (λ (p : Params). StandsBefore g i p whole (batch ∷ later) start (disk_in house)) (sym same) b in
+        not_so own.part (own.tells, own.holds) (next_is (params_in house) whole later batch start (disk_in house) (subst (λ (p : Params). IsLawful p whole) (sym same) lawful) own);
+  }
+
   -- A commit of the rows that stage the next batch.
   module _ (batch : List Change) (rows : List Row) (is : rows ≡ staged_rows batch) (house : Warehouse E X g i) where
-    none : (whole later : History) (start : E) → (b : StandsBefore g i (params_in house) whole (batch ∷ later) start (disk_in house)) → first_refusal (params_in house) b.part rows ≡ None
-    none whole later start b =
-        subst (λ (rs : List Row). first_refusal (params_in house) b.part rs ≡ None) (sym is)
-        (none_is (first_refusal (params_in house) b.part (staged_rows batch)) (next_is (params_in house) whole later batch start (disk_in house) b).accepted)
-
     flat_is : flat rows ≡ batch
     flat_is = ap flat is ∙ flat_staged batch
+
+    none : (h : History) → IsLawfulBatch (params_in house) h batch → first_refusal (params_in house) h rows ≡ None
+    none h lawful = subst (λ (rs : List Row). first_refusal (params_in house) h rs ≡ None) (sym is) (none_is (first_refusal (params_in house) h (staged_rows batch)) lawful.accepted)
+
+    -- whether it is refused or not, a first part of the history is there
+    part_after : (whole later : History) (start : E) (x : Image) → (b : StandsBefore g i (params_in house) whole (batch ∷ later) start (disk_in house)) → (refused : Option Refusal)
+        → Holds i x (params_in house) (after_commit refused b.part rows) → HoldsPart i (params_in house) whole x
+    part_after whole later start x b None held = record {
+      part = b.part ++ batch ∷ [];
+      later = later;
+      cut = longer (params_in house) whole later batch start (disk_in house) b;
+      holds = subst (λ (cs : List Change). Holds i x (params_in house) (b.part ++ cs ∷ [])) flat_is held;
+    }
+    part_after whole later start x b (Some refusal) held = record { part = b.part; later = batch ∷ later; cut = b.cut; holds = held }
 
     moments_after : (whole later : History) (start new : E) → (b : StandsBefore g i (params_in house) whole (batch ∷ later) start (disk_in house))
         → CrashLeavesEither clock_of MayBeLeftSince MayBeLeftNow (λ x p k. Holds i x p k) (params_in house) b.part (after_commit (first_refusal (params_in house) b.part rows) b.part rows) (g.moments (disk_in house)) (g.moments new)
         → LeavesOnly (IsEmptyOrHoldsPart i (params_in house) whole) (g.moments start) (g.moments new)
     moments_after whole later start new b crash =
         let params : Params = params_in house in
-        let Either : Image → Type 0 = λ x. Holds i x params b.part ⊎ Holds i x params (b.part ++ flat rows ∷ []) in
-        let crash_none = subst (λ (o : Option _). CrashLeavesEither clock_of MayBeLeftSince MayBeLeftNow (λ x p k. Holds i x p k) params b.part (after_commit o b.part rows) (g.moments (disk_in house)) (g.moments new))
-        (none whole later start b) crash in
+        let refused : Option Refusal = first_refusal params b.part rows in
+        let Either : Image → Type 0 = λ x. Holds i x params b.part ⊎ Holds i x params (after_commit refused b.part rows) in
         went_on Either (IsEmptyOrHoldsPart i params whole) (g.moments start) (g.moments (disk_in house)) (g.moments new) (λ x has. elim has [
           | inl same ↦ inr (record { part = b.part; later = batch ∷ later; cut = b.cut; holds = same })
-          | inr more ↦ inr (record {
-            part = b.part ++ batch ∷ [];
-            later = later;
-            cut = longer params whole later batch start (disk_in house) b;
-            holds = subst (λ (cs : List Change). Holds i x params (b.part ++ cs ∷ [])) flat_is more;
-          })
-        ]) b.moments crash_none.any_moment
+          | inr after ↦ inr (part_after whole later start x b refused after)
+        ]) b.moments crash.any_moment
 
     -- whatever came of it
     pub commit_puts : (c : Committed (Warehouse E X g i) E)
@@ -146,7 +170,6 @@ module _ {E X : Type 0} (g : Ghosts E) (i : IndexGhosts X) where
             record {
               part = b.part ++ batch ∷ [];
               cut = longer (params_in house) whole later batch start (disk_in house) b;
-              lawful = b.lawful;
               tells = subst IsTrue (sym device.tells) b.tells;
               holds = subst (λ (cs : List Change). Holds i (g.image (disk_in new)) (params_in house) (b.part ++ cs ∷ [])) flat_is put.stands.1;
               left = λ x left. subst (λ (cs : List Change). Holds i x (params_in house) (b.part ++ cs ∷ [])) flat_is (put.settled x left);
@@ -156,16 +179,11 @@ module _ {E X : Type 0} (g : Ghosts E) (i : IndexGhosts X) where
                   omega (arith, put.charge, need, b.charge);
             },
           )) same;
+      sound = λ params whole later start e page same lawful b ended. absurd (cc);
     }
-    commit_puts (committed.Refused new refusal) cause done renewed kept crash limit device = record {
-      tells = device.tells;
-      faults = device.never_fall;
-      disk = λ e failed. absurd (cc);
-      written = refl;
-      goes = λ params whole later start same. by_params params (batch ∷ []) whole later start house (Err (Damaged (disk_in new) 2)) (λ b.
-          let no : None ≡ Some refusal = sym (none whole later start b) ∙ cause b.part (b.tells, b.holds) in
-          absurd (cc)) same;
-    }
+    commit_puts (committed.Refused new refusal) cause done renewed kept crash limit device =
+        refused_puts batch house (disk_in new) device.tells kept.image kept.moments device.never_fall
+        (λ h held lawful. (let no : None ≡ Some refusal = sym (none h lawful) ∙ cause h held in absurd (cc)))
     commit_puts (committed.PageLimit new allotted) cause done renewed kept crash limit device = record {
       tells = device.tells;
       faults = device.never_fall;
@@ -192,8 +210,8 @@ module _ {E X : Type 0} (g : Ghosts E) (i : IndexGhosts X) where
           let over = (limit.1 b.part (b.tells, b.holds)).1 in
           let need : batch_need (params_in house) b.part rows ≡ batch_need (params_in house) b.part (staged_rows batch) = ap (batch_need (params_in house) b.part) is in
           let same_charge : disk_charge g (disk_in new) ≡ disk_charge g (disk_in house) = kept.charge in
-          omega (arith, over, need, same_charge, b.charge, few))
-          (λ e page ended. absurd (cc))) same;
+          omega (arith, over, need, same_charge, b.charge, few))) same;
+      sound = λ params whole later start e page same lawful b ended. absurd (cc);
     }
     commit_puts (committed.NoMemory new) cause done renewed kept crash limit device = record {
       tells = device.tells;
@@ -202,6 +220,7 @@ module _ {E X : Type 0} (g : Ghosts E) (i : IndexGhosts X) where
       written = refl;
       goes = λ params whole later start same. by_params params (batch ∷ []) whole later start house (Err (NoMemory (disk_in new))) (λ b.
           memory_leaves (params_in house) whole (batch ∷ later) start (disk_in house) (disk_in new) b kept.tells kept.image kept.moments) same;
+      sound = λ params whole later start e page same lawful b ended. absurd (cc);
     }
     commit_puts (committed.Damaged new page) cause done renewed kept crash limit device = record {
       tells = device.tells;
@@ -209,7 +228,10 @@ module _ {E X : Type 0} (g : Ghosts E) (i : IndexGhosts X) where
       disk = λ e failed. absurd (cc);
       written = refl;
       goes = λ params whole later start same. by_params params (batch ∷ []) whole later start house (Err (Damaged (disk_in new) page)) (λ b.
-          absurd (cause b.part (b.tells, b.holds))) same;
+          damaged_leaves (params_in house) whole (batch ∷ later) start (disk_in house) (disk_in new) page b kept.tells kept.image kept.moments) same;
+      sound = λ params whole later start e n same lawful b ended.
+          let own = subst (λ (p : Params). StandsBefore g i p whole (batch ∷ later) start (disk_in house)) (sym same) b in
+          cause own.part (own.tells, own.holds);
     }
     commit_puts (committed.Disk disk) cause done renewed kept crash limit device = record {
       tells = device.tells;
@@ -218,18 +240,12 @@ module _ {E X : Type 0} (g : Ghosts E) (i : IndexGhosts X) where
       written = refl;
       goes = λ params whole later start same. by_params params (batch ∷ []) whole later start house (Err (Disk disk)) (λ b.
           failed_leaves (params_in house) whole start disk (moments_after whole later start disk b (crash b.part (b.tells, b.holds)))) same;
+      sound = λ params whole later start e page same lawful b ended. absurd (cc);
     }
 
     -- rows of a batch that comes next are not too many, and fit
     pub misfit_puts : ((h : History) → IsLawfulBatch (params_in house) h batch → ⊥) → Puts g i (batch ∷ []) house (Err (Damaged (disk_in house) 2))
-    misfit_puts not_so = record {
-      tells = refl;
-      faults = omega arith;
-      disk = λ e failed. absurd (cc);
-      written = refl;
-      goes = λ params whole later start same. by_params params (batch ∷ []) whole later start house (Err (Damaged (disk_in house) 2)) (λ b.
-          absurd (not_so b.part (next_is (params_in house) whole later batch start (disk_in house) b))) same;
-    }
+    misfit_puts not_so = refused_puts batch house (disk_in house) refl refl refl (omega arith) (λ h held. not_so h)
 
     pub too_many : 4096 < length rows → (h : History) → IsLawfulBatch (params_in house) h batch → ⊥
     too_many many h lawful =
@@ -251,6 +267,7 @@ module _ {E X : Type 0} (g : Ghosts E) (i : IndexGhosts X) where
     written = refl;
     goes = λ params whole later start same. by_params params batches whole later start house (Err (NoMemory (disk_in house))) (λ b.
         memory_leaves (params_in house) whole (batches ++ later) start (disk_in house) (disk_in house) b refl refl refl) same;
+    sound = λ params whole later start e page same lawful b ended. absurd (cc);
   }
 
   -- no batch
@@ -261,6 +278,7 @@ module _ {E X : Type 0} (g : Ghosts E) (i : IndexGhosts X) where
     disk = λ e failed. absurd (cc);
     written = tt;
     goes = λ params whole later start same b. (same, b);
+    sound = λ params whole later start e page same lawful b ended. absurd (cc);
   }
 
   pub rose_later : (a b c : ℕ) → a ≤ b → Rose b c → Rose a c
@@ -277,6 +295,9 @@ module _ {E X : Type 0} (g : Ghosts E) (i : IndexGhosts X) where
     goes = λ params whole later start same b.
         let at = f.goes params whole (then ++ later) start same (subst (λ (k : History). StandsBefore g i params whole k start (disk_in house)) (append_assoc first then later) b) in
         s.goes params whole later start at.0 at.1;
+    sound = λ params whole later start e page same lawful b.
+        let at = f.goes params whole (then ++ later) start same (subst (λ (k : History). StandsBefore g i params whole k start (disk_in house)) (append_assoc first then later) b) in
+        s.sound params whole later start e page at.0 lawful at.1;
   }
 
   -- where the first ones end it, no more are put
@@ -288,6 +309,8 @@ module _ {E X : Type 0} (g : Ghosts E) (i : IndexGhosts X) where
     written = f.written;
     goes = λ params whole later start same b.
         f.goes params whole (then ++ later) start same (subst (λ (k : History). StandsBefore g i params whole k start (disk_in house)) (append_assoc first then later) b);
+    sound = λ params whole later start e page same lawful b.
+        f.sound params whole (then ++ later) start e page same lawful (subst (λ (k : History). StandsBefore g i params whole k start (disk_in house)) (append_assoc first then later) b);
   }
 
   -- one batch of those that are left is put

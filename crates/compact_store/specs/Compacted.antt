@@ -1,6 +1,6 @@
 -- What a compaction leaves on the second disk.
-use Rattle.std.specs.Prelude.{◌≡◌, ◌≢◌, ◌⊎◌, ℕ, ◌+◌, ◌≤◌, true, false, IsTrue, List, [], ◌∷◌, ◌++◌, length}
-use Rattle.bw_types.specs.History.{History, changes}
+use Rattle.std.specs.Prelude.{◌≡◌, ◌≢◌, ◌⊎◌, ℕ, ◌+◌, ◌≤◌, true, false, IsTrue, List, [], ◌∷◌, ◌++◌, drop, length}
+use Rattle.bw_types.specs.History.{History, changes, last_version}
 use Rattle.bw_types.specs.Lawful.{staged_rows}
 use Rattle.bw_types.specs.declared.change.Change.{Change}
 use Rattle.bw_types.specs.declared.params.Params.{Params}
@@ -12,7 +12,9 @@ use Rattle.page_disk.specs.declared.disk.Disk.{Ghosts}
 use Rattle.page_space.specs.Opened.{StaysAsRead}
 use Rattle.page_warehouse.specs.Holds.{Holds}
 use Rattle.page_warehouse.specs.Needs.{LacksPages, batch_need}
+use Rattle.page_layout.specs.declared.meta.Meta.{Meta}
 use Rattle.redo_journal.specs.Gates.{is_empty}
+use Rattle.history_list.specs.Told.{HasNumbersOf}
 use Rattle.compact_store.specs.declared.compacting.Compacted.{Compacted}
 use Rattle.compact_store.specs.declared.compacting.Compacted.TheVariants.{Done, NoVersion, AlreadyThere, PageLimit, Damaged, NoMemory, Disk}
 
@@ -64,7 +66,15 @@ module _ {E X : Type 0} (g : Ghosts E) (i : IndexGhosts X) where
     pub limit : (e : E) (allotted : ℕ) → result ≡ PageLimit e allotted → (allotted ≡ params.pages) × LacksNext i params whole (g.image e)
     -- Pages are enough where the needs of all commits together fit.
     pub enough_pages : (e : E) (allotted : ℕ) → 3 + batches_need params [] whole ≤ params.pages → result ≢ PageLimit e allotted
-    pub sound : (e : E) (page : ℕ) → result ≢ Damaged e page
+
+  -- What is left of it whatever the first disk holds: no warehouse, or one with a first part of some history that has the last version of the
+  -- meta page there.
+  pub record LeavesSome (params : Params) (meta : Meta) (version : ℕ) (second : E) (result : Compacted E) : Type 0 where
+    pub whole : History
+    pub last : last_version whole ≡ meta.version
+    pub leaves : LeavesPart params whole second result
+    -- Where it is done, the batches after the version are those of a history with the numbers of that page.
+    pub later : (e : E) (rows : ℕ) → result ≡ Done e rows → (h : History) × HasNumbersOf meta h × (drop version whole ≡ drop version h)
 
 module _ {E : Type 0} (g : Ghosts E) where
   -- A second disk with something on it stays as it is.

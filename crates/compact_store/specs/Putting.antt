@@ -1,5 +1,5 @@
 -- What calls that put batches on a second disk leave.
-use Rattle.std.specs.Prelude.{◌≡◌, ◌≤◌, ◌+◌, Bool, true, false, IsTrue, [], ◌++◌, Result, Ok, Err}
+use Rattle.std.specs.Prelude.{◌≡◌, ◌≢◌, ◌≤◌, ℕ, ◌+◌, Bool, true, false, IsTrue, [], ◌++◌, Result, Ok, Err}
 use Rattle.bw_types.specs.History.{History}
 use Rattle.bw_types.specs.Lawful.{IsLawful}
 use Rattle.bw_types.specs.declared.params.Params.{Params}
@@ -46,7 +46,6 @@ module _ {E X : Type 0} (g : Ghosts E) (i : IndexGhosts X) where
   pub record StandsBefore (params : Params) (whole later : History) (start disk : E) : Type 0 where
     pub part : History
     pub cut : whole ≡ part ++ later
-    pub lawful : IsLawful params whole
     pub tells : IsTrue (g.tells disk)
     pub holds : Holds i (g.image disk) params part
     pub left : (x : Image) → MayBeLeftNow (g.moments disk) x → Holds i x params part
@@ -57,6 +56,10 @@ module _ {E X : Type 0} (g : Ghosts E) (i : IndexGhosts X) where
   -- Whatever pages the disk stands for, no more of them count against the limit than of its own.
   abbrev pub CountsItsPages : E → Type 0
   CountsItsPages disk = (pages : PageList) → SettlesTo (g.image disk) pages → pages_charge pages ≤ disk_charge g disk
+
+  -- the disk stands before any history, and counts its pages
+  abbrev pub IsReady : Params → E → E → Type 0
+  IsReady params start disk = ((whole : History) → StandsBefore params whole whole start disk) × CountsItsPages disk
 
   -- the second disk when the call is done
   abbrev pub disk_after : Result (Warehouse E X g i) (Compacted E) → E
@@ -80,3 +83,6 @@ module _ {E X : Type 0} (g : Ghosts E) (i : IndexGhosts X) where
     pub written : WasWritten result
     pub goes : (params : Params) (whole later : History) (start : E) → params_in house ≡ params → StandsBefore params whole (batches ++ later) start (disk_in house)
         → GoesTo params whole later start result
+    -- No batch of a lawful history is refused, and no page is damaged.
+    pub sound : (params : Params) (whole later : History) (start e : E) (page : ℕ) → params_in house ≡ params → IsLawful params whole
+        → StandsBefore params whole (batches ++ later) start (disk_in house) → result ≢ Err (Damaged e page)

@@ -1,19 +1,17 @@
 //! A second warehouse, with the history from a version on.
 ghost use Rattle.std.specs.Prelude.{◌≡◌, ◌≢◌, ◌⊎◌, ◌<◌, ◌≤◌, ℕ, true, IsTrue};
-ghost use Rattle.bw_types.specs.Fits.{IsInRange};
 ghost use Rattle.bw_types.specs.History.{History, last_version};
 ghost use Rattle.counts.specs.Count.{Rose};
 ghost use Rattle.page_warehouse.specs.Shown.{HasNewForm, HoldsHistory, disk_charge, disk_in, meta_in, params_in};
 ghost use Rattle.redo_journal.specs.Gates.{is_empty};
 ghost use Rattle.warehouse.specs.Left.{IsAsBefore};
-ghost use Rattle.compact_store.specs.Compacted.{LeavesPart, StaysWhereFull, second_out};
+ghost use Rattle.compact_store.specs.Compacted.{LeavesPart, LeavesSome, StaysWhereFull, second_out};
 ghost use Rattle.compact_store.specs.Ended.{ended_of};
 ghost use Rattle.compact_store.specs.Kept.{kept};
-ghost use Rattle.compact_store.specs.Putting.{CountsItsPages, StandsBefore, is_written};
+ghost use Rattle.compact_store.specs.Putting.{IsReady, is_written};
 
 use crate::filling::fill;
 use crate::keeping::{events_after, gather_kept};
-use crate::kept_laws;
 use dom_index::DomIndex;
 use history_list::GatherFault;
 use page_disk::Disk;
@@ -43,6 +41,8 @@ pub enum Compacted<E> {
 /// it add the objects that are live there. From that version on it answers each query alike ([`kept_laws`](crate::kept_laws)).
 ///
 /// The house and its disk stay as they were. Where it ends early the second disk is empty or has a first part of that history.
+/// `Damaged` comes with the number of the meta page where the adds and withdrawals of the table are not those of a history with its numbers,
+/// or cannot be put as the batches of one.
 /// It takes as much memory as lists of all lives and events of the house.
 pub fn compact<D: Disk, X: DomIndex + Drop, E: Disk + Drop>(
     alloc: Global,
@@ -52,6 +52,11 @@ pub fn compact<D: Disk, X: DomIndex + Drop, E: Disk + Drop>(
 ) -> Compacted<E>
     ensures leaves { (h : History) → HoldsHistory D.Disk X.DomIndex true (disk_in house.old) (params_in house.old) h → version ≤ last_version h
         → IsTrue (E.tells second) → is_empty (E.image second) ≡ true → LeavesPart E.Disk X.DomIndex (params_in house.old) (kept h version) second result }
+    // Whatever the disk of the house holds.
+    ensures some { version ≤ (meta_in house.old).version → IsTrue (E.tells second) → is_empty (E.image second) ≡ true
+        → LeavesSome E.Disk X.DomIndex (params_in house.old) (meta_in house.old) version second result }
+    ensures sound { (h : History) (e : E) (page : ℕ) → HoldsHistory D.Disk X.DomIndex true (disk_in house.old) (params_in house.old) h → version ≤ last_version h
+        → IsTrue (E.tells second) → is_empty (E.image second) ≡ true → result ≢ Compacted.Damaged e page }
     ensures full { StaysWhereFull E.Disk second result }
     ensures no_version { (e : E) (last : ℕ) → result ≡ Compacted.NoVersion e last → (last ≡ (meta_in house.old).version) × (last < version) × (e ≡ second) }
     ensures above { (meta_in house.old).version < version → result ≡ Compacted.NoVersion second (meta_in house.old).version }
@@ -63,7 +68,6 @@ pub fn compact<D: Disk, X: DomIndex + Drop, E: Disk + Drop>(
     ensures tells { E.tells (second_out result) ≡ E.tells second }
 {
     created_holds::<X>();
-    kept_laws();
     let last = house.last();
     if last < version {
         return Compacted::NoVersion { second, last };
@@ -83,11 +87,13 @@ fn compact_to<D: Disk, X: DomIndex + Drop, E: Disk + Drop>(
     last: u32,
     second: E,
 ) -> Compacted<E>
-    requires range { IsInRange (params_in house.old) }
     requires versions { version ≤ last }
+    requires last { last ≡ (meta_in house.old).version }
     ensures leaves { (h : History) (start : E) → HoldsHistory D.Disk X.DomIndex true (disk_in house.old) (params_in house.old) h → last ≡ last_version h
-        → StandsBefore E.Disk X.DomIndex (params_in house.old) (kept h version) (kept h version) start second
-        → CountsItsPages E.Disk X.DomIndex second → LeavesPart E.Disk X.DomIndex (params_in house.old) (kept h version) start result }
+        → IsReady E.Disk X.DomIndex (params_in house.old) start second → LeavesPart E.Disk X.DomIndex (params_in house.old) (kept h version) start result }
+    ensures some { (start : E) → IsReady E.Disk X.DomIndex (params_in house.old) start second → LeavesSome E.Disk X.DomIndex (params_in house.old) (meta_in house.old) version start result }
+    ensures sound { (h : History) (start e : E) (page : ℕ) → HoldsHistory D.Disk X.DomIndex true (disk_in house.old) (params_in house.old) h → last ≡ last_version h
+        → IsReady E.Disk X.DomIndex (params_in house.old) start second → result ≢ Compacted.Damaged e page }
     ensures written { IsTrue (is_written result) }
     ensures disk { (e : E) → result ≡ Compacted.Disk e → Rose (D.faults (disk_in house.old)) (D.faults (disk_in house.new)) ⊎ Rose (E.faults second) (E.faults e) }
     ensures kept { IsAsBefore params_in disk_in (HoldsHistory D.Disk X.DomIndex) (HasNewForm D.Disk) D.tells D.image D.moments (disk_charge D.Disk) house.old house.new }

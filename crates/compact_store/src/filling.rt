@@ -1,20 +1,18 @@
 //! A second disk with a new warehouse, to which a history is written.
-ghost use Rattle.std.specs.Prelude.{◌≡◌, ◌++◌, ◌+◌, ◌-◌, ◌≤◌, ℕ, IsTrue, length};
-ghost use Rattle.bw_types.specs.History.{History, changes};
-ghost use Rattle.bw_types.specs.Fits.{IsInRange};
+ghost use Rattle.std.specs.Prelude.{◌≡◌, ◌≢◌, ◌+◌, ◌<◌, ◌≤◌, ◌^◌, ℕ, IsTrue, length};
+ghost use Rattle.bw_types.specs.History.{changes};
+ghost use Rattle.bw_types.specs.Lawful.{IsLawful};
 ghost use Rattle.bw_types.specs.declared.params.Params.{Params};
 ghost use Rattle.counts.specs.Count.{Rose};
-ghost use Rattle.history_list.specs.Batches.{batches_from};
 ghost use Rattle.compact_store.specs.Compacted.{LeavesPart, second_out};
-ghost use Rattle.compact_store.specs.Cuts.{batches_by_size};
+ghost use Rattle.compact_store.specs.Cuts.{batches_of};
 ghost use Rattle.compact_store.specs.Ended.{refusal_of};
-ghost use Rattle.compact_store.specs.Putting.{CountsItsPages, Puts, StandsBefore, is_written};
+ghost use Rattle.compact_store.specs.Putting.{IsReady, Puts, is_written};
 
 use crate::Compacted;
 use crate::keeping::row_count;
 use crate::putting::{put_by_size, put_versions};
 use dom_index::DomIndex;
-use history_laws::lawful_histories_have_room;
 use history_list::Event;
 use page_disk::Disk;
 use page_space::{OpenFault, OpenRefused};
@@ -30,16 +28,18 @@ pub(crate) fn fill<E: Disk + Drop, X: DomIndex + Drop>(
     version: u32,
     last: u32,
 ) -> Compacted<E>
-    requires { version ≤ last }
-    ensures leaves { (params : Params) (whole : History) (start : E) → IsInRange params → StandsBefore E.Disk X.DomIndex params whole whole start second
-        → CountsItsPages E.Disk X.DomIndex second → whole ≡ batches_by_size version adds.now ++ batches_from (version + 1) (last - version) later.now
-        → length adds.now + length later.now ≡ length (changes whole) → LeavesPart E.Disk X.DomIndex params whole start result }
+    requires versions { version ≤ last }
+    requires room { length adds.now + length later.now < 2 ^ 32 }
+    requires all { length adds.now + length later.now ≡ length (changes (batches_of version last adds.now later.now)) }
+    ensures leaves { (params : Params) (start : E) → IsReady E.Disk X.DomIndex params start second
+        → LeavesPart E.Disk X.DomIndex params (batches_of version last adds.now later.now) start result }
+    ensures sound { (params : Params) (start e : E) (page : ℕ) → IsReady E.Disk X.DomIndex params start second
+        → IsLawful params (batches_of version last adds.now later.now) → result ≢ Compacted.Damaged e page }
     ensures written { IsTrue (is_written result) }
     ensures disk { (e : E) → result ≡ Compacted.Disk e → Rose (E.faults second) (E.faults e) }
     ensures faults { E.faults second ≤ E.faults (second_out result) }
     ensures tells { E.tells (second_out result) ≡ E.tells second }
 {
-    lawful_histories_have_room();
     holding_laws::<X>();
     let house = match Warehouse::<E, X>::open_on(alloc, second) {
         Ok(house) => house,
@@ -82,7 +82,7 @@ fn put_all<E: Disk + Drop, X: DomIndex + Drop>(
     last: u32,
 ) -> Result<Warehouse<E, X>, Compacted<E>>
     requires { version ≤ last }
-    ensures { Puts E.Disk X.DomIndex (batches_by_size version adds.now ++ batches_from (version + 1) (last - version) later.now) house result }
+    ensures { Puts E.Disk X.DomIndex (batches_of version last adds.now later.now) house result }
 {
     match put_by_size(alloc, house, adds, version) {
         Ok(house) => put_versions(alloc, house, later, version, last),

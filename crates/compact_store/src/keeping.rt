@@ -1,14 +1,15 @@
 //! What is kept of a history from a version on.
-ghost use Rattle.std.specs.Prelude.{◌≡◌, ◌≢◌, ◌≤◌, ◌+◌, ◌<◌, ◌^◌, ℕ, true, IfOk, Err, length, map, drop};
+ghost use Rattle.std.specs.Prelude.{◌≡◌, ◌≢◌, ◌≤◌, ◌+◌, ◌<◌, ◌^◌, ◌↔◌, ℕ, true, IfOk, IsTrue, Err, length, map, drop};
 ghost use Rattle.bw_types.specs.History.{History, live};
 ghost use Rattle.bw_types.specs.declared.change.Change.TheVariants.{Add};
 ghost use Rattle.counts.specs.Count.{Rose};
 ghost use Rattle.history_laws.specs.Living.{is_live_at, objects_at};
 ghost use Rattle.history_list.specs.Events.{AreEventsOf, change_in};
+ghost use Rattle.history_list.specs.Told.{HasNumbersOf};
 ghost use Rattle.page_warehouse.specs.Shown.{HasNewForm, HoldsHistory, disk_charge, disk_in, meta_in, params_in};
 ghost use Rattle.warehouse.specs.Left.{IsAsBefore};
 ghost use Rattle.compact_store.specs.Cuts.{count_to};
-ghost use Rattle.compact_store.specs.Keeping.{IsKept};
+ghost use Rattle.compact_store.specs.Keeping.{HaveRoom, IsKept};
 
 use bw_types::Dated;
 use dom_index::DomIndex;
@@ -17,6 +18,9 @@ use history_list::{Event, GatherFault, gather, gather_lives};
 use page_disk::Disk;
 use page_warehouse::Warehouse;
 use std::alloc::{AllocError, Global};
+
+// The number of the meta page.
+const META_PAGE: u64 = 2;
 
 /// What is kept of a history from a version on.
 #[derive(Drop)]
@@ -29,6 +33,9 @@ pub(crate) struct Kept {
 
 /// Gathers what is kept of the history of the house from a version on.
 ///
+/// Whatever the disk holds, the events are those of a history with the numbers of the meta page, the adds have room in the batches up to the
+/// version, and 32 bits count both: else it is `Damaged` with the number of that page, so that none is left out.
+///
 /// The house and its disk stay as they were.
 pub(crate) fn gather_kept<D: Disk, X: DomIndex>(
     alloc: Global,
@@ -37,6 +44,8 @@ pub(crate) fn gather_kept<D: Disk, X: DomIndex>(
 ) -> Result<Kept, GatherFault>
     ensures found { IfOk result (λ found. (h : History) → HoldsHistory D.Disk X.DomIndex true (disk_in house.old) (params_in house.old) h
         → IsKept h version found.adds.items found.events.items) }
+    ensures told { IfOk result (λ found. (h : History) × (AreEventsOf found.events.items h) × HasNumbersOf (meta_in house.old) h) }
+    ensures room { IfOk result (λ found. HaveRoom version found.adds.items found.events.items) }
     ensures kept { IsAsBefore params_in disk_in (HoldsHistory D.Disk X.DomIndex) (HasNewForm D.Disk) D.tells D.image D.moments (disk_charge D.Disk) house.old house.new }
     ensures meta { meta_in house.new ≡ meta_in house.old }
     ensures sound { (h : History) (page : ℕ) → HoldsHistory D.Disk X.DomIndex true (disk_in house.old) (params_in house.old) h
@@ -53,10 +62,20 @@ pub(crate) fn gather_kept<D: Disk, X: DomIndex>(
         Ok(lives) => lives,
         Err(fault) => return Err(fault),
     };
-    match adds_at(alloc, &lives, version) {
-        Ok(adds) => Ok(Kept { adds, events }),
-        Err(_) => Err(GatherFault::NoMemory),
+    let Ok(adds) = adds_at(alloc, &lives, version) else {
+        return Err(GatherFault::NoMemory);
+    };
+    if !have_room(version, &adds, &events) {
+        return Err(GatherFault::Damaged(META_PAGE));
     }
+    Ok(Kept { adds, events })
+}
+
+// Whether the adds have room in the batches up to the version, 4096 in each, and 32 bits count them and the events together.
+fn have_room(version: u32, adds: &[Event], events: &[Event]) -> bool
+    ensures { IsTrue result ↔ HaveRoom version adds.now events.now }
+{
+    adds.len() as u64 <= 4096 * version as u64 && adds.len() + events.len() <= u32::MAX as usize
 }
 
 // The adds of the objects of the lives that are live at the version, in the order of the lives.
@@ -104,7 +123,8 @@ fn count_to(version: u32, events: &[Event]) -> usize
 
 /// How many there are of both.
 pub(crate) fn row_count(adds: &[Event], later: &[Event]) -> u32
-    ensures { length adds.now + length later.now < 2 ^ 32 → result ≡ length adds.now + length later.now }
+    requires { length adds.now + length later.now < 2 ^ 32 }
+    ensures { result ≡ length adds.now + length later.now }
 {
-    u32::try_from(adds.len() + later.len()).unwrap_or(u32::MAX)
+    (adds.len() + later.len()) as u32
 }

@@ -29,7 +29,7 @@ event_at [] i e = refl
 event_at (x ∷ es) zero e = refl
 event_at (x ∷ es) (suc i) e = event_at es i e
 
-numbered_up : (es : List Event) → IsNonDecreasingBy (λ e. e.event) es → IsNonDecreasingBy (λ (n : Numbered). n.event) (map numbered_in es)
+pub numbered_up : (es : List Event) → IsNonDecreasingBy (λ e. e.event) es → IsNonDecreasingBy (λ (n : Numbered). n.event) (map numbered_in es)
 numbered_up [] up = IsNonDecreasingBy-short (λ (n : Numbered). n.event) [] (omega arith)
 numbered_up (x ∷ es) up = IsNonDecreasingBy-from_default (λ (n : Numbered). n.event) (map numbered_in (x ∷ es)) (numbered_in x) (λ i j le lt.
     omega (arith, event_at (x ∷ es) i x, event_at (x ∷ es) j x, up i j x le (omega (arith, lt, length-map (x ∷ es) numbered_in))))

@@ -6,3 +6,4 @@ pub mod Houses
 pub mod Faults
 pub mod InOrderOfAdding
 pub mod CutByVersion
+pub mod Numbers

@@ -5,6 +5,7 @@ mod batches;
 mod event;
 mod gathering;
 mod lives;
+mod numbering;
 #[cfg(test)]
 mod tests;
 
@@ -12,3 +13,4 @@ pub use batches::{count_of, first_row};
 pub use event::Event;
 pub use gathering::{GatherFault, gather};
 pub use lives::gather_lives;
+pub use numbering::make_history;

@@ -1,6 +1,6 @@
 -- A space that is opened, and the history that its disk holds.
-use Rattle.std.proofs.Common.{◌≡◌, ℕ, ◌⊎◌, ◌<◌, ◌≤◌, true, false, List, inl, inr, refl, sym, ◌∙◌, ap, subst, arith}
-use Rattle.bw_types.specs.History.{History, last_version}
+use Rattle.std.proofs.Common.{◌≡◌, ℕ, ◌⊎◌, ◌<◌, ◌≤◌, true, false, List, length, inl, inr, refl, sym, ◌∙◌, ap, subst, arith}
+use Rattle.bw_types.specs.History.{History, changes, last_version}
 use Rattle.bw_types.specs.declared.params.Params.{Params}
 use Rattle.page_disk.specs.Image.{Image, PageList}
 use Rattle.page_disk.specs.Moment.{Moment}
@@ -141,6 +141,12 @@ module _ {X : Type 0} (g : Ghosts X) (one : HoldsOne) (x : Image) (params : Para
   last_here h held =
       let both = one x params params held.meta meta held.pages map held.space (unordered x params meta map ordered space) in
       sym (ap (λ (m : Meta). m.version) both.1) ∙ held.tells.version
+
+  -- and has as many adds and withdrawals
+  pub rows_here : (h : History) → HoldsTrees g x params h → meta.rows ≡ length (changes h)
+  rows_here h held =
+      let both = one x params params held.meta meta held.pages map held.space (unordered x params meta map ordered space) in
+      sym (ap (λ (m : Meta). m.rows) both.1) ∙ held.tells.rows
 
 -- whatever pages the disk stood for, the disk of the opened space stands for too
 pub stands_alike : SettlesToOne → IdleSettles → (x y : Image) → SettlesTo x y.pages → gate_of y ≡ Idle → StandsAlike x y

@@ -1,6 +1,6 @@
 //! The warehouse that is kept open on a disk.
 ghost use Rattle.std.specs.Prelude.{◌≡◌, ◌+◌, ◌^◌, ◌<◌, ◌≤◌, Bool, length};
-ghost use Rattle.bw_types.specs.History.{History, last_version};
+ghost use Rattle.bw_types.specs.History.{History, changes, last_version};
 ghost use Rattle.bw_types.specs.Fits.{IsInRange};
 ghost use Rattle.corner_forest.specs.Entries.{root_count};
 ghost use Rattle.page_space.specs.Shown.{meta_of, params_of};
@@ -51,6 +51,16 @@ impl<D: Disk, X: DomIndex> Warehouse<D, X> {
         holds_one();
         self.space.is_held();
         self.space.meta().version
+    }
+
+    /// How many adds and withdrawals the history has, by the meta page.
+    pub fn rows(&self) -> u32
+        ensures value { result ≡ (meta_in self.now).rows }
+        ensures held { (whole : Bool) (h : History) → HoldsHistory D.Disk X.DomIndex whole (disk_in self.now) (params_in self.now) h → result ≡ length (changes h) }
+    {
+        holds_one();
+        self.space.is_held();
+        self.space.meta().rows
     }
 
     /// The disk as it stands.

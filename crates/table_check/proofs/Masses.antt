@@ -3,7 +3,7 @@ use Rattle.std.proofs.Common.{◌≡◌, ◌^◌, nat_abs, if◌then◌else◌, 
 use Rattle.std.specs.List.{All, list_all}
 use Rattle.std.proofs.lemmas.List.Elements.{All-cons, All-nil}
 use Rattle.std.proofs.lemmas.Bool.{and_from, and_parts}
-use Rattle.std.proofs.lemmas.List.{take_more, take-append-drop, map-append, length-map}
+use Rattle.std.proofs.lemmas.List.{take_more, take-append-drop, map-append}
 use Rattle.std.proofs.lemmas.List.Folds.{list_all-append}
 use Rattle.std.proofs.lemmas.List.Sums.{sum_by-append, sum_by-cons}
 use Rattle.bw_types.specs.Fits.{row_fits}
@@ -18,21 +18,9 @@ use Rattle.bw_types.specs.declared.change.Change.TheVariants as change
 use Rattle.history_laws.specs.Bounds.{HasSmallWeight}
 use Rattle.object_table.proofs.Searching.{All-head, All-tail}
 use Rattle.history_laws.proofs.Staging.{flat_staged}
-use Rattle.history_list.specs.Events.{AreEventsOf, change_in, numbered_in}
-use Rattle.told_history.proofs.Batches.{changed, changed_all}
+use Rattle.history_list.specs.Events.{change_in}
 use Rattle.history_list.specs.declared.event.Event.{Event}
 use Rattle.table_check.specs.Fitting.{change_fits}
-
--- the events of a history have its changes
-changed_events : (es : List Event) → changed (map numbered_in es) ≡ map change_in es
-changed_events [] = refl
-changed_events (e ∷ es) = ap (λ (cs : List Change). change_in e ∷ cs) (changed_events es)
-
-pub events_changes : (h : History) (es : List Event) → AreEventsOf es h → map change_in es ≡ changes h
-events_changes h es are = sym (changed_events es) ∙ (ap changed are ∙ changed_all h)
-
-pub events_count : (h : History) (es : List Event) → AreEventsOf es h → length es ≡ length (changes h)
-events_count h es are = sym (length-map es change_in) ∙ ap (length {A = Change}) (events_changes h es are)
 
 -- one change more
 pub mass_more : (params : Params) (es : List Event) (i : ℕ) (d : Event) → i < length es

@@ -1,13 +1,13 @@
 //! The adds and withdrawals that lives name, in order.
-ghost use Rattle.std.specs.Prelude.{◌≡◌, ◌≤◌, ◌↔◌, ◌++◌, map, Ok, None, IsTrue, IfOk, IfSome, OnOk};
+ghost use Rattle.std.specs.Prelude.{◌≡◌, ◌++◌, map, Ok, None, IfOk, IfSome, OnOk};
 ghost use Rattle.bw_types.specs.History.{History};
 ghost use Rattle.bw_types.specs.declared.params.Params.{Params};
 ghost use Rattle.told_history.specs.Told.{named_by};
 ghost use Rattle.history_list.specs.Events.{AreEventsOf, numbered_in};
-ghost use Rattle.table_check.specs.Telling.{AreNumbered, HasLives, IsToldBy};
+ghost use Rattle.table_check.specs.Telling.{HasLives, IsToldBy};
 
 use bw_types::Dated;
-use history_list::Event;
+use history_list::{Event, make_history};
 use std::alloc::{AllocError, Global};
 use told_history::lives_name_changes;
 
@@ -32,7 +32,7 @@ pub fn told_events(
         push_named(&mut events, dated)?;
     }
     events.sort_unstable_by_key(|event| event.event);
-    if !are_numbered(events.as_slice(), last) {
+    if !make_history(events.as_slice(), last) {
         return Ok(None);
     }
     Ok(Some(events))
@@ -57,26 +57,4 @@ fn push_named(events: &mut Vec<Event>, dated: &Dated) -> Result<(), AllocError>
         })?;
     }
     Ok(())
-}
-
-// Whether the event numbers are 0 and so on, and the versions from 1 on never fall and are at most the last.
-fn are_numbered(events: &[Event], last: u32) -> bool
-    ensures { IsTrue result ↔ AreNumbered last events.now }
-{
-    let mut version = 1;
-    for index in 0..events.len() {
-        let event = &events[index];
-        if !goes_on(event, index, version, last) {
-            return false;
-        }
-        version = event.version;
-    }
-    true
-}
-
-// Whether the event has this number, and a version from this one to the last.
-fn goes_on(event: &Event, number: usize, version: u32, last: u32) -> bool
-    ensures { IsTrue result ↔ ((event.now.event ≡ number) × (version ≤ event.now.version) × (event.now.version ≤ last)) }
-{
-    event.event as usize == number && version <= event.version && event.version <= last
 }

@@ -2,9 +2,10 @@ use Rattle.std.proofs.Common.{◌≡◌, true, ◌++◌, refl, sym, subst, inl, 
 use Rattle.bw_types.specs.declared.params.Params.{Params}
 use Rattle.history_text.specs.Rebuilt.{Rebuilds}
 use Rattle.history_text.specs.Rows.{rows_of}
-use Rattle.page_warehouse.specs.Shown.{disk_in}
+use Rattle.page_layout.specs.declared.meta.Meta.{Meta}
+use Rattle.page_warehouse.specs.Shown.{disk_in, meta_in}
 use Rattle.byte_ports.specs.Written.{WritesPart}
-use Rattle.boxsum.specs.Ran.{Exports}
+use Rattle.boxsum.specs.Ran.{Exports, PrintsSome}
 use Rattle.boxsum.specs.declared.status.Status.TheVariants as status
 use Rattle.boxsum.proofs.Endings.{no_fault}
 use Rattle.boxsum.proofs.Exported.{exports_whole}
@@ -32,6 +33,10 @@ returns-in-Err-clause-exports g c = record {
         undamaged = λ area page. not_damaged c.from.result area page stopped;
         complete = λ calm other. only_memory c.from.result stopped other;
       };
+  shown = λ params told shows. record {
+    fine = λ so. absurd (no_fault c.in-Err.refused.fault c.from.result status.Fine c.from.ensures so refl);
+    part = λ so. absurd (no_fault c.in-Err.refused.fault c.from.result status.WriteFault c.from.ensures so refl);
+  };
 }
 
 pub returns-clause-exports : goal.returns-clause-exports
@@ -60,4 +65,8 @@ returns-clause-exports g c =
             undamaged = λ area page. p.undamaged h area page here.1;
             complete = λ calm other. exports_whole s p.may_end.0 p.may_end.1 (λ so. calm (p.write_fault so)) other (λ area page. p.undamaged h area page here.1);
           };
+      shown = λ params told shows.
+          let one = c.holds_one.ensures.one _ _ _ _ _ _ _ (o.whole told).1 shows.space in
+          subst (λ (m : Meta). PrintsSome g.K.Sink c.args.sink.now c.put_rows-status.new.sink s params m) one.1
+          (subst (λ (q : Params). PrintsSome g.K.Sink c.args.sink.now c.put_rows-status.new.sink s q (meta_in before)) one.0 p.some);
     })

@@ -1,79 +1,35 @@
-use Rattle.std.proofs.Common.{rules, arith, ◌≡◌, true, IsTrue, List, Err, IsPermutation, refl, sym, ◌∙◌, ap, subst}
-use Rattle.std.specs.Option.{option_copied}
-use Rattle.std.proofs.lemmas.Result.{err_from_is_err_and}
+use Rattle.std.proofs.Common.{rules, ◌≡◌, false, true, IsTrue, List, length, sym, ◌∙◌, subst}
 use Rattle.std.proofs.lemmas.List.Sorted.{IsNonDecreasingBy-from_sort_by_key}
-use Rattle.bw_types.specs.History.{History}
-use Rattle.bw_types.specs.Lives.{lives}
-use Rattle.bw_types.specs.declared.dated.Dated.{Dated}
-use Rattle.object_table.specs.Lives.{from_life}
-use Rattle.page_warehouse.specs.Shown.{HoldsHistory, disk_in, params_in}
-use Rattle.history_list.specs.Events.{events_of_lives}
+use Rattle.bw_types.specs.History.{History, changes, last_version}
+use Rattle.page_warehouse.specs.Shown.{params_in}
+use Rattle.history_list.specs.Events.{AreEventsOf}
 use Rattle.history_list.specs.declared.event.Event.{Event}
-use Rattle.history_list.proofs.Faults.{read_damaged}
-use Rattle.history_list.proofs.Houses.{all_passed, events_all, holds_now, keeps_now, stays, stays_on}
+use Rattle.history_list.proofs.Houses.{events_all, holds_now}
 use Rattle.history_list.proofs.InOrder.{are_events}
-use Rattle.history_list.proofs.Walked.{events_on, first_walk, last_from, last_of, none_of}
-use Rattle.history_list.proofs.gathering.gather.Given
 use Rattle.history_list.proofs.gathering.gather.Goals as goal
 
-pub loop-events-init : goal.loop-events-init
-loop-events-init g c = record {
-  stays = stays g.D.Disk g.X.DomIndex c.args.house.now;
-  meta = refl;
-  faults = search rules;
-  events = λ told h kept table. c.new-events.ensures.items ∙ sym (ap events_of_lives (first_walk kept));
-}
-
-pub loop-events-preserved : goal.loop-events-preserved
-loop-events-preserved g c = record {
-  stays = stays_on g.D.Disk g.X.DomIndex c.args.house.now c.loop-events.house c.walk_leaf.new.self c.loop-events.invariant.stays c.walk_leaf.ensures.kept;
-  meta = c.walk_leaf.ensures.meta ∙ c.loop-events.invariant.meta;
-  faults = search rules;
-  events = λ told h kept table.
-      let now = subst IsTrue (sym c.loop-events.invariant.stays.tells) told in
-      let here = keeps_now g.D.Disk g.X.DomIndex c.args.house.now c.loop-events.house h kept c.loop-events.invariant.stays table.keeps in
-      let last = last_of c.in_ok-leaf.leaf.items c.as_slice.result.now (option_copied c.last.result) c.copied.result c.as_slice.ensures.value c.last.ensures.value c.copied.ensures c.in-Some.last c.in-Some.is in
-      events_on c.loop-events.events.items c.push_all.new.events.items (from_life c.loop-events.after) kept c.in_ok-leaf.leaf.items c.as_slice-in-loop-events.result.now last.0 c.in-Some.last table.ascend (c.in_ok-leaf.ensures.next h kept now here) last.1
-      (c.loop-events.invariant.events told h kept table) c.as_slice-in-loop-events.ensures.value c.in_ok-push_all.ensures;
-}
-
-pub loop-events-smaller : goal.loop-events-smaller
-loop-events-smaller g c =
-    let from = last_from c.in_ok-leaf.leaf.items c.as_slice.result.now (option_copied c.last.result) c.copied.result c.as_slice.ensures.value c.last.ensures.value c.copied.ensures (from_life c.loop-events.after) c.in-Some.last c.in-Some.is c.in_ok-leaf.ensures.above in
-    omega (arith, from)
-
--- the lives that the table keeps, which were all passed
-passed : (g : Given.Over) (c : goal.After-sort_unstable_by_key g) → (h : History) → HoldsHistory g.D.Disk g.X.DomIndex true (disk_in c.args.house.now) (params_in c.args.house.now) h
-    → (kept : List Dated) × (IsPermutation kept (lives h)) × (c.loop-events.events.items ≡ events_of_lives kept)
-passed g c h held =
-    let now = subst IsTrue (sym c.loop-events.invariant.stays.tells) held.0 in
-    all_passed g.D.Disk g.X.DomIndex c.tables_keep_lives.ensures c.args.house.now h (from_life c.loop-events.after) c.loop-events.events.items c.in_ok-leaf.leaf.items held
-    (λ kept table. c.loop-events.invariant.events held.0 h kept table)
-    (λ kept table. c.in_ok-leaf.ensures.next h kept now (keeps_now g.D.Disk g.X.DomIndex c.args.house.now c.loop-events.house h kept c.loop-events.invariant.stays table.keeps))
-    (none_of c.in_ok-leaf.leaf.items c.as_slice.result.now (option_copied c.last.result) c.copied.result c.as_slice.ensures.value c.last.ensures.value c.copied.ensures c.in_default.is)
-
-pub returns-clause-events : goal.returns-clause-events
-returns-clause-events g c = λ h held.
-    let all = passed g c h held in
-    are_events c.lives_name_changes.ensures.named (params_in c.args.house.now) h all.0 c.loop-events.events.items c.sort_unstable_by_key.new.self.items held.1.lawful all.1 all.2 c.sort_unstable_by_key.ensures.permutation
+pub returns-then-are_as_told-clause-events : goal.returns-then-are_as_told-clause-events
+returns-then-are_as_told-clause-events g c = λ h held.
+    let all = c.in-Ok.ensures.passed h held in
+    are_events c.lives_name_changes.ensures.named (params_in c.args.house.now) h all.0 c.in-Ok.events.items c.sort_unstable_by_key.new.self.items held.1.lawful all.1 all.2 c.sort_unstable_by_key.ensures.permutation
     (IsNonDecreasingBy-from_sort_by_key (λ (e : Event). e.event) c.sort_unstable_by_key.new.self.items c.sort_unstable_by_key.ensures.sorted (λ a r q k. search rules))
 
-pub returns-clause-lives : goal.returns-clause-lives
-returns-clause-lives g c = λ h held.
-    let all = passed g c h held in
-    events_all h all.0 c.loop-events.events.items c.sort_unstable_by_key.new.self.items all.1 all.2 c.sort_unstable_by_key.ensures.permutation
+pub returns-then-are_as_told-clause-lives : goal.returns-then-are_as_told-clause-lives
+returns-then-are_as_told-clause-lives g c = λ h held.
+    let all = c.in-Ok.ensures.passed h held in
+    events_all h all.0 c.in-Ok.events.items c.sort_unstable_by_key.new.self.items all.1 all.2 c.sort_unstable_by_key.ensures.permutation
 
-pub returns-clause-kept : goal.returns-clause-kept
-returns-clause-kept g c = stays_on g.D.Disk g.X.DomIndex c.args.house.now c.loop-events.house c.walk_leaf.new.self c.loop-events.invariant.stays c.walk_leaf.ensures.kept
+pub returns-in-Err-clause-sound : goal.returns-in-Err-clause-sound
+returns-in-Err-clause-sound g c = λ h page held e. c.gather_by_id.ensures.sound h page held (c.in-Err.is ∙ e)
 
-pub returns-in_err-leaf-clause-kept : goal.returns-in_err-leaf-clause-kept
-returns-in_err-leaf-clause-kept g c = stays_on g.D.Disk g.X.DomIndex c.args.house.now c.loop-events.house c.walk_leaf.new.self c.loop-events.invariant.stays c.walk_leaf.ensures.kept
-
-pub returns-in_err-push_all-clause-kept : goal.returns-in_err-push_all-clause-kept
-returns-in_err-push_all-clause-kept g c = stays_on g.D.Disk g.X.DomIndex c.args.house.now c.loop-events.house c.walk_leaf.new.self c.loop-events.invariant.stays c.walk_leaf.ensures.kept
-
-pub returns-in_err-leaf-clause-sound : goal.returns-in_err-leaf-clause-sound
-returns-in_err-leaf-clause-sound g c = λ h page held e.
-    let told = err_from_is_err_and c.from_residual.result c.from_residual.ensures.1 in
-    let same = read_damaged c.from_residual.result c.in_err-leaf.field-0.0 page told e in
-    c.in_err-leaf.ensures.sound h page (holds_now g.D.Disk g.X.DomIndex c.args.house.now c.loop-events.house h c.loop-events.invariant.stays held) (ap Err same)
+-- the events of a history that the disk holds are told so by its meta page
+pub returns-else-are_as_told-clause-sound : goal.returns-else-are_as_told-clause-sound
+returns-else-are_as_told-clause-sound g c = λ h page held e.
+    let all = c.in-Ok.ensures.passed h held in
+    let at = holds_now g.D.Disk g.X.DomIndex c.args.house.now c.gather_by_id.new.house h c.gather_by_id.ensures.kept held in
+    let are = are_events c.lives_name_changes.ensures.named (params_in c.args.house.now) h all.0 c.in-Ok.events.items c.sort_unstable_by_key.new.self.items held.1.lawful all.1 all.2 c.sort_unstable_by_key.ensures.permutation
+    (IsNonDecreasingBy-from_sort_by_key (λ (e : Event). e.event) c.sort_unstable_by_key.new.self.items c.sort_unstable_by_key.ensures.sorted (λ a r q k. search rules)) in
+    let told = subst (λ (es : List Event). (k : History) × (AreEventsOf es k) × (last_version k ≡ c.last.result) × (length (changes k) ≡ c.rows.result)) (sym c.deref.ensures.value)
+    (h, are, sym (c.last.ensures.held true h at), sym (c.rows.ensures.held true h at)) in
+    let no : false ≡ true = subst IsTrue c.if-are_as_told.false (c.are_as_told.ensures.1 told) in
+    cc

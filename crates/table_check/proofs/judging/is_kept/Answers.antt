@@ -2,7 +2,8 @@ use Rattle.std.proofs.Common.{List, Ok, refl, ◌∙◌, ap, subst, arith}
 use Rattle.std.specs.List.{All}
 use Rattle.bw_types.specs.declared.change.Change.{Change}
 use Rattle.history_laws.specs.Bounds.{HasSmallWeight}
-use Rattle.table_check.proofs.Masses.{events_changes, events_count, small_changes}
+use Rattle.history_list.proofs.Numbers.{events_changes, events_count}
+use Rattle.table_check.proofs.Masses.{small_changes}
 use Rattle.table_check.proofs.judging.is_kept.Goals as goal
 
 pub are_lives-requires : goal.are_lives-requires

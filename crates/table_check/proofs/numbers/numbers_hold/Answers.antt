@@ -4,7 +4,8 @@ use Rattle.std.proofs.lemmas.Bool.{eq-eqb, eqb-true}
 use Rattle.bw_types.specs.Mass.{mass_limit}
 use Rattle.bw_types.specs.Refusals.{total_mass}
 use Rattle.table_check.specs.Fitting.{change_fits}
-use Rattle.table_check.proofs.Masses.{events_changes, events_count, lawful_fit}
+use Rattle.history_list.proofs.Numbers.{events_changes, events_count}
+use Rattle.table_check.proofs.Masses.{lawful_fit}
 use Rattle.table_check.proofs.numbers.numbers_hold.Goals as goal
 
 pub returns-in-Some : goal.returns-in-Some

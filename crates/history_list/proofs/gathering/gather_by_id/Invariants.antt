@@ -7,7 +7,7 @@ use Rattle.page_warehouse.specs.Table.{IsTableOf}
 use Rattle.history_list.specs.Events.{events_of_lives}
 use Rattle.history_list.proofs.Houses.{StaysAsBefore}
 use Rattle.history_list.proofs.Walked.{lives_before}
-use Rattle.history_list.proofs.gathering.gather.Given as goal
+use Rattle.history_list.proofs.gathering.gather_by_id.Given as goal
 
 abbrev pub invariant-loop-events : goal.invariant-loop-events
 invariant-loop-events g l =
