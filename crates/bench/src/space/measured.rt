@@ -1,7 +1,7 @@
 //! Gets and commits a second over files.
 
-use crate::commits::{commit_again, commit_new, count_got};
-use crate::made::make;
+use crate::space::commits::{commit_again, commit_new, count_got};
+use crate::space::made::make;
 use anyhow::Result;
 use page_disk::{Disk, FileDisk};
 use page_space::Space;

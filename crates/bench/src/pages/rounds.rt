@@ -1,7 +1,7 @@
 //! Rounds of writes and reads over full pages.
 ghost use Rattle.std.specs.Prelude.{◌<◌};
 
-use crate::full;
+use crate::pages::full;
 use page_layout::{
     CutPage, FreePage, JournalHead, LifeNode, Meta, MvNode, PointLeaf, SbNode, Spelled, Super,
     TableNode, View,

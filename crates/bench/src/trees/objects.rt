@@ -2,8 +2,8 @@
 ghost use Rattle.std.specs.Prelude.{◌≡◌, IsTrue};
 ghost use Rattle.page_layout.specs.Dated.{by_life_fits};
 
-use crate::draws::Draws;
-use crate::measured::rate;
+use crate::trees::draws::Draws;
+use crate::trees::measured::rate;
 use anyhow::Result;
 use bw_types::{Dated, Object, Tree};
 use object_table::{enter, find};

@@ -1,9 +1,9 @@
 //! Additions and values of multiversion trees, with the pages that they get and put, and beside them a scan
 //! of the same points in a sorted array.
 
-use crate::draws::Draws;
-use crate::measured::{hundredths, rate};
-use crate::put_count::{ByKind, PutCount};
+use crate::trees::draws::Draws;
+use crate::trees::measured::{hundredths, rate};
+use crate::trees::put_count::{ByKind, PutCount};
 use anyhow::{Result, bail};
 use bw_types::Tree;
 use mvsb_tree::{mv_add, mv_value};

@@ -1,6 +1,6 @@
 //! Commits of some pages.
 
-use crate::made::meta_of;
+use crate::space::made::meta_of;
 use page_disk::Disk;
 use page_ports::{Pages, Stage, StageFault, blank_page};
 use page_space::{Space, Staged};

@@ -1,6 +1,6 @@
 //! Additions and values a second, and the pages that they get.
 
-use crate::draws::Draws;
+use crate::trees::draws::Draws;
 use anyhow::Result;
 use bw_types::Tree;
 use page_ports::{MemStage, PageFault, StageFault};

@@ -1,7 +1,7 @@
 //! The dominance sum over two dimensions: a tree that is built in memory, and beside it a plain scan of its points.
 
-use crate::built::build_cuts;
-use crate::draws::Draws;
+use crate::trees::built::build_cuts;
+use crate::trees::draws::Draws;
 use anyhow::Result;
 use bw_types::{Point, Tree, point_key, query_key};
 use cut_query::tree_sum;

@@ -2,9 +2,9 @@
 ghost use Rattle.std.specs.Prelude.{◌≡◌, ◌≤◌, ◌<◌, ◌-◌, ◌^◌, suc};
 ghost use Rattle.std.specs.List.{All};
 
-use crate::draws::Draws;
-use crate::measured::{hundredths, rate};
-use crate::put_count::{ByKind, PutCount};
+use crate::trees::draws::Draws;
+use crate::trees::measured::{hundredths, rate};
+use crate::trees::put_count::{ByKind, PutCount};
 use anyhow::{Result, bail};
 use bw_types::{Point, Tree};
 use cut_build::{build, collect, drop_tree};

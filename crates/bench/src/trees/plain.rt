@@ -1,7 +1,7 @@
 //! The trees beside plain sums.
 ghost use Rattle.std.specs.Prelude.{◌<◌};
 
-use crate::draws::Draws;
+use crate::trees::draws::Draws;
 use anyhow::Result;
 use bw_types::Tree;
 use mvsb_tree::{mv_add, mv_value};

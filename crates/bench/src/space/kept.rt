@@ -1,7 +1,7 @@
 //! What a space keeps on a disk in memory.
 
-use crate::commits::{commit_again, commit_new, count_got};
-use crate::made::{make, open};
+use crate::space::commits::{commit_again, commit_new, count_got};
+use crate::space::made::{make, open};
 use anyhow::Result;
 use page_disk::PlainDisk;
 use page_space::Space;
