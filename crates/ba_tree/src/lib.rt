@@ -10,8 +10,6 @@
 mod adding;
 mod ba_index;
 mod sum;
-#[cfg(test)]
-mod tests;
 
 pub use ba_index::BaIndex;
 pub use sum::dom_sum;

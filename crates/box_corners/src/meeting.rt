@@ -45,20 +45,3 @@ pub fn entries_count_at_corners()
     ensures at_corner { DominanceAtCorner }
     ensures without_corner { NothingAtMissingCorner }
 {}
-
-#[cfg(test)]
-mod tests {
-    use super::*;
-    use std::test::Fail;
-
-    #[test]
-    fn laws_do_nothing(_: HostRuntime) -> Result<(), Fail> {
-        boxes_meet_by_corners();
-        residues_follow_corners();
-        signed_sums_add_up();
-        points_count_at_corners();
-        entries_meet_by_corners();
-        entries_count_at_corners();
-        Ok(())
-    }
-}

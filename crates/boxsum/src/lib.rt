@@ -8,39 +8,17 @@
 //! `Index`: the crate `parcels` makes one, opens it, commits rows, asks and closes it.
 #![tactic(auto)]
 
-#[cfg(test)]
-mod check_tests;
 mod checking;
 mod compaction;
-#[cfg(test)]
-mod compaction_tests;
 mod derivation;
-#[cfg(test)]
-mod disk_tests;
-#[cfg(test)]
-mod earlier_tests;
 mod export;
-#[cfg(test)]
-mod export_tests;
-#[cfg(test)]
-mod great_tests;
-#[cfg(test)]
-mod hostile_tests;
 mod index;
 mod printing;
 mod report;
-#[cfg(test)]
-mod report_tests;
 mod running;
 mod sample;
-#[cfg(test)]
-mod sample_tests;
 mod span_run;
-#[cfg(test)]
-mod spans_tests;
 mod status;
-#[cfg(test)]
-mod tests;
 
 pub use index::Index;
 pub use running::{run, run_two};

@@ -23,8 +23,6 @@ mod region;
 mod residue;
 pub mod residue_laws;
 mod row;
-#[cfg(test)]
-mod tests;
 mod tree;
 pub mod worked;
 

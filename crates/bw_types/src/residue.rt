@@ -38,22 +38,3 @@ pub fn res_signed(a: u128) -> i128
 {
     a.cast_signed()
 }
-
-#[cfg(test)]
-mod tests {
-    use super::*;
-    use crate::{point_key, query_key};
-    use std::test::Fail;
-
-    #[test]
-    fn wraps_around(rt: HostRuntime) -> Result<(), Fail> {
-        assert_eq!(rt; res_add(u128::MAX, 2), 1);
-        assert_eq!(rt; res_mul(u128::MAX, u128::MAX), 1);
-        assert_eq!(rt; res_neg(1), u128::MAX);
-        assert_eq!(rt; res_of(-2), u128::MAX - 1);
-        assert_eq!(rt; res_signed(u128::MAX), -1);
-        assert_eq!(rt; point_key(2, 3), 8589934595);
-        assert_eq!(rt; query_key(0), 4294967295);
-        Ok(())
-    }
-}

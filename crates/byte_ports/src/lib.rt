@@ -15,8 +15,6 @@ mod memory_source;
 mod ports;
 mod standard_sink;
 mod standard_source;
-#[cfg(test)]
-mod tests;
 
 pub use memory_sink::MemSink;
 pub use memory_source::MemSource;

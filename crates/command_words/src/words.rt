@@ -49,6 +49,3 @@ pub fn read_words(alloc: Global, words: &[String]) -> Result<Command, WordsFault
         Some(command) => Ok(command),
     }
 }
-
-#[cfg(test)]
-mod tests;

@@ -10,8 +10,6 @@ mod keeping;
 mod laws;
 mod putting;
 mod staging;
-#[cfg(test)]
-mod tests;
 
 pub use compacting::{Compacted, compact};
 pub use laws::kept_laws;

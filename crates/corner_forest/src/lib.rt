@@ -8,18 +8,12 @@
 #![tactic(auto)]
 
 mod batch;
-#[cfg(test)]
-mod batch_tests;
 mod entry;
 mod forest;
 pub mod laws;
 mod meet;
 mod planes;
 mod points;
-#[cfg(test)]
-mod random_tests;
-#[cfg(test)]
-mod tests;
 
 pub use batch::enter;
 pub use entry::Entry;

@@ -194,6 +194,3 @@ impl RowReader {
         cut(self, alloc, line, ahead)
     }
 }
-
-#[cfg(test)]
-mod tests;

@@ -12,8 +12,6 @@ mod putting;
 mod reading;
 mod searching;
 mod splitting;
-#[cfg(test)]
-mod tests;
 
 pub use changing::{replace_by_cut, replace_part, set_cut};
 pub use laws::{cuts_divide_regions, pages_hold_one, parts_fill_places};

@@ -8,8 +8,6 @@ mod borders;
 mod fitting;
 mod median;
 mod middle;
-#[cfg(test)]
-mod tests;
 mod widest;
 
 pub use borders::{border_points, drop_dimension, drop_key};

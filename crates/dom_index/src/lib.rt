@@ -14,8 +14,6 @@ mod index;
 mod point_list;
 mod points;
 mod putting;
-#[cfg(test)]
-mod tests;
 
 pub use adding::add_all;
 pub use index::DomIndex;

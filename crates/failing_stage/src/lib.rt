@@ -2,7 +2,5 @@
 #![tactic(auto)]
 
 mod failing;
-#[cfg(test)]
-mod tests;
 
 pub use failing::FailingStage;

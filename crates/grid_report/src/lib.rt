@@ -13,8 +13,6 @@ mod laws;
 mod replies;
 mod rows;
 mod sums;
-#[cfg(test)]
-mod tests;
 pub mod worked;
 
 pub use asked::{Grid, GridRow};

@@ -6,8 +6,6 @@ mod event;
 mod gathering;
 mod lives;
 mod numbering;
-#[cfg(test)]
-mod tests;
 
 pub use batches::{count_of, first_row};
 pub use event::Event;

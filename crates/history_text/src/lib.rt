@@ -8,8 +8,6 @@ mod gathering;
 mod laws;
 mod printing;
 mod sizes;
-#[cfg(test)]
-mod tests;
 mod writing;
 
 pub use laws::rows_rebuild;

@@ -15,8 +15,6 @@ mod changes;
 mod digits;
 mod entry_corners;
 mod jumps;
-#[cfg(test)]
-mod key_tests;
 mod key_tree;
 mod leveled;
 mod life;
@@ -33,8 +31,6 @@ mod rooted;
 mod roots;
 mod run;
 mod step;
-#[cfg(test)]
-mod tests;
 mod throughout;
 mod version_tree;
 mod walk;

@@ -2,7 +2,5 @@
 #![tactic(auto)]
 
 mod key_tree;
-#[cfg(test)]
-mod tests;
 
 pub use key_tree::KeyTree;

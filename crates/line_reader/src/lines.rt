@@ -4,8 +4,6 @@ ghost use Rattle.line_reader.specs.Lines.{lines, is_whole, HasNoLineFeed};
 
 mod cutting;
 mod intake;
-#[cfg(test)]
-mod tests;
 
 use byte_ports::Source;
 use cutting::cut_line;

@@ -15,8 +15,6 @@ mod edit;
 mod find;
 mod laws;
 mod path;
-#[cfg(test)]
-mod tests;
 mod value;
 mod view;
 

@@ -28,20 +28,6 @@ mod replaced;
 mod root;
 mod step;
 mod store;
-#[cfg(test)]
-mod tests;
-#[cfg(test)]
-mod tests_add;
-#[cfg(test)]
-mod tests_broken;
-#[cfg(test)]
-mod tests_build;
-#[cfg(test)]
-mod tests_ends;
-#[cfg(test)]
-mod tests_failing;
-#[cfg(test)]
-mod tests_index;
 mod told;
 mod top;
 mod value;

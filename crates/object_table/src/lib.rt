@@ -10,8 +10,6 @@
 
 mod copying;
 mod entering;
-#[cfg(test)]
-mod entering_tests;
 mod finding;
 mod form;
 mod freeing;
@@ -24,8 +22,6 @@ mod place;
 mod placed;
 mod storing;
 mod taking;
-#[cfg(test)]
-mod tests;
 mod view;
 mod walking;
 

@@ -8,7 +8,5 @@
 #![tactic(auto)]
 
 mod cache;
-#[cfg(test)]
-mod tests;
 
 pub use cache::{Cache, NoMemory};

@@ -14,8 +14,6 @@ mod entry;
 mod failure;
 mod file_disk;
 mod file_pages;
-#[cfg(test)]
-mod file_tests;
 mod half;
 mod laws;
 mod mem_disk;
@@ -23,8 +21,6 @@ mod pending;
 mod plain_disk;
 mod plan;
 mod run;
-#[cfg(test)]
-mod tests;
 mod torn;
 
 pub use disk::{Area, Disk, Failed};

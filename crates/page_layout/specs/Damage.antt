@@ -3,7 +3,7 @@
 -- A kind of tree says three things. What fits a place: when a page's bytes spell a node of the level by
 -- which the page is reached, and that node keeps to the place by which it is reached. Where a node leads
 -- on: which children a call goes on to, and what their places are. What stands beside: which damaged page
--- a call finds that a node names beside its children, such as a pocket's page, or a page of a tree of one
+-- a call finds that a node names beside its children, such as a page of a tree of one
 -- dimension less, of which this definition tells again.
 use Rattle.std.specs.Prelude.{◌≡◌, ℕ, zero, suc, ◌⊎◌, List, Some}
 use Rattle.page_ports.specs.Pages.{PageMap}

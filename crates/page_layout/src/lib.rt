@@ -33,10 +33,6 @@ mod summed;
 mod super_page;
 mod table_node;
 mod table_view;
-#[cfg(test)]
-mod tests;
-#[cfg(test)]
-mod tests_cuts;
 mod three;
 mod tree_value;
 mod view;

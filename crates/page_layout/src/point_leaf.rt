@@ -17,7 +17,7 @@ use page_ports::Page;
 
 const KIND: u8 = 5;
 
-/// A page of points: a leaf of a tree, a pocket, or a part of a list.
+/// A page of points: a leaf of a tree, or a part of a list of them.
 ///
 /// A page spells 1 to 64 points, in any order. `next` is the next page of a list, and 0 where there is
 /// none and in trees.

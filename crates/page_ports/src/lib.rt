@@ -11,8 +11,6 @@ mod mem_stage;
 mod page;
 mod pages;
 mod stage;
-#[cfg(test)]
-mod tests;
 
 pub use frame::changes_compose;
 pub use mem_stage::MemStage;

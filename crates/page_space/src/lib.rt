@@ -15,8 +15,6 @@ mod settling;
 mod space;
 mod stage;
 mod staged;
-#[cfg(test)]
-mod tests;
 
 pub use laws::{chain_is_free, created_holds, held_opens, holds_one};
 pub use refusal::{OpenFault, OpenRefused};

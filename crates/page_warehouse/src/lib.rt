@@ -6,8 +6,6 @@
 //! opening a disk, at whatever moment the program was stopped, gives the history that it holds.
 #![tactic(auto)]
 
-#[cfg(test)]
-mod commit_tests;
 mod committing;
 mod creating;
 mod drafting;
@@ -22,8 +20,6 @@ mod querying;
 mod roots;
 mod seen;
 mod state;
-#[cfg(test)]
-mod tests;
 mod upgrading;
 mod waiting;
 mod walking;

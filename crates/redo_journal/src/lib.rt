@@ -15,8 +15,6 @@ mod images;
 mod in_order;
 mod laws;
 mod replaying;
-#[cfg(test)]
-mod tests;
 mod writes;
 
 pub use committing::commit;

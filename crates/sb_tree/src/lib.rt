@@ -17,8 +17,6 @@ mod laws;
 mod place;
 mod second;
 mod store;
-#[cfg(test)]
-mod tests;
 mod value;
 mod view;
 

@@ -11,8 +11,6 @@ mod refusals;
 mod seen;
 mod sessions;
 mod standing;
-#[cfg(test)]
-mod tests;
 
 pub use refusals::{BookFault, first_refusal};
 pub use seen::{Life, Seen};

@@ -15,8 +15,6 @@ mod reading;
 mod roots;
 mod settled;
 mod space;
-#[cfg(test)]
-mod tests;
 
 pub use fault::{LookFault, SettleFault};
 pub use settled::SettledPages;

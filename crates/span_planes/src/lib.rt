@@ -9,24 +9,14 @@ mod asked;
 mod asking;
 mod creating;
 mod desk;
-#[cfg(test)]
-mod desk_tests;
 mod filling;
 mod laws;
 mod looking;
 mod making;
-#[cfg(test)]
-mod no_version_tests;
 mod opening;
-#[cfg(test)]
-mod random_tests;
 mod readying;
 mod rows;
 mod spans;
-#[cfg(test)]
-mod stopped_tests;
-#[cfg(test)]
-mod tests;
 mod writing;
 
 pub use asked::SpanRow;

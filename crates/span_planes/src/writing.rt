@@ -6,7 +6,7 @@ ghost use Rattle.bw_types.specs.History.{History};
 ghost use Rattle.counts.specs.Count.{Rose};
 ghost use Rattle.page_ports.specs.Calls.{Changes};
 ghost use Rattle.page_space.specs.MetaSet.{FitsBesideCounts, with_counts_of};
-ghost use Rattle.page_space.specs.Shown.{IsInOrder, IsMetaSet, IsStagedInOrder, base_of, disk_of, disk_under, staged_map, staged_meta};
+ghost use Rattle.page_space.specs.Shown.{IsInOrder, IsMetaSet, IsStagedInOrder, disk_of, disk_under, staged_map, staged_meta};
 ghost use Rattle.span_planes.specs.Ended.{abandoning_of};
 ghost use Rattle.span_planes.specs.Filled.{CanFill, ComeInTurn, FilledTrees, entries_in, span_growth};
 ghost use Rattle.span_planes.specs.Made.{LeavesShown, LeavesSpans, TellsVersion, second_out};

@@ -15,8 +15,6 @@ mod reading;
 mod seen;
 mod staging;
 mod telling;
-#[cfg(test)]
-mod tests;
 
 pub use judging::{Told, judge};
 pub use lawful::is_lawful;

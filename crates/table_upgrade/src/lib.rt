@@ -2,7 +2,5 @@
 #![tactic(auto)]
 
 mod renewing;
-#[cfg(test)]
-mod tests;
 
 pub use renewing::renew;

@@ -20,8 +20,6 @@ mod masses;
 mod meets;
 mod prepare;
 mod seen;
-#[cfg(test)]
-mod tests;
 mod totals;
 
 pub use committed::{Committed, QueryFault};

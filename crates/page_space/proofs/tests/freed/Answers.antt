@@ -1,9 +1,0 @@
-use Rattle.std.proofs.Common.{ap, ◌∙◌}
-use Rattle.std.specs.Prelude.{is_some}
-use Rattle.page_ports.specs.Pages.{PageMap}
-use Rattle.page_space.proofs.tests.freed.Goals as goal
-
-pub free-requires : goal.free-requires
-free-requires c = record {
-  in_map = λ told. ap (λ (m : PageMap). is_some (m c.args.page)) c.get.ensures.reads.read.map ∙ ap (λ o. is_some o) (c.in-Ok.ensures.bytes told);
-}

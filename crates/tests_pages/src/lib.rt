@@ -1,0 +1,11 @@
+//! Tests of the formats of pages, and of the stages that the tests of other crates use.
+#![tactic(auto)]
+
+#[cfg(test)]
+mod cut_spellings;
+#[cfg(test)]
+mod failing;
+#[cfg(test)]
+mod ports;
+#[cfg(test)]
+mod spellings;
