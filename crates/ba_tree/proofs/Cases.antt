@@ -13,8 +13,8 @@ use Rattle.page_ports.specs.declared.pages.Pages.{Ghosts}
 use Rattle.dom_index.specs.Points.{IsNewPoint}
 use Rattle.cut_parts.specs.Standing.{CutsStand, cuts_cost, levels_of}
 use Rattle.mvsb_tree.specs.contracts.mv_index.MvIndexDomIndex.TheImpl as line
-use Rattle.key_trees.specs.contracts.key_tree.KeyTreeBorderTree.TheImpl as key
-use Rattle.plane_trees.specs.contracts.plane_tree.PlaneTreeBorderTree.TheImpl as plane
+use Rattle.ba_tree.specs.contracts.key_tree.KeyTreeBorderTree.TheImpl as key
+use Rattle.ba_tree.specs.contracts.plane_tree.PlaneTreeBorderTree.TheImpl as plane
 use Rattle.ba_tree.specs.Over.{BalancedOver, IsDamagedForAdd, IsDamagedForSum, MayBecome, MayChange, StandsOver, pages_over, tree_growth}
 
 pub is_three : (dims : ℕ) → 1 ≤ dims → dims ≤ 3 → dims ≢ 1 → dims ≢ 2 → dims ≡ 3

@@ -8,8 +8,8 @@ use Rattle.dom_index.specs.Becoming.{IsTreeAfter}
 use Rattle.cut_parts.specs.Borders.{HoldForTrees}
 use Rattle.cut_parts.specs.Standing.{CutsBalanced, CutsStand, cuts_cost, cuts_growth, cuts_share, tree_pages}
 use Rattle.mvsb_tree.specs.contracts.mv_index.MvIndexDomIndex.TheImpl as line
-use Rattle.key_trees.specs.contracts.key_tree.KeyTreeBorderTree.TheImpl as key
-use Rattle.plane_trees.specs.contracts.plane_tree.PlaneTreeBorderTree.TheImpl as plane
+use Rattle.ba_tree.specs.contracts.key_tree.KeyTreeBorderTree.TheImpl as key
+use Rattle.ba_tree.specs.contracts.plane_tree.PlaneTreeBorderTree.TheImpl as plane
 use Rattle.ba_tree.specs.Over.{BalancedOver, MayBecome, MayChange, StandsOver, pages_over}
 
 -- What holds of trees of cuts over two dimensions, and over three.

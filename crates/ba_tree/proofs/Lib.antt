@@ -1,2 +1,5 @@
 pub mod Cases
+pub mod KeyTreeAdditions
+pub mod KeyTreeLaws
+pub mod KeyTreeSums
 pub mod Laws

@@ -7,14 +7,13 @@ ghost use Rattle.page_layout.specs.TreeValue.{IsTreeTyped, tree_fits};
 ghost use Rattle.dom_index.specs.Points.{AreKeysBelow, HasRoom, IsNewPoint};
 ghost use Rattle.ba_tree.specs.Over.{BalancedOver, IsDamagedForAdd, MayBecome, MayChange, StandsOver, pages_over, tree_growth};
 
+use crate::{KeyTree, PlaneTree};
 use bw_types::{Point, Tree};
 use cut_index::tree_add;
 use cut_parts::BorderTree;
 use dom_index::DomIndex;
-use key_trees::KeyTree;
 use mvsb_tree::MvIndex;
 use page_ports::{Stage, StageFault};
-use plane_trees::PlaneTree;
 use std::alloc::Global;
 
 /// Adds a point to a tree over one to three dimensions. Where the tree stood and the point is new to it, it stands for one more.

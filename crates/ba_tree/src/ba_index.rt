@@ -4,14 +4,13 @@ ghost use Rattle.ba_tree.specs.Over.{BalancedOver, IsDamagedForAdd, IsDamagedFor
 
 use crate::adding::add_point;
 use crate::sum::dom_sum;
+use crate::{KeyTree, PlaneTree};
 use bw_types::{Point, Tree};
 use cut_parts::BorderTree;
 use cut_parts::laws::cuts_laws;
 use dom_index::DomIndex;
-use key_trees::KeyTree;
 use mvsb_tree::MvIndex;
 use page_ports::{PageFault, Pages, Stage, StageFault};
-use plane_trees::PlaneTree;
 use std::alloc::Global;
 
 /// Trees over one to three dimensions: multiversion trees over one, and trees of cuts over two and three.

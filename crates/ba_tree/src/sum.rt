@@ -7,14 +7,13 @@ ghost use Rattle.page_ports.specs.Calls.{OnlyReads};
 ghost use Rattle.dom_index.specs.Points.{AreKeysBelow};
 ghost use Rattle.ba_tree.specs.Over.{BalancedOver, IsDamagedForSum, StandsOver};
 
+use crate::{KeyTree, PlaneTree};
 use bw_types::Tree;
 use cut_parts::BorderTree;
 use cut_query::tree_sum;
 use dom_index::DomIndex;
-use key_trees::KeyTree;
 use mvsb_tree::MvIndex;
 use page_ports::{PageFault, Pages};
-use plane_trees::PlaneTree;
 
 /// The sum of the weights of the points whose version and first `dims` keys are at or below those given, modulo `2^128`, in a tree
 /// over one to three dimensions. It takes no memory.

@@ -1,5 +1,5 @@
 -- The laws of the crates below that a change more stands on.
-use Rattle.history_entries.specs.Growing.{EntriesAreChanges, EntriesGrowByAdd}
+use Rattle.history_laws.specs.Entering.{EntriesAreChanges, EntriesGrowByAdd}
 use Rattle.history_laws.specs.Alone.{OneOpenLife}
 use Rattle.history_laws.specs.Bounds.{LawfulHasRoom}
 use Rattle.history_laws.specs.Growing.{LivesGrow, NumbersGrow}

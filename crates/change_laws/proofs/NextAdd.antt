@@ -12,7 +12,7 @@ use Rattle.bw_types.specs.declared.dated.Dated.{Dated}
 use Rattle.bw_types.specs.declared.object.Object.{Object}
 use Rattle.bw_types.specs.declared.params.Params.{Params}
 use Rattle.corner_forest.specs.Enters.{entry_of}
-use Rattle.history_entries.specs.Entries.{entries_of}
+use Rattle.history_laws.specs.Entries.{entries_of}
 use Rattle.change_laws.specs.Begun.{begun_life, next_event, next_version, with_changes}
 use Rattle.change_laws.specs.Next.{AddGoesOn}
 use Rattle.change_laws.proofs.Facts.{Facts}

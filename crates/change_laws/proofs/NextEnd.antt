@@ -23,7 +23,7 @@ use Rattle.corner_forest.specs.Enters.{entry_of}
 use Rattle.object_table.specs.Edits.{withdrawn_at, with_withdrawal}
 use Rattle.object_table.specs.Keys.{key}
 use Rattle.object_table.specs.Lives.{last_life}
-use Rattle.history_entries.specs.Entries.{begun_entry, ended_entry, entries_of, life_entries}
+use Rattle.history_laws.specs.Entries.{begun_entry, ended_entry, entries_of, life_entries}
 use Rattle.history_laws.specs.Alone.{is_open}
 use Rattle.history_laws.specs.Growing.{ended_by}
 use Rattle.history_laws.specs.Living.{LastLivesTell}

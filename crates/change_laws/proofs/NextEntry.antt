@@ -15,8 +15,8 @@ use Rattle.bw_types.specs.declared.object.Object.{Object}
 use Rattle.bw_types.specs.declared.params.Params.{Params}
 use Rattle.poly_moments.specs.PlaneSums.{Entered}
 use Rattle.corner_forest.specs.Entries.{IsNextEntry}
-use Rattle.history_entries.specs.Entries.{begun_entry, ended_entry, entries_of, history_entries, life_entries}
-use Rattle.history_entries.specs.Growing.{EntriesAreChanges}
+use Rattle.history_laws.specs.Entries.{begun_entry, ended_entry, entries_of, history_entries, life_entries}
+use Rattle.history_laws.specs.Entering.{EntriesAreChanges}
 use Rattle.history_laws.specs.Bounds.{LawfulHasRoom}
 use Rattle.change_laws.specs.Begun.{next_event, next_version, with_changes}
 use Rattle.change_laws.proofs.Fronts.{changes_are_few}

@@ -11,7 +11,7 @@ use Rattle.bw_types.specs.declared.change.Change.{Change}
 use Rattle.bw_types.specs.declared.change.Change.TheVariants as change
 use Rattle.bw_types.specs.declared.dated.Dated.{Dated}
 use Rattle.bw_types.specs.declared.object.Object.{Object}
-use Rattle.history_entries.specs.Entries.{entries_of}
+use Rattle.history_laws.specs.Entries.{entries_of}
 use Rattle.history_laws.specs.Growing.{LivesGrow, NumbersGrow, lives_in, lives_with}
 use Rattle.change_laws.specs.Begun.{BeginsAlike, begun_life, next_event, next_version, with_changes}
 use Rattle.change_laws.proofs.Lasts.{adds_in, one_if}

@@ -6,7 +6,7 @@ use Rattle.bw_types.specs.Lives.{lives}
 use Rattle.bw_types.specs.declared.change.Change.{Change}
 use Rattle.bw_types.specs.declared.dated.Dated.{Dated}
 use Rattle.bw_types.specs.declared.object.Object.{Object}
-use Rattle.history_entries.specs.Entries.{history_entries}
+use Rattle.history_laws.specs.Entries.{history_entries}
 
 -- the history with these changes as its last batch
 abbrev pub with_changes : History → List Change → History

@@ -15,7 +15,7 @@ use Rattle.corner_forest.specs.Enters.{entry_of}
 use Rattle.corner_forest.specs.Entries.{IsNextEntry}
 use Rattle.object_table.specs.Edits.{with_withdrawal, withdrawn_at}
 use Rattle.object_table.specs.Lives.{last_life}
-use Rattle.history_entries.specs.Entries.{begun_entry, ended_entry, history_entries}
+use Rattle.history_laws.specs.Entries.{begun_entry, ended_entry, history_entries}
 use Rattle.change_laws.specs.Begun.{begun_life, next_event, next_version, with_changes}
 
 -- Each front of a lawful batch is lawful, so the history with it is.

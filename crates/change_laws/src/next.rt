@@ -4,10 +4,9 @@ ghost use Rattle.change_laws.specs.Growth.{GrowthIsBounded};
 ghost use Rattle.change_laws.specs.Next.{AddsGoOn, FrontsAreLawful, LivesAreFew, WithdrawalsGoOn};
 
 use bw_types::depths::depths_grow;
-use history_entries::{entries_are_changes, entries_grow};
 use history_laws::{
-    histories_grow_by_lawful_batches, last_lives_tell, lawful_histories_have_room, lives_are_alone,
-    lives_grow_by_changes, staging_changes_no_refusal,
+    entries_are_changes, entries_grow, histories_grow_by_lawful_batches, last_lives_tell,
+    lawful_histories_have_room, lives_are_alone, lives_grow_by_changes, staging_changes_no_refusal,
 };
 use object_table::last_life_laws;
 

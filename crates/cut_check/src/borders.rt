@@ -1,12 +1,11 @@
 //! The borders of the product, which can be checked.
 use crate::checked_tree::CheckedTree;
 use crate::cut_tree::cut_tree_stands;
+use ba_tree::{KeyTree, PlaneTree};
 use bw_types::{Point, Tree};
 use key_check::key_tree_stands;
-use key_trees::KeyTree;
 use page_checks::CheckFault;
 use page_ports::Pages;
-use plane_trees::PlaneTree;
 use std::alloc::Global;
 
 impl CheckedTree for KeyTree {

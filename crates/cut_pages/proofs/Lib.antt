@@ -5,5 +5,4 @@ pub mod Changes
 pub mod Walking
 pub mod Holding
 pub mod Entries
-pub mod ByHand
 pub mod Dividing

@@ -10,8 +10,7 @@ ghost use Rattle.cut_pages.specs.Nodes.{AreNodes};
 
 use arrayvec::ArrayVec;
 use bw_types::Point;
-use page_access::{make_page, put_page};
-use page_layout::{CutPage, PointLeaf, Spelled};
+use page_layout::{CutPage, PointLeaf, Spelled, make_page, put_page};
 use page_ports::{Page, Stage, StageFault};
 
 // Overwrites a page with nodes that keep their rules.

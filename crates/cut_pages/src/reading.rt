@@ -11,8 +11,7 @@ ghost use Rattle.cut_pages.specs.Nodes.{AreNodes};
 use crate::nodes::fill;
 use arrayvec::ArrayVec;
 use dom_index::sum_on;
-use page_access::view_page;
-use page_layout::{CutPage, PointLeaf, View};
+use page_layout::{CutPage, PointLeaf, View, view_page};
 use page_ports::{Page, PageFault, Pages, blank_page};
 
 /// The nodes that a page holds, to be walked in place by `Nodes`: its bytes are put into these.

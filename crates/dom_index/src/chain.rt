@@ -7,8 +7,7 @@ ghost use Rattle.dom_index.specs.Chain.{IsDamagedAlong, chain_points};
 
 use crate::points::sum_on;
 use bw_types::Tree;
-use page_access::view_page;
-use page_layout::{PointLeaf, View};
+use page_layout::{PointLeaf, View, view_page};
 use page_ports::{PageFault, Pages, blank_page};
 
 /// The dominance sum of the points in the chain, of which at most so many pages are read as the tree counts points.

@@ -6,8 +6,7 @@ ghost use Rattle.dom_index.specs.Chain.{HoldsNoLeaf, IsPutFirst, LeafStands, lea
 
 use arrayvec::ArrayVec;
 use bw_types::Point;
-use page_access::{make_page, put_page, read_page};
-use page_layout::PointLeaf;
+use page_layout::{PointLeaf, make_page, put_page, read_page};
 use page_ports::{Stage, StageFault};
 
 /// Puts the point into the chain's first page, or into a new page before it where that is full or 0. The result is

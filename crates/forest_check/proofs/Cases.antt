@@ -5,8 +5,8 @@ use Rattle.bw_types.specs.declared.tree.Tree.{Tree}
 use Rattle.page_ports.specs.Pages.{PageMap}
 use Rattle.page_checks.specs.declared.fault.CheckFault.{CheckFault}
 use Rattle.mvsb_tree.specs.contracts.mv_index.MvIndexDomIndex.TheImpl as line
-use Rattle.key_trees.specs.contracts.key_tree.KeyTreeBorderTree.TheImpl as key
-use Rattle.plane_trees.specs.contracts.plane_tree.PlaneTreeBorderTree.TheImpl as plane
+use Rattle.ba_tree.specs.contracts.key_tree.KeyTreeBorderTree.TheImpl as key
+use Rattle.ba_tree.specs.contracts.plane_tree.PlaneTreeBorderTree.TheImpl as plane
 use Rattle.ba_tree.specs.Over.{BalancedOver, StandsOver}
 
 -- What is decided over so many dimensions is decided over as many.

@@ -8,7 +8,7 @@ use Rattle.std.proofs.lemmas.List.Concat.{flat_map-append}
 use Rattle.std.proofs.lemmas.List.Elements.{All-append, All-cons, All-drop, All-nil, All-take}
 use Rattle.bw_types.specs.declared.dated.Dated.{Dated}
 use Rattle.poly_moments.specs.PlaneSums.{Entered}
-use Rattle.history_entries.specs.Entries.{begun_entry, ended_entry, entries_of, life_entries}
+use Rattle.history_laws.specs.Entries.{begun_entry, ended_entry, entries_of, life_entries}
 
 pub one_entry : (d : Dated) → d.withdrawn ≡ 0 → life_entries d ≡ begun_entry d ∷ []
 one_entry d e = ap (λ (b : Bool). if b then begun_entry d ∷ [] else begun_entry d ∷ ended_entry d ∷ []) (eq-eqb d.withdrawn 0 e)

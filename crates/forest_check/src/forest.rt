@@ -3,7 +3,7 @@ ghost use Rattle.std.specs.Prelude.{◌≡◌, ◌↔◌, ◌≤◌, ◌<◌, �
 ghost use Rattle.std.specs.List.{All};
 ghost use Rattle.bw_types.specs.Fits.{IsInRange};
 ghost use Rattle.poly_moments.specs.PlaneSums.{EnteredFits};
-ghost use Rattle.history_entries.specs.Entries.{entries_of};
+ghost use Rattle.history_laws.specs.Entries.{entries_of};
 ghost use Rattle.corner_forest.specs.Entries.{root_count as count_of_roots, root_points};
 ghost use Rattle.corner_forest.specs.Stands.{AreBalanced, ForestStands, forest_pages};
 ghost use Rattle.corner_forest.specs.Trees.{EachStands};

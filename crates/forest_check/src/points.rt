@@ -4,7 +4,7 @@ ghost use Rattle.std.specs.List.{All};
 ghost use Rattle.bw_types.specs.Fits.{IsInRange};
 ghost use Rattle.poly_moments.specs.PlaneSums.{EnteredFits};
 ghost use Rattle.poly_moments.specs.Powers.{ArePowersOf};
-ghost use Rattle.history_entries.specs.Entries.{entries_of, life_entries};
+ghost use Rattle.history_laws.specs.Entries.{entries_of, life_entries};
 ghost use Rattle.corner_forest.specs.Enters.{entered_at};
 ghost use Rattle.corner_forest.specs.Entries.{corner_count as count_of_corners, entry_points, point_count as count_of_points, root_count, root_points};
 

@@ -1,13 +1,11 @@
 //! The index of the product, which can be checked.
 use crate::checked_index::CheckedIndex;
-use ba_tree::BaIndex;
+use ba_tree::{BaIndex, KeyTree, PlaneTree};
 use bw_types::{Point, Tree};
 use cut_check::cut_tree_stands;
 use key_check::key_tree_stands;
-use key_trees::KeyTree;
 use page_checks::CheckFault;
 use page_ports::Pages;
-use plane_trees::PlaneTree;
 use std::alloc::Global;
 
 impl CheckedIndex for BaIndex {

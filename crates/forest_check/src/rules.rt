@@ -3,7 +3,7 @@ ghost use Rattle.std.specs.Prelude.{◌≡◌, ◌↔◌, ◌*◌, ◌^◌, ◌�
 ghost use Rattle.std.specs.List.{All};
 ghost use Rattle.bw_types.specs.Fits.{IsInRange};
 ghost use Rattle.poly_moments.specs.PlaneSums.{EnteredFits};
-ghost use Rattle.history_entries.specs.Entries.{begun_entry, entries_of, life_entries};
+ghost use Rattle.history_laws.specs.Entries.{begun_entry, entries_of, life_entries};
 ghost use Rattle.corner_forest.specs.Entries.{corner_count as count_of_corners};
 ghost use Rattle.corner_forest.specs.Stands.{HasSmallWeight};
 

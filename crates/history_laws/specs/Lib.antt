@@ -1,5 +1,11 @@
+pub mod Alone
+pub mod Answers
+pub mod Bounds
+pub mod Entering
+pub mod Entries
+pub mod Growing
 pub mod Lawful
 pub mod Living
-pub mod Growing
-pub mod Bounds
-pub mod Alone
+pub mod Telling
+pub mod Told
+pub mod Worked

@@ -9,8 +9,8 @@ use Rattle.bw_types.specs.Lawful.{IsLawful}
 use Rattle.bw_types.specs.Lives.{Numbered, lives}
 use Rattle.bw_types.specs.declared.dated.Dated.{Dated}
 use Rattle.bw_types.specs.declared.params.Params.{Params}
-use Rattle.told_history.specs.Telling.{LivesNameChanges}
-use Rattle.told_history.specs.Told.{add_in, end_in, named_by}
+use Rattle.history_laws.specs.Telling.{LivesNameChanges}
+use Rattle.history_laws.specs.Told.{add_in, end_in, named_by}
 use Rattle.history_list.specs.Events.{AreEventsOf, events_of, events_of_lives, numbered_in}
 use Rattle.history_list.specs.declared.event.Event.{Event}
 

@@ -11,9 +11,9 @@ use Rattle.bw_types.specs.declared.object.Object.{Object}
 use Rattle.object_table.specs.Laws.{Ascend}
 use Rattle.object_table.specs.Lives.{AreNext}
 use Rattle.object_table.specs.Keys.{key}
-use Rattle.told_history.proofs.Batches.{events_rise}
-use Rattle.told_history.proofs.InOrder.{From, Rising, in_order_is}
-use Rattle.told_history.proofs.Members.{among_permuted}
+use Rattle.history_laws.proofs.Batches.{events_rise}
+use Rattle.history_laws.proofs.InOrder.{From, Rising, in_order_is}
+use Rattle.history_laws.proofs.Members.{among_permuted}
 use Rattle.history_list.proofs.Walked.{lives_before, walk_on}
 
 -- what a push leaves where it had memory

@@ -4,7 +4,7 @@ use Rattle.std.proofs.lemmas.List.{length-map}
 use Rattle.bw_types.specs.History.{History, changes, last_version}
 use Rattle.bw_types.specs.Lives.{Numbered, numbered, numbered_batch, numbered_from}
 use Rattle.bw_types.specs.declared.change.Change.{Change}
-use Rattle.told_history.proofs.Batches.{changed, changed_all}
+use Rattle.history_laws.proofs.Batches.{changed, changed_all}
 use Rattle.history_list.specs.Events.{AreEventsOf, change_in, numbered_in}
 use Rattle.history_list.specs.Numbering.{AreNumbered, GoOn}
 use Rattle.history_list.specs.declared.event.Event.{Event}

@@ -14,12 +14,12 @@ ghost use Rattle.history_list.specs.declared.gathering.GatherFault.TheVariants.{
 use crate::{Event, make_history};
 use bw_types::Dated;
 use dom_index::DomIndex;
+use history_laws::lives_name_changes;
 use page_disk::Disk;
 use page_ports::PageFault;
 use page_warehouse::{Warehouse, tables_keep_lives};
 use std::alloc::{AllocError, Global};
 use thiserror::Error;
-use told_history::lives_name_changes;
 
 // The number of the meta page.
 const META_PAGE: u64 = 2;

@@ -8,7 +8,7 @@ use Rattle.bw_types.specs.declared.tree.Tree.{Tree}
 use Rattle.page_ports.specs.Pages.{PageMap}
 use Rattle.poly_moments.specs.PlaneSums.{Entered, EnteredFits}
 use Rattle.dom_index.specs.declared.index.DomIndex.{Ghosts}
-use Rattle.history_entries.specs.Entries.{entries_of, life_entries}
+use Rattle.history_laws.specs.Entries.{entries_of, life_entries}
 use Rattle.history_list.proofs.Rejoined.{rejoined}
 use Rattle.corner_forest.specs.Entries.{corner_count, entry_points, root_points}
 use Rattle.corner_forest.specs.Stands.{ForestStands, HasSmallWeight}

@@ -18,7 +18,7 @@ use Rattle.page_space.specs.Laws.{HoldsOne, HoldsOrder}
 use Rattle.page_space.specs.Space.{HoldsSpace}
 use Rattle.object_table.specs.Lives.{table_pages}
 use Rattle.object_table.specs.Stands.{TableStands}
-use Rattle.history_entries.specs.Entries.{entries_of}
+use Rattle.history_laws.specs.Entries.{entries_of}
 use Rattle.dom_index.specs.declared.index.DomIndex.{Ghosts}
 use Rattle.corner_forest.specs.Entries.{root_count}
 use Rattle.corner_forest.specs.Stands.{forest_pages}

@@ -4,7 +4,7 @@ use Rattle.bw_types.specs.History.{History}
 use Rattle.bw_types.specs.declared.params.Params.{Params}
 use Rattle.page_disk.specs.Image.{Image}
 use Rattle.redo_journal.specs.Gates.{is_empty}
-use Rattle.told_history.specs.Telling.{LivesNameChanges}
+use Rattle.history_laws.specs.Telling.{LivesNameChanges}
 use Rattle.dom_index.specs.declared.index.DomIndex.{Ghosts}
 use Rattle.page_warehouse.specs.Holds.{Holds}
 use Rattle.table_check.specs.Judging.{IsKept}

@@ -9,8 +9,8 @@ use Rattle.bw_types.specs.Lives.{Numbered, numbered}
 use Rattle.bw_types.specs.declared.dated.Dated.{Dated}
 use Rattle.bw_types.specs.declared.params.Params.{Params}
 use Rattle.page_layout.specs.declared.meta.Meta.{Meta}
-use Rattle.told_history.specs.Told.{by_event, named_by, with_change}
-use Rattle.told_history.specs.Telling.{LivesNameChanges}
+use Rattle.history_laws.specs.Told.{by_event, named_by, with_change}
+use Rattle.history_laws.specs.Telling.{LivesNameChanges}
 use Rattle.table_check.specs.Judging.{IsKept}
 use Rattle.table_check.specs.Telling.{IsToldBy}
 

@@ -14,6 +14,7 @@ use crate::verdict::Verdict;
 use bw_types::{Dated, Params};
 use corner_forest::root_count;
 use forest_check::CheckedIndex;
+use history_laws::lives_name_changes;
 use object_table::Form;
 use page_checks::CheckFault;
 use page_disk::Disk;
@@ -22,7 +23,6 @@ use page_space::holds_one;
 use settled_pages::{SettleFault, SettledPages, SettledSpace};
 use std::alloc::Global;
 use table_check::{Told, judge, read_table};
-use told_history::lives_name_changes;
 
 /// Finds out whether the disk holds a history, from what is on it alone.
 ///

@@ -3,7 +3,7 @@ ghost use Rattle.std.specs.Prelude.{◌≡◌, ◌↔◌, ◌++◌, true, Ok, Is
 ghost use Rattle.bw_types.specs.Fits.{IsInRange};
 ghost use Rattle.page_layout.specs.Footprint.{NamesNoneTwice};
 ghost use Rattle.object_table.specs.Lives.{table_pages};
-ghost use Rattle.history_entries.specs.Entries.{entries_of};
+ghost use Rattle.history_laws.specs.Entries.{entries_of};
 ghost use Rattle.corner_forest.specs.Stands.{AreBalanced, ForestStands, forest_pages};
 ghost use Rattle.page_warehouse.specs.Holds.{table_form};
 ghost use Rattle.table_check.specs.Reading.{AreItsPages};

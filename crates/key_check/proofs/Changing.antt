@@ -19,8 +19,8 @@ use Rattle.page_layout.specs.declared.sb_node.SbEntry.{SbEntry}
 use Rattle.sb_tree.specs.Stands.{is_marked}
 use Rattle.sb_tree.specs.Steps.{entries_on}
 use Rattle.mvsb_tree.specs.Stands.{has_come}
-use Rattle.point_sums.specs.declared.corner.Corner.{Corner}
-use Rattle.point_sums.specs.Sums.{counts_at, weight_at}
+use Rattle.key_check.specs.declared.corner.Corner.{Corner}
+use Rattle.key_check.specs.Sums.{counts_at, weight_at}
 use Rattle.key_check.specs.Changes.{AreMade, HasChangesOf, StandsForChanges, needed}
 use Rattle.key_check.specs.Numbers.{HasNumbersOf}
 use Rattle.key_check.specs.Steps.{AreResidues, AscendFrom, entries_steps, jump, jumps, leaf_steps, more, step_value, steps_below}

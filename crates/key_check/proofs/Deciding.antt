@@ -8,7 +8,7 @@ use Rattle.page_ports.specs.Pages.{PageMap}
 use Rattle.page_layout.specs.Footprint.{NamesNoneTwice}
 use Rattle.sb_tree.specs.Stands.{SbStands, is_marked}
 use Rattle.sb_tree.specs.Steps.{tree_value}
-use Rattle.point_sums.specs.Sums.{SumOverVersions, corner_sum}
+use Rattle.key_check.specs.Sums.{SumOverVersions, corner_sum}
 use Rattle.key_check.specs.Numbers.{HasNumbersOf}
 use Rattle.key_check.specs.Steps.{AreResidues, AscendFrom, jumps, step_value}
 use Rattle.key_check.specs.Walks.{IsWalk}

@@ -8,8 +8,8 @@ use Rattle.std.proofs.lemmas.List.Elements.{All-head, All-nil, All-more}
 use Rattle.std.proofs.lemmas.List.Sums.{sum_by_more}
 use Rattle.page_ports.specs.Pages.{PageMap}
 use Rattle.page_layout.specs.declared.mv_node.MvEntry.{MvEntry}
-use Rattle.point_sums.specs.declared.corner.Corner.{Corner}
-use Rattle.point_sums.specs.Sums.{corner_sum, weight_at}
+use Rattle.key_check.specs.declared.corner.Corner.{Corner}
+use Rattle.key_check.specs.Sums.{corner_sum, weight_at}
 use Rattle.mv_pages.specs.Alive.{child_of, value_of}
 use Rattle.mvsb_tree.specs.Stands.{StandsOnWay, ends_after}
 use Rattle.mvsb_tree.specs.Steps.{entries_on, node_on, total_below}

@@ -6,7 +6,7 @@ use Rattle.std.proofs.lemmas.List.{take_all, take_more}
 use Rattle.std.proofs.lemmas.List.Elements.{All-head, All-tail}
 use Rattle.std.proofs.lemmas.List.Sums.{sum_by-append, sum_by-cons}
 use Rattle.page_layout.specs.declared.mv_node.MvEntry.{MvEntry}
-use Rattle.point_sums.specs.declared.corner.Corner.{Corner}
+use Rattle.key_check.specs.declared.corner.Corner.{Corner}
 use Rattle.mv_pages.specs.Alive.{counted, is_alive, value_of}
 use Rattle.mv_pages.specs.Lows.{alive_lows}
 use Rattle.mv_pages.proofs.LivingLows.{lows_cons, lows_skip}

@@ -6,8 +6,8 @@ use Rattle.std.proofs.lemmas.List.{take_more}
 use Rattle.std.proofs.lemmas.List.Elements.{All-cons}
 use Rattle.std.proofs.lemmas.List.Sums.{sum_by-cons}
 use Rattle.bw_types.specs.Residues.{opposite_residue}
-use Rattle.point_sums.specs.declared.corner.Corner.{Corner}
-use Rattle.point_sums.specs.Sums.{corner_sum, weight_at}
+use Rattle.key_check.specs.declared.corner.Corner.{Corner}
+use Rattle.key_check.specs.Sums.{corner_sum, weight_at}
 use Rattle.key_check.specs.declared.step.Step.{Step}
 use Rattle.key_check.specs.Steps.{AreResidues, AscendFrom, jump, jumps, last_value, step_value}
 use Rattle.key_check.proofs.Ascending.{not_yet}

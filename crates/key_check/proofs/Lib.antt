@@ -15,13 +15,15 @@ pub mod Marking
 pub mod Moving
 pub mod Nodes
 pub mod Numbering
+pub mod Opposites
 pub mod PieceNodes
 pub mod PieceWays
-pub mod Rising
 pub mod Pushing
+pub mod Rising
 pub mod RootPieces
 pub mod RootSteps
 pub mod Rooting
 pub mod Runs
+pub mod Scanning
 pub mod Valuing
 pub mod Walking

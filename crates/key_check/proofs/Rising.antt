@@ -1,8 +1,8 @@
 -- How the sum of corners rises.
 use Rattle.std.proofs.Common.{◌≡◌, ℕ, Bool, true, ◌+◌, ◌%◌, ◌^◌, ◌<◌, ◌≤◌, ◌&&◌, IsTrue, List, nat_le, nat_lt, cond, Option, ap, arith}
 use Rattle.std.proofs.lemmas.Bool.{and_from, and_parts, le-leb, lt-ltb, leb-true, ltb-true}
-use Rattle.point_sums.specs.declared.corner.Corner.{Corner}
-use Rattle.point_sums.specs.Sums.{corner_sum}
+use Rattle.key_check.specs.declared.corner.Corner.{Corner}
+use Rattle.key_check.specs.Sums.{corner_sum}
 use Rattle.mvsb_tree.specs.Stands.{ends_after}
 use Rattle.key_check.specs.Cells.{Adds, is_within, weight_within}
 

@@ -4,8 +4,8 @@ use Rattle.std.proofs.lemmas.Bool.{cases_lt, le-leb, le-ltb, ne_eqb}
 use Rattle.std.proofs.lemmas.List.Elements.{All-nil}
 use Rattle.bw_types.specs.Digits.{digit_count}
 use Rattle.page_ports.specs.Pages.{PageMap}
-use Rattle.point_sums.specs.declared.corner.Corner.{Corner}
-use Rattle.point_sums.specs.Sums.{corner_sum}
+use Rattle.key_check.specs.declared.corner.Corner.{Corner}
+use Rattle.key_check.specs.Sums.{corner_sum}
 use Rattle.mvsb_tree.specs.Stands.{StandsOnWay}
 use Rattle.mvsb_tree.specs.Steps.{node_on, root_level, total_below}
 use Rattle.page_layout.specs.declared.mv_node.MvNode.{MvNode}

@@ -3,8 +3,8 @@ use Rattle.std.proofs.Common.{◌≡◌, ◌≢◌, ℕ, Bool, zero, suc, ◌+�
 use Rattle.std.proofs.lemmas.Bool.{cases_lt, le-leb, le-ltb, lt-leb, lt-ltb}
 use Rattle.bw_types.specs.declared.point.Point.{Point}
 use Rattle.page_ports.specs.Pages.{PageMap}
-use Rattle.point_sums.specs.declared.corner.Corner.{Corner}
-use Rattle.point_sums.specs.Sums.{SumOverKeys, corner_sum}
+use Rattle.key_check.specs.declared.corner.Corner.{Corner}
+use Rattle.key_check.specs.Sums.{SumOverKeys, corner_sum}
 use Rattle.mvsb_tree.specs.Stands.{RootStands, StandsOnWay}
 use Rattle.mvsb_tree.specs.Steps.{root_level}
 use Rattle.key_check.specs.Chains.{HoldsNode}

@@ -6,8 +6,8 @@ use Rattle.bw_types.specs.Digits.{digit_count}
 use Rattle.bw_types.specs.declared.point.Point.{Point}
 use Rattle.bw_types.specs.declared.tree.Tree.{Tree}
 use Rattle.page_ports.specs.Pages.{PageMap}
-use Rattle.point_sums.specs.declared.corner.Corner.{Corner}
-use Rattle.point_sums.specs.Sums.{corner_sum}
+use Rattle.key_check.specs.declared.corner.Corner.{Corner}
+use Rattle.key_check.specs.Sums.{corner_sum}
 use Rattle.mvsb_tree.specs.Stands.{RootStands, has_begun}
 use Rattle.mvsb_tree.specs.Steps.{root_level, total_below}
 use Rattle.key_check.specs.declared.step.Step.{Step}

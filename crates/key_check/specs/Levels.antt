@@ -2,8 +2,8 @@
 use Rattle.std.specs.Prelude.{◌≡◌, ℕ, ◌+◌, ◌%◌, ◌^◌, ◌<◌, ◌≤◌, IsTrue, List}
 use Rattle.std.specs.List.{All, sum_by}
 use Rattle.page_ports.specs.Pages.{PageMap}
-use Rattle.point_sums.specs.declared.corner.Corner.{Corner}
-use Rattle.point_sums.specs.Sums.{corner_sum}
+use Rattle.key_check.specs.declared.corner.Corner.{Corner}
+use Rattle.key_check.specs.Sums.{corner_sum}
 use Rattle.mvsb_tree.specs.Stands.{ends_after}
 use Rattle.key_check.specs.Pieces.{PieceStands, piece_total}
 use Rattle.key_check.specs.declared.leveled.Leveled.{Leveled}

@@ -8,4 +8,5 @@ pub mod Numbers
 pub mod Pieces
 pub mod Runs
 pub mod Steps
+pub mod Sums
 pub mod Walks

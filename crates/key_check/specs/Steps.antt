@@ -4,7 +4,7 @@ use Rattle.std.specs.List.{All}
 use Rattle.bw_types.specs.Residues.{opposite_residue}
 use Rattle.page_ports.specs.Pages.{PageMap}
 use Rattle.page_layout.specs.declared.sb_node.SbEntry.{SbEntry}
-use Rattle.point_sums.specs.declared.corner.Corner.{Corner}
+use Rattle.key_check.specs.declared.corner.Corner.{Corner}
 use Rattle.sb_tree.specs.Stands.{StandsBelow}
 use Rattle.sb_tree.specs.Steps.{entries_on, pages_below}
 use Rattle.key_check.specs.declared.reached.Reached.{Reached}

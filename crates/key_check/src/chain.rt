@@ -9,9 +9,8 @@ ghost use Rattle.page_layout.specs.declared.mv_node.MvNode.{MvNode};
 
 use crate::marks::{Marks, entries_keep};
 use bw_types::Tree;
-use page_access::read_page;
 use page_checks::{CheckFault, push_page};
-use page_layout::MvNode;
+use page_layout::{MvNode, read_page};
 use page_ports::{PageFault, Pages};
 
 /// Puts the pages of the chain behind those named, the last one allotted first. Answers `false` where the

@@ -4,10 +4,10 @@ ghost use Rattle.mvsb_tree.specs.Stands.{ends_after};
 ghost use Rattle.key_check.specs.Cells.{Adds, entries_total, weight_within};
 ghost use Rattle.key_check.specs.Pieces.{StandsThroughout};
 
+use crate::Corner;
 use crate::life::{END, life_in};
 use crate::piece::Piece;
 use page_layout::MvEntry;
-use point_sums::Corner;
 use std::alloc::AllocError;
 
 /// Puts corners behind the others whose sum is the value of the entries within the piece, and 0 outside it.

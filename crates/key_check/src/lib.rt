@@ -8,10 +8,14 @@
 //! [`entries_keep`]), and the nodes below the roots, for which the alive entries of a node cut an interval of keys at each of a stretch of
 //! versions ([`stands_throughout`]). These are gone to level by level, and the pieces in which a node is reached from the copies of its
 //! parent are merged, so that it is read about once.
+//!
+//! Sums are compared by a sort: in the order by versions and keys the sum of signed corners is 0 everywhere exactly where the weights of
+//! each single version and key come to 0, modulo `2^128` ([`vanish`]).
 #![tactic(auto)]
 
 mod chain;
 mod changes;
+mod corner;
 mod digits;
 mod entry_corners;
 mod jumps;
@@ -26,10 +30,12 @@ mod piece;
 mod piece_node;
 mod piece_walk;
 mod pieces_below;
+mod points;
 mod reached;
 mod rooted;
 mod roots;
 mod run;
+mod scan;
 mod step;
 mod throughout;
 mod version_tree;
@@ -37,9 +43,12 @@ mod walk;
 
 pub use chain::walk_chain;
 pub use changes::changes_stand;
+pub use corner::Corner;
 pub use key_tree::key_tree_stands;
 pub use marks::{Marks, entries_keep, marks_of};
 pub use piece::Piece;
+pub use points::{sum_over_keys, sum_over_versions};
+pub use scan::vanish;
 pub use step::Step;
 pub use throughout::stands_throughout;
 pub use version_tree::version_tree_stands;

@@ -6,6 +6,7 @@ ghost use Rattle.key_check.specs.Cells.{Adds};
 ghost use Rattle.key_check.specs.Levels.{AreWhole, IsWhole, Leaves, PiecesStand, StandsThere, pieces_total, total_there};
 ghost use Rattle.page_checks.specs.Reads.{OnlyChecks};
 
+use crate::Corner;
 use crate::entry_corners::push_entries;
 use crate::leveled::{Leveled, push_leveled};
 use crate::merging::merge;
@@ -13,7 +14,6 @@ use crate::piece_node::node_of;
 use crate::pieces_below::push_children;
 use page_checks::CheckFault;
 use page_ports::Pages;
-use point_sums::Corner;
 use std::alloc::Global;
 
 /// Whether the nodes from the pieces' pages down stand for them, all of them among these, which are in order. Puts corners behind

@@ -7,16 +7,15 @@ ghost use Rattle.key_check.specs.Numbers.{HasNumbersOf};
 ghost use Rattle.key_check.specs.Walks.{IsWalk};
 ghost use Rattle.key_check.specs.declared.version_tree.Walk.{Walk};
 
-use crate::Step;
 use crate::digits::has_digits;
 use crate::jumps::jumps_of;
 use crate::numbers::{is_mark, versions_in_order};
 use crate::reached::Reached;
 use crate::walk::walk_below;
+use crate::{Step, sum_over_versions};
 use bw_types::{Point, Tree};
 use page_checks::{CheckFault, name_none_twice};
 use page_ports::Pages;
-use point_sums::sum_over_versions;
 use std::alloc::{AllocError, Global};
 
 // The versions of a tree over versions end before this one.

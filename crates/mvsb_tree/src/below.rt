@@ -19,8 +19,7 @@ use crate::replaced::Replaced;
 use crate::step::step_from;
 use crate::store::store;
 use mv_pages::is_changeable;
-use page_access::view_in_place;
-use page_layout::{MvNode, View};
+use page_layout::{MvNode, View, view_in_place};
 use page_ports::{Page, Stage, StageFault};
 
 /// Adds a value from a key and a version on to the node of the page and below it. Where the node is

@@ -14,8 +14,7 @@ use crate::laws::mv_laws;
 use crate::node::{no_node, put_node, read_node};
 use bw_types::{Point, Tree};
 use mv_pages::{is_changeable, later_laws, path_laws};
-use page_access::view_page;
-use page_layout::{MvNode, View};
+use page_layout::{MvNode, View, view_page};
 use page_ports::{Stage, StageFault, blank_page};
 use sb_tree::tree_laws;
 

@@ -5,8 +5,7 @@ ghost use Rattle.mv_pages.specs.Alive.{AreEntriesOf};
 ghost use Rattle.mvsb_tree.specs.Stands.{ChainStands};
 ghost use Rattle.mvsb_tree.specs.Stored.{IsLastDamaged, IsNext};
 
-use page_access::{make_page, read_page};
-use page_layout::MvNode;
+use page_layout::{MvNode, make_page, read_page};
 use page_ports::{Stage, StageFault};
 
 /// Makes a page for the node, at the place after that of the last page of the chain, which it then is.

@@ -6,8 +6,7 @@ ghost use Rattle.mv_pages.specs.Edits.{new_entry};
 ghost use Rattle.mvsb_tree.specs.Tops.{first_node};
 
 use arrayvec::ArrayVec;
-use page_access::make_page;
-use page_layout::{MvEntry, MvNode};
+use page_layout::{MvEntry, MvNode, make_page};
 use page_ports::{Stage, StageFault};
 
 /// Makes the page of a leaf of one addition, the first of a chain.

@@ -10,8 +10,7 @@ ghost use Rattle.mvsb_tree.specs.Steps.{chain_from, place_count, tree_pages};
 
 use crate::directory::directory;
 use bw_types::Tree;
-use page_access::read_page;
-use page_layout::MvNode;
+use page_layout::{MvNode, read_page};
 use page_ports::{Stage, StageFault};
 use sb_tree::sb_free;
 

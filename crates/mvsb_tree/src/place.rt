@@ -6,8 +6,7 @@ ghost use Rattle.mvsb_tree.specs.Damage.{IsInPlace, not_past, not_below, begins_
 ghost use Rattle.mvsb_tree.specs.Stands.{ends_after as spec_ends_after};
 
 use mv_pages::{Reached, child_at, is_alive, said_on};
-use page_access::PlaceFor;
-use page_layout::{MvEntry, MvNode, View};
+use page_layout::{MvEntry, MvNode, PlaceFor, View};
 
 /// How a call that seeks a key at a version reaches a node: as the one for the keys from `low` on and,
 /// where there is a `high`, before it.

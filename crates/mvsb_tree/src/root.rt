@@ -14,8 +14,7 @@ use crate::node::{no_node, read_node};
 use crate::place::root_place;
 use crate::top::top_of;
 use mv_pages::is_changeable;
-use page_access::{PlaceFor, view_page};
-use page_layout::{MvNode, View};
+use page_layout::{MvNode, PlaceFor, View, view_page};
 use page_ports::{Stage, StageFault, blank_page};
 
 /// Adds a value from a key and a version on to the nodes from the root down, and gives the page of the

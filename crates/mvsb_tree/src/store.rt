@@ -14,8 +14,7 @@ use crate::chain::make_next;
 use crate::node::put_node;
 use crate::replaced::Replaced;
 use mv_pages::{Copied, close_and_copy};
-use page_access::put_page;
-use page_layout::{MvEntry, MvNode};
+use page_layout::{MvEntry, MvNode, put_page};
 use page_ports::{Page, Stage, StageFault};
 
 /// Stores a node that was changed at the version in its page. Where it has more than 96 entries, one

@@ -14,8 +14,7 @@ use crate::directory::root_at;
 use crate::place::{Place, root_place};
 use crate::told::{Told, told_on};
 use bw_types::Tree;
-use page_access::view_page;
-use page_layout::{MvNode, View};
+use page_layout::{MvNode, View, view_page};
 use page_ports::{Page, PageFault, Pages, blank_page};
 
 /// The value of the tree at a key and a version: the sum of what was added at or below that key and at

@@ -1,3 +1,4 @@
+pub mod Anew
 pub mod AnyOrder
 pub mod Ascending
 pub mod BelowIndex
@@ -17,6 +18,7 @@ pub mod LastLives
 pub mod LastOnes
 pub mod Low
 pub mod MarkSteps
+pub mod Next
 pub mod Nexts
 pub mod Nodes
 pub mod Onward
@@ -24,6 +26,7 @@ pub mod Order
 pub mod Ordered
 pub mod PuttingIn
 pub mod Reading
+pub mod RenewingExits
 pub mod Rules
 pub mod Searching
 pub mod Sound

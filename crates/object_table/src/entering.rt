@@ -28,8 +28,7 @@ use crate::storing::{store_index, store_leaf};
 use crate::taking::take_in;
 use arrayvec::ArrayVec;
 use bw_types::{Dated, Tree};
-use page_access::make_page;
-use page_layout::{LifeEntry, LifeNode};
+use page_layout::{LifeEntry, LifeNode, make_page};
 use page_ports::{Stage, StageFault, blank_page};
 
 /// Enters an object in a table by lives, at its place by id and life.

@@ -25,8 +25,7 @@ use crate::placed::view_node;
 use crate::taking::begun_objects;
 use arrayvec::ArrayVec;
 use bw_types::{Dated, Tree};
-use page_access::put_page;
-use page_layout::LifeNode;
+use page_layout::{LifeNode, put_page};
 use page_ports::{Page, Stage, StageFault, blank_page};
 
 /// Marks the last life of the id as withdrawn in a version, by the event of this number.

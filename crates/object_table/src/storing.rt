@@ -7,8 +7,7 @@ ghost use Rattle.object_table.specs.Stored.{AreHalves, IsSecondOf, IsStored, ent
 use crate::node::{copied_entries, copied_objects};
 use arrayvec::ArrayVec;
 use bw_types::Dated;
-use page_access::{make_page, put_page};
-use page_layout::{LifeEntry, LifeNode};
+use page_layout::{LifeEntry, LifeNode, make_page, put_page};
 use page_ports::{Stage, StageFault};
 
 /// Stores a leaf of these objects in its page. Where they are 15, the last 8 of them go to a new page,

@@ -16,8 +16,7 @@ use crate::key::{key, key_of};
 use crate::node::as_life_entry;
 use arrayvec::ArrayVec;
 use bw_types::Dated;
-use page_access::view_page;
-use page_layout::{LifeEntry, LifeNode, TableNode, TreePage, View};
+use page_layout::{LifeEntry, LifeNode, TableNode, TreePage, View, view_page};
 use page_ports::{Page, PageFault, Pages};
 use std::marker::Model;
 

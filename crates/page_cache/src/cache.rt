@@ -86,6 +86,7 @@ impl Cache {
         match self.pages.push(page, copy) {
             Ok(Some((_, room))) => self.spare = Some(room),
             Ok(None) => {}
+            // Where the page finds no place its room is kept, and the page is as if it had given way.
             Err(failed) => self.spare = Some(failed.value.1),
         }
     }

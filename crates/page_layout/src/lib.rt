@@ -4,6 +4,9 @@
 //! which answers the value that a page spells, or `None` exactly where it spells none. The spelling
 //! is a definition of specs/, beside the rules that a value keeps. No two values have one spelling.
 //! All numbers are spelled with their highest byte first, and bytes that no field names are 0.
+//!
+//! Values are read from any `Pages` and put into any `Stage` ([`read_page`], [`view_page`], [`put_page`], [`make_page`]). A page that is
+//! missing, or that spells no value of the type that a caller asks for, is damaged.
 #![tactic(auto)]
 
 mod children;
@@ -23,8 +26,11 @@ mod meta;
 mod mv_node;
 mod mv_view;
 mod number;
+mod place;
 mod point_leaf;
 mod point_view;
+mod putting;
+mod reading;
 mod sb_node;
 mod sb_view;
 mod signed;
@@ -46,7 +52,10 @@ pub use journal_head::JournalHead;
 pub use life_node::{LifeEntry, LifeNode};
 pub use meta::Meta;
 pub use mv_node::{MvEntry, MvNode};
+pub use place::PlaceFor;
 pub use point_leaf::PointLeaf;
+pub use putting::{make_page, put_page};
+pub use reading::{read_in_place, read_level, read_page, view_in_place, view_page};
 pub use sb_node::{SbEntry, SbNode};
 pub use spelled::{Spelled, TreePage};
 pub use summed::{Summed, raise_at, split_off};

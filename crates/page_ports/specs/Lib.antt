@@ -1,5 +1,6 @@
 pub mod Calls
 pub mod Chain
+pub mod Failing
 pub mod Faults
 pub mod Frame
 pub mod FrameLaws

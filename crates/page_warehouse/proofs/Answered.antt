@@ -8,8 +8,8 @@ use Rattle.bw_types.specs.declared.params.Params.{Params}
 use Rattle.bw_types.specs.declared.query.Query.{Query}
 use Rattle.poly_moments.specs.PlaneSums.{integral_at as entered_integral_at}
 use Rattle.history_laws.specs.Bounds.{HasRoom, IntegralsAreBounded}
-use Rattle.history_entries.specs.Entries.{history_entries}
-use Rattle.history_entries.specs.Answers.{IntegralByEntries}
+use Rattle.history_laws.specs.Entries.{history_entries}
+use Rattle.history_laws.specs.Answers.{IntegralByEntries}
 
 -- a number of 127 bits and a sign
 pub record IsSmall (z : ℤ) : Type 0 where

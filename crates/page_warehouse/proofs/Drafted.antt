@@ -29,7 +29,7 @@ use Rattle.object_table.specs.declared.form.Form.{Form}
 use Rattle.object_table.specs.declared.form.Form.TheVariants.{ByIds, ByLives}
 use Rattle.dom_index.specs.declared.index.DomIndex.{Ghosts}
 use Rattle.corner_forest.specs.Stands.{AreBalanced, ForestStands, forest_pages}
-use Rattle.history_entries.specs.Entries.{history_entries}
+use Rattle.history_laws.specs.Entries.{history_entries}
 use Rattle.history_laws.specs.Bounds.{HasSmallWeight}
 use Rattle.change_laws.specs.Begun.{with_changes}
 use Rattle.page_warehouse.specs.Entering.{FormKeeps, PagesKeep}

@@ -23,8 +23,8 @@ use Rattle.corner_forest.specs.Entries.{IsNextEntry}
 use Rattle.poly_moments.specs.PlaneSums.{Entered}
 use Rattle.change_laws.specs.Begun.{begun_life, next_event, next_version, with_changes}
 use Rattle.change_laws.specs.Next.{FrontsAreLawful}
-use Rattle.history_entries.specs.Entries.{history_entries}
-use Rattle.history_entries.specs.Growing.{EntriesAreChanges}
+use Rattle.history_laws.specs.Entries.{history_entries}
+use Rattle.history_laws.specs.Entering.{EntriesAreChanges}
 use Rattle.change_laws.specs.Ids.{LivesEndWithTheGreatest}
 
 -- how many changes there are with the batch so far

@@ -13,8 +13,8 @@ use Rattle.dom_index.specs.declared.index.DomIndex.{Ghosts}
 use Rattle.corner_forest.specs.Entries.{corner_count}
 use Rattle.corner_forest.specs.Stands.{AreBalanced, ForestStands}
 use Rattle.corner_forest.specs.declared.forest.Forest.{Forest}
-use Rattle.history_entries.specs.Answers.{EntriesCountLive}
-use Rattle.history_entries.specs.Entries.{history_entries}
+use Rattle.history_laws.specs.Answers.{EntriesCountLive}
+use Rattle.history_laws.specs.Entries.{history_entries}
 use Rattle.poly_moments.specs.Planes.{plane_count}
 use Rattle.poly_moments.specs.PlaneSums.{entered_below}
 use Rattle.page_disk.specs.declared.disk.Disk.{Ghosts as DiskGhosts}

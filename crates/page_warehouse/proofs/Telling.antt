@@ -5,8 +5,8 @@ use Rattle.page_layout.specs.declared.meta.Meta.{Meta}
 use Rattle.page_ports.specs.Pages.{PageMap}
 use Rattle.page_space.specs.Laws.{HoldsOne}
 use Rattle.dom_index.specs.declared.index.DomIndex.{Ghosts}
-use Rattle.told_history.specs.Telling.{TableTellsHistory}
-use Rattle.told_history.specs.Told.{told}
+use Rattle.history_laws.specs.Telling.{TableTellsHistory}
+use Rattle.history_laws.specs.Told.{told}
 use Rattle.page_warehouse.specs.Laws.{HoldsOneHistory, TableTells, told_by}
 use Rattle.page_warehouse.proofs.Opened.{unordered}
 

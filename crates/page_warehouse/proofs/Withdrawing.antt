@@ -20,7 +20,7 @@ use Rattle.poly_moments.specs.PlaneSums.{Entered}
 use Rattle.dom_index.specs.declared.index.DomIndex.{Ghosts}
 use Rattle.corner_forest.specs.Enters.{entry_of}
 use Rattle.corner_forest.specs.Entries.{IsNextEntry}
-use Rattle.history_entries.specs.Entries.{history_entries}
+use Rattle.history_laws.specs.Entries.{history_entries}
 use Rattle.change_laws.specs.Begun.{next_event, next_version, with_changes}
 use Rattle.change_laws.specs.Next.{WithdrawalGoesOn, WithdrawalsGoOn}
 use Rattle.page_warehouse.specs.Entering.{PagesTell}

@@ -19,7 +19,7 @@ use Rattle.object_table.specs.Stands.{TableStands}
 use Rattle.object_table.specs.declared.form.Form.TheVariants.{ByIds, ByLives}
 use Rattle.dom_index.specs.declared.index.DomIndex.{Ghosts}
 use Rattle.corner_forest.specs.Stands.{AreBalanced, ForestStands, forest_pages}
-use Rattle.history_entries.specs.Entries.{history_entries}
+use Rattle.history_laws.specs.Entries.{history_entries}
 use Rattle.page_warehouse.specs.Waiting.{LeadTo, entered_at}
 use Rattle.page_warehouse.specs.declared.roots.Roots.{Roots}
 use Rattle.corner_forest.specs.declared.entry.Entry.{Entry as Waiting}

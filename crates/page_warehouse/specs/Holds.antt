@@ -21,7 +21,7 @@ use Rattle.object_table.specs.declared.form.Form.TheVariants.{ByIds, ByLives}
 use Rattle.dom_index.specs.declared.index.DomIndex.{Ghosts}
 use Rattle.corner_forest.specs.Stands.{AreBalanced, ForestStands, forest_pages}
 use Rattle.history_laws.specs.Bounds.{HasSmallWeight}
-use Rattle.history_entries.specs.Entries.{history_entries}
+use Rattle.history_laws.specs.Entries.{history_entries}
 
 -- The meta page tells of the history: its last version, its events, its adds and withdrawals, and the mass of all objects that
 -- were ever added.

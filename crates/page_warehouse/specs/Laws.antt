@@ -8,7 +8,7 @@ use Rattle.page_layout.specs.declared.meta.Meta.{Meta}
 use Rattle.page_ports.specs.Pages.{PageMap}
 use Rattle.redo_journal.specs.Settled.{SettlesTo}
 use Rattle.object_table.specs.Lives.{table_lives}
-use Rattle.told_history.specs.Told.{told}
+use Rattle.history_laws.specs.Told.{told}
 use Rattle.dom_index.specs.declared.index.DomIndex.{Ghosts}
 use Rattle.page_warehouse.specs.Created.{IsNew}
 use Rattle.page_warehouse.specs.Holds.{Holds, HoldsTrees, table_form}

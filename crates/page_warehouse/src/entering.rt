@@ -19,7 +19,7 @@ use crate::roots::Roots;
 use bw_types::Row;
 use change_laws::changes_go_on;
 use dom_index::DomIndex;
-use history_entries::entries_are_changes;
+use history_laws::entries_are_changes;
 use page_ports::{Stage, StageFault};
 use std::alloc::Global;
 

@@ -4,7 +4,7 @@ ghost use Rattle.std.specs.List.{All};
 ghost use Rattle.bw_types.specs.History.{History};
 ghost use Rattle.page_ports.specs.Calls.{Changes};
 ghost use Rattle.corner_forest.specs.Enters.{first_pages};
-ghost use Rattle.history_entries.specs.Entries.{history_entries};
+ghost use Rattle.history_laws.specs.Entries.{history_entries};
 ghost use Rattle.change_laws.specs.Growth.{most_growth};
 ghost use Rattle.page_warehouse.specs.Entering.{KeepsOn, PagesKeep, PagesWait, RootsFit, StayRoots};
 ghost use Rattle.page_warehouse.specs.Needs.{StayOnePage};

@@ -3,10 +3,10 @@ ghost use Rattle.page_warehouse.specs.Laws.{HoldsByPages, HoldsForQueries, Holds
 ghost use Rattle.page_warehouse.specs.Table.{TablesKeepLives};
 
 use dom_index::DomIndex;
+use history_laws::table_tells_history;
 use object_table::table_laws;
 use page_space::{created_holds as created_space_holds, holds_one};
 use redo_journal::settling_laws;
-use told_history::table_tells_history;
 
 /// Proves that a new warehouse holds the empty history; it does nothing when it runs.
 pub fn created_holds<X: DomIndex>()

@@ -16,8 +16,9 @@ use crate::Warehouse;
 use bw_types::{Kind, Query};
 use corner_forest::{below, count, integral, sum};
 use dom_index::DomIndex;
-use history_entries::{entries_are_changes, entries_give_answers};
-use history_laws::{answers_are_bounded, lawful_histories_have_room};
+use history_laws::{
+    answers_are_bounded, entries_are_changes, entries_give_answers, lawful_histories_have_room,
+};
 use page_disk::Disk;
 use page_ports::{PageFault, Pages};
 use page_space::{Space, holds_one};

@@ -16,11 +16,10 @@ use bw_types::Row;
 use change_laws::changes_go_on;
 use corner_forest::laws::forest_laws;
 use dom_index::DomIndex;
-use object_table::table_laws;
+use object_table::{renew, table_laws};
 use page_layout::footprint_laws;
 use page_ports::{Stage, StageFault, changes_compose};
 use std::alloc::Global;
-use table_upgrade::renew;
 
 // Writes the table anew by lives.
 fn renew_table<X: DomIndex, S: Stage>(stage: &mut S, roots: &mut Roots) -> Result<(), StageFault>

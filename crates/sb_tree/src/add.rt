@@ -20,8 +20,7 @@ use crate::second::Second;
 use crate::store::store;
 use arrayvec::ArrayVec;
 use bw_types::Tree;
-use page_access::{make_page, read_in_place};
-use page_layout::{SbEntry, SbNode};
+use page_layout::{SbEntry, SbNode, make_page, read_in_place};
 use page_ports::{Stage, StageFault};
 
 /// Adds a value, a residue modulo `2^128`, from a version on.

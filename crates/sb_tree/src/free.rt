@@ -9,8 +9,7 @@ ghost use Rattle.sb_tree.specs.Stands.{SbStands};
 ghost use Rattle.sb_tree.specs.Steps.{pages_below, tree_pages};
 
 use bw_types::Tree;
-use page_access::read_level;
-use page_layout::SbNode;
+use page_layout::{SbNode, read_level};
 use page_ports::{Stage, StageFault};
 
 /// Frees the pages of the tree, and no other.

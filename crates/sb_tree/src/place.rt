@@ -5,8 +5,7 @@ ghost use Rattle.sb_tree.specs.Damage.{IsInPlace, root_place as spec_root_place}
 ghost use Rattle.sb_tree.specs.Stands.{first_low};
 
 use crate::view::is_in_place;
-use page_access::PlaceFor;
-use page_layout::{SbEntry, SbNode, View};
+use page_layout::{PlaceFor, SbEntry, SbNode, View};
 
 /// How a call that seeks a version reaches a node: as the one for the versions from `low` to before
 /// `high`.

@@ -4,8 +4,7 @@ ghost use Rattle.page_ports.specs.Calls.{Grows};
 ghost use Rattle.sb_tree.specs.Stored.{IsSecondOf, IsStorable, IsStored};
 
 use crate::second::Second;
-use page_access::put_page;
-use page_layout::{SbNode, split_off};
+use page_layout::{SbNode, put_page, split_off};
 use page_ports::{Stage, StageFault};
 
 /// Stores the node in its page. Where it has 65 entries, the last 33 of them go to a new page, which

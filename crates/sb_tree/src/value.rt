@@ -11,8 +11,7 @@ ghost use Rattle.sb_tree.specs.Steps.{total_below, tree_value};
 use crate::place::{Place, root_place};
 use crate::view::{begun_on, child_on, inner_place_on};
 use bw_types::Tree;
-use page_access::view_in_place;
-use page_layout::{SbNode, View};
+use page_layout::{SbNode, View, view_in_place};
 use page_ports::{Page, PageFault, Pages, blank_page};
 
 /// The value of the tree at a version: the sum of what was added at that version and before, modulo

@@ -3,4 +3,3 @@ mod Changes
 mod Standings
 mod Judged
 mod Rows
-mod Lives

@@ -5,7 +5,7 @@ use Rattle.std.proofs.lemmas.List.Sorted.{IsPermutation-map}
 use Rattle.bw_types.specs.History.{History}
 use Rattle.bw_types.specs.Lives.{lives}
 use Rattle.bw_types.specs.declared.dated.Dated.{Dated}
-use Rattle.history_entries.specs.Entries.{begun_entry, ended_entry, entries_of, history_entries, life_entries}
+use Rattle.history_laws.specs.Entries.{begun_entry, ended_entry, entries_of, history_entries, life_entries}
 use Rattle.history_list.specs.Events.{events_of, events_of_lives}
 use Rattle.history_list.specs.declared.event.Event.{Event}
 use Rattle.poly_moments.specs.PlaneSums.{Entered}

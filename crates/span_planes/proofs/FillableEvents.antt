@@ -5,7 +5,7 @@ use Rattle.std.specs.List.{All}
 use Rattle.bw_types.specs.Fits.{IsInRange}
 use Rattle.bw_types.specs.History.{History, event_count}
 use Rattle.bw_types.specs.declared.params.Params.{Params}
-use Rattle.history_entries.specs.Entries.{history_entries}
+use Rattle.history_laws.specs.Entries.{history_entries}
 use Rattle.history_laws.specs.Bounds.{LawfulHasRoom}
 use Rattle.history_list.specs.declared.event.Event.{Event}
 use Rattle.poly_moments.specs.PlaneSums.{EnteredFits}

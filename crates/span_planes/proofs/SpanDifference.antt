@@ -10,8 +10,8 @@ use Rattle.bw_types.specs.Tally.{int_sum_by}
 use Rattle.bw_types.specs.declared.params.Params.{Params}
 use Rattle.bw_types.specs.declared.query.Query.{Query}
 use Rattle.corner_forest.specs.Answers.{where_met}
-use Rattle.history_entries.specs.Answers.{SumByEntries}
-use Rattle.history_entries.specs.Entries.{history_entries}
+use Rattle.history_laws.specs.Answers.{SumByEntries}
+use Rattle.history_laws.specs.Entries.{history_entries}
 use Rattle.history_laws.specs.Bounds.{HasSmallWeight, SumsAreBounded}
 use Rattle.poly_moments.specs.PlaneSums.{Entered, counts_at}
 use Rattle.span_planes.specs.SpanSums.{span_sum, sum_before, sum_up_to}

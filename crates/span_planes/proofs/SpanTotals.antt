@@ -23,8 +23,8 @@ use Rattle.box_corners.specs.Sums.{residue_sum_below}
 use Rattle.corner_forest.specs.Answers.{where_met}
 use Rattle.corner_forest.specs.Corners.{value_at}
 use Rattle.corner_forest.specs.Entries.{corner_count, entered_residue}
-use Rattle.history_entries.specs.Answers.{SumByEntries}
-use Rattle.history_entries.specs.Entries.{history_entries}
+use Rattle.history_laws.specs.Answers.{SumByEntries}
+use Rattle.history_laws.specs.Entries.{history_entries}
 use Rattle.poly_moments.specs.PlaneSums.{Entered, EnteredFits, counts_at}
 use Rattle.span_planes.specs.SpanHolds.{without_degree}
 use Rattle.span_planes.specs.SpanPoints.{dated_weight, plain_weight, span_points}

@@ -16,8 +16,8 @@ use Rattle.corner_forest.specs.Corners.{value_at}
 use Rattle.corner_forest.specs.Entries.{corner_count}
 use Rattle.corner_forest.specs.Trees.{EachStands}
 use Rattle.dom_index.specs.declared.index.DomIndex.{Ghosts}
-use Rattle.history_entries.specs.Entries.{history_entries}
-use Rattle.history_entries.specs.Growing.{EntriesAreChanges}
+use Rattle.history_laws.specs.Entries.{history_entries}
+use Rattle.history_laws.specs.Entering.{EntriesAreChanges}
 use Rattle.page_ports.specs.Pages.{PageMap}
 use Rattle.poly_moments.specs.PlaneSums.{Entered}
 use Rattle.span_planes.specs.SpanHolds.{SpansStand, without_degree}

@@ -10,7 +10,7 @@ use Rattle.box_corners.specs.Entries.{corner_point}
 use Rattle.corner_forest.specs.Entries.{corner_count}
 use Rattle.corner_forest.specs.Trees.{EachStands}
 use Rattle.dom_index.specs.declared.index.DomIndex.{Ghosts}
-use Rattle.history_entries.specs.Entries.{history_entries}
+use Rattle.history_laws.specs.Entries.{history_entries}
 use Rattle.page_ports.specs.Pages.{PageMap}
 use Rattle.poly_moments.specs.PlaneSums.{Entered}
 use Rattle.span_planes.specs.Filled.{FilledTrees, points_at}

@@ -16,7 +16,7 @@ use Rattle.dom_index.specs.declared.index.DomIndex.{Ghosts}
 use Rattle.corner_forest.specs.Entries.{corner_count}
 use Rattle.corner_forest.specs.Trees.{EachStands, trees_pages}
 use Rattle.history_laws.specs.Bounds.{HasSmallWeight}
-use Rattle.history_entries.specs.Entries.{history_entries}
+use Rattle.history_laws.specs.Entries.{history_entries}
 use Rattle.span_planes.specs.SpanPoints.{dated_weight, plain_weight, span_points, span_roots}
 
 -- the params that a disk of spans has: those of the warehouse without its degree

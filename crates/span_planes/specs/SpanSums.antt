@@ -8,7 +8,7 @@ use Rattle.bw_types.specs.declared.params.Params.{Params}
 use Rattle.bw_types.specs.declared.query.Query.{Query}
 use Rattle.poly_moments.specs.PlaneSums.{Entered, counts_at}
 use Rattle.corner_forest.specs.Answers.{where_met}
-use Rattle.history_entries.specs.Entries.{history_entries}
+use Rattle.history_laws.specs.Entries.{history_entries}
 
 -- the sum of the answers of all versions from the first to the last
 abbrev pub span_sum : Params → History → ℕ → ℕ → Query → ℤ

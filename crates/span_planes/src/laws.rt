@@ -2,8 +2,7 @@
 ghost use Rattle.span_planes.specs.Laws.{SpanIsDifference, SpansAreBounded, SpansAreHeldByPages};
 
 use dom_index::DomIndex;
-use history_entries::entries_give_answers;
-use history_laws::answers_are_bounded;
+use history_laws::{answers_are_bounded, entries_give_answers};
 use redo_journal::settling_laws;
 
 /// A span is the difference of two sums that begin with version 0, and no greater than the weights of all changes for each version.

@@ -7,11 +7,11 @@ use Rattle.bw_types.specs.History.{History, last_version}
 use Rattle.bw_types.specs.Lives.{Numbered, numbered}
 use Rattle.bw_types.specs.declared.dated.Dated.{Dated}
 use Rattle.bw_types.specs.declared.params.Params.{Params}
-use Rattle.told_history.specs.Telling.{LivesNameChanges}
-use Rattle.told_history.specs.Told.{batch_of, named_by}
-use Rattle.told_history.proofs.Batches.{cut_again, events_rise}
-use Rattle.told_history.proofs.InOrder.{in_order_is}
-use Rattle.told_history.proofs.Members.{among_permuted}
+use Rattle.history_laws.specs.Telling.{LivesNameChanges}
+use Rattle.history_laws.specs.Told.{batch_of, named_by}
+use Rattle.history_laws.proofs.Batches.{cut_again, events_rise}
+use Rattle.history_laws.proofs.InOrder.{in_order_is}
+use Rattle.history_laws.proofs.Members.{among_permuted}
 use Rattle.history_list.specs.Events.{AreEventsOf, numbered_in}
 use Rattle.history_list.specs.declared.event.Event.{Event}
 use Rattle.history_list.proofs.InOrder.{numbered_up}

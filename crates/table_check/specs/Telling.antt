@@ -6,7 +6,7 @@ use Rattle.bw_types.specs.Lawful.{IsLawful}
 use Rattle.bw_types.specs.Lives.{lives, numbered}
 use Rattle.bw_types.specs.declared.params.Params.{Params}
 use Rattle.bw_types.specs.declared.dated.Dated.{Dated}
-use Rattle.told_history.specs.Told.{named_by}
+use Rattle.history_laws.specs.Told.{named_by}
 
 -- The adds and withdrawals that the lives name are those of the history, with their versions and event numbers, and it has this last version.
 pub record IsToldBy (h : History) (kept : List Dated) (last : ℕ) : Type 0 where

@@ -7,8 +7,7 @@ ghost use Rattle.object_table.specs.Nodes.{FitsLevel, life_node as spec_life_nod
 use arrayvec::ArrayVec;
 use bw_types::Dated;
 use object_table::Form;
-use page_access::read_level;
-use page_layout::{LifeEntry, LifeNode, TableEntry, TableNode};
+use page_layout::{LifeEntry, LifeNode, TableEntry, TableNode, read_level};
 use page_ports::{PageFault, Pages};
 
 /// The node of this level that the page spells. A node by ids is told as one by lives.

@@ -2,14 +2,14 @@
 ghost use Rattle.std.specs.Prelude.{◌≡◌, ◌++◌, map, Ok, None, IfOk, IfSome, OnOk};
 ghost use Rattle.bw_types.specs.History.{History};
 ghost use Rattle.bw_types.specs.declared.params.Params.{Params};
-ghost use Rattle.told_history.specs.Told.{named_by};
+ghost use Rattle.history_laws.specs.Told.{named_by};
 ghost use Rattle.history_list.specs.Events.{AreEventsOf, numbered_in};
 ghost use Rattle.table_check.specs.Telling.{HasLives, IsToldBy};
 
 use bw_types::Dated;
+use history_laws::lives_name_changes;
 use history_list::{Event, make_history};
 use std::alloc::{AllocError, Global};
-use told_history::lives_name_changes;
 
 /// The adds and withdrawals that these lives name, in order of their event numbers; or none where they are not those of
 /// a history with this last version: where they are not numbered from 0 on, each once and without a gap, or their

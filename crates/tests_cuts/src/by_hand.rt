@@ -1,12 +1,11 @@
 //! Trees of cuts by hand: a leaf of one point, and a cut with a border.
 use crate::samples::{GREATEST, sum};
 use arrayvec::ArrayVec;
+use ba_tree::KeyTree;
 use bw_types::{Point, Tree};
 use cut_pages::make_leaf;
 use cut_parts::BorderTree;
-use key_trees::KeyTree;
-use page_access::make_page;
-use page_layout::{CutNode, CutPage, Spelled};
+use page_layout::{CutNode, CutPage, Spelled, make_page};
 use page_ports::{MemStage, PageFault, Stage, StageFault};
 use std::alloc::Global;
 use std::test::Fail;

@@ -12,6 +12,8 @@ mod failing;
 #[cfg(test)]
 mod harmed;
 #[cfg(test)]
+mod key_trees;
+#[cfg(test)]
 mod pages;
 #[cfg(test)]
 mod points;

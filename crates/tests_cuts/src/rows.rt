@@ -3,12 +3,12 @@ use crate::samples::{
     add, built, collected, drop_all, pages_in_use, point_at, read_cuts, row, total,
 };
 use crate::walker::cuts_of;
+use ba_tree::PlaneTree;
 use bw_types::Tree;
 use cut_pages::read_leaf;
 use cut_parts::BorderTree;
 use page_layout::{CutNode, CutPage};
 use page_ports::{MemStage, PageFault, StageFault};
-use plane_trees::PlaneTree;
 use std::alloc::Global;
 use std::test::Fail;
 

@@ -1,14 +1,13 @@
 //! Points, and trees of cuts of them over two dimensions or over three, as the tests here take them.
+use ba_tree::{KeyTree, PlaneTree};
 use bw_types::{Point, Tree, point_key};
 use cut_build::{build, collect, drop_tree};
 use cut_index::tree_add;
 use cut_pages::no_cuts;
 use cut_points::may_be_built;
 use cut_query::tree_sum;
-use key_trees::KeyTree;
 use page_layout::CutPage;
 use page_ports::{MemStage, PageFault, Pages, Stage, StageFault, blank_page};
-use plane_trees::PlaneTree;
 use std::alloc::{AllocError, Global};
 
 /// The greatest key of a sum, 2^64 - 2^32 - 1.

@@ -2,9 +2,9 @@
 //! cut is in the first.
 use crate::beside::is_right;
 use crate::samples::{add, built, pages_in_use, read_cuts};
+use ba_tree::KeyTree;
 use bw_types::{Point, Tree, point_key};
 use cut_parts::BorderTree;
-use key_trees::KeyTree;
 use page_layout::{CutNode, CutPage};
 use page_ports::{MemStage, PageFault, Pages, Stage, StageFault, blank_page};
 use std::alloc::Global;

@@ -1,4 +1,4 @@
-//! A new warehouse, a commit and a replay, each stopped after each call.
+//! A new space, a commit and a replay, each stopped after each call.
 ghost use Rattle.std.specs.Prelude.{◌≡◌, ◌≤◌, ◌<◌, ◌+◌, ◌^◌, ◌↔◌, ℕ, IsSome, IfOk, true, false};
 ghost use Rattle.redo_journal.specs.Images.{image_map};
 
@@ -84,7 +84,7 @@ fn commit_row(alloc: Global, disk: &mut MemDisk, from: u64, count: u64) -> Resul
     commit(disk, &images)
 }
 
-// A new warehouse that stops after so many calls of a commit to pages 2 and 3, and whether that was done.
+// A new space that stops after so many calls of a commit to pages 2 and 3, and whether that was done.
 fn stopped_commit(alloc: Global, calls: u64) -> (MemDisk, bool) {
     let (mut disk, _) = stopped(alloc, u64::MAX);
     disk.stop_after(calls);

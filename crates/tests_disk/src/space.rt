@@ -51,7 +51,7 @@ fn first_meta() -> Meta
     }
 }
 
-// A disk on which a warehouse was made, which stopped after so many calls, and whether that was done.
+// A disk on which a space was made, which stopped after so many calls, and whether that was done.
 fn made(alloc: Global, calls: u64) -> (MemDisk, bool) {
     let mut disk = MemDisk::blank(alloc);
     disk.stop_after(calls);

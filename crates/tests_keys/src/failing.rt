@@ -2,9 +2,8 @@
 ghost use Rattle.std.specs.Prelude.{◌≤◌};
 
 use bw_types::Tree;
-use failing_stage::FailingStage;
 use mvsb_tree::{mv_add, mv_free, mv_value};
-use page_ports::{MemStage, PageFault, StageFault};
+use page_ports::{FailingStage, MemStage, PageFault, StageFault};
 use std::alloc::Global;
 use std::test::Fail;
 

@@ -14,8 +14,6 @@ mod failing;
 #[cfg(test)]
 mod key_tree_check;
 #[cfg(test)]
-mod key_trees_as_borders;
-#[cfg(test)]
 mod nodes;
 #[cfg(test)]
 mod one_dimension;

@@ -2,8 +2,9 @@
 ghost use Rattle.std.specs.Prelude.{◌≤◌};
 
 use bw_types::Tree;
-use failing_stage::FailingStage;
-use page_ports::{FREE_PAGE, MemStage, Page, PageFault, Pages, Stage, StageFault, blank_page};
+use page_ports::{
+    FREE_PAGE, FailingStage, MemStage, Page, PageFault, Pages, Stage, StageFault, blank_page,
+};
 use sb_tree::{sb_add, sb_free, sb_value};
 use std::alloc::{AllocError, Global};
 use std::test::Fail;

@@ -1,6 +1,5 @@
 //! Which call fails, and how.
-use failing_stage::FailingStage;
-use page_ports::{MemStage, PageFault, Pages, Stage, StageFault, blank_page};
+use page_ports::{FailingStage, MemStage, PageFault, Pages, Stage, StageFault, blank_page};
 use std::test::Fail;
 
 // The second get fails, and each call of another kind that is the next one; how they answered.

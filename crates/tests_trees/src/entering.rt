@@ -5,11 +5,11 @@ ghost use Rattle.page_layout.specs.Dated.{by_life_fits};
 use crate::table::{index, leaf, page_of, table_of};
 use arrayvec::ArrayVec;
 use bw_types::{Dated, Object, Tree};
-use failing_stage::FailingStage;
 use object_table::{enter, find, mark_withdrawn, walk};
-use page_access::read_page;
-use page_layout::{LifeEntry, LifeNode};
-use page_ports::{FREE_PAGE, MemStage, Page, PageFault, Pages, Stage, StageFault, blank_page};
+use page_layout::{LifeEntry, LifeNode, read_page};
+use page_ports::{
+    FREE_PAGE, FailingStage, MemStage, Page, PageFault, Pages, Stage, StageFault, blank_page,
+};
 use std::alloc::Global;
 use std::test::Fail;
 

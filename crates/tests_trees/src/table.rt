@@ -2,8 +2,7 @@
 use arrayvec::ArrayVec;
 use bw_types::{Dated, Object, Tree};
 use object_table::{find, find_old, free_old, walk, walk_leaf, walk_old};
-use page_access::make_page;
-use page_layout::{LifeEntry, LifeNode, TableEntry, TableNode, TreePage};
+use page_layout::{LifeEntry, LifeNode, TableEntry, TableNode, TreePage, make_page};
 use page_ports::{MemStage, PageFault, Stage, StageFault};
 use std::test::Fail;
 

@@ -1,12 +1,10 @@
 //! Tables of the earlier form, of pages that the tests write, and what they become.
 use arrayvec::ArrayVec;
 use bw_types::{Dated, Object, Tree};
-use object_table::walk;
-use page_access::make_page;
-use page_layout::{Spelled, TableEntry, TableNode};
+use object_table::{renew, walk};
+use page_layout::{Spelled, TableEntry, TableNode, make_page};
 use page_ports::{FREE_PAGE, MemStage, PageFault, Pages, Stage, StageFault};
 use std::test::Fail;
-use table_upgrade::renew;
 
 // The object of this place in a table. Every other one was withdrawn.
 fn object(place: u32) -> Dated {

@@ -6,14 +6,13 @@ use crate::trees::draws::Draws;
 use crate::trees::measured::{hundredths, rate};
 use crate::trees::put_count::{ByKind, PutCount};
 use anyhow::{Result, bail};
+use ba_tree::{KeyTree, PlaneTree};
 use bw_types::{Point, Tree};
 use cut_build::{build, collect, drop_tree};
 use cut_parts::BorderTree;
 use cut_points::may_be_built;
 use cut_query::tree_sum;
-use key_trees::KeyTree;
 use page_ports::{MemStage, PageFault, Pages, Stage, blank_page};
-use plane_trees::PlaneTree;
 use std::alloc::{AllocError, Global};
 use std::time::Instant;
 

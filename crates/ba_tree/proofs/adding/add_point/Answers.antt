@@ -1,8 +1,8 @@
 use Rattle.std.proofs.Common.{ℕ, length, sym, ap, arith}
 use Rattle.bw_types.specs.Depths.{added_pages}
 use Rattle.cut_parts.specs.Standing.{cuts_growth}
-use Rattle.key_trees.specs.contracts.key_tree.KeyTreeBorderTree.TheImpl as key
-use Rattle.plane_trees.specs.contracts.plane_tree.PlaneTreeBorderTree.TheImpl as plane
+use Rattle.ba_tree.specs.contracts.key_tree.KeyTreeBorderTree.TheImpl as key
+use Rattle.ba_tree.specs.contracts.plane_tree.PlaneTreeBorderTree.TheImpl as plane
 use Rattle.ba_tree.proofs.Cases.{add_damaged_at, balanced_at, becomes_at, change_at, growth_over, is_three, low_after, new_at, pages_at, stands_at}
 use Rattle.ba_tree.proofs.adding.add_point.Goals as goal
 

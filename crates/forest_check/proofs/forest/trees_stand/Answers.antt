@@ -2,7 +2,7 @@ use Rattle.std.proofs.Common.{arith, rules, IsTrue, ◌<◌, ◌++◌, length, I
 use Rattle.std.proofs.lemmas.Bool.{false≢true}
 use Rattle.bw_types.specs.Empty.{empty_tree}
 use Rattle.page_ports.specs.Pages.{PageMap}
-use Rattle.history_entries.specs.Entries.{entries_of}
+use Rattle.history_laws.specs.Entries.{entries_of}
 use Rattle.corner_forest.specs.Entries.{root_points}
 use Rattle.forest_check.proofs.TreeByTree.{ends, fails, goes_on, named_all, named_more}
 use Rattle.forest_check.proofs.forest.trees_stand.Goals as goal

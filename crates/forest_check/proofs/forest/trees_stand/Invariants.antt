@@ -1,5 +1,5 @@
 use Rattle.std.proofs.Common.{◌↔◌, ◌++◌, IsTrue, IsPermutation, drop}
-use Rattle.history_entries.specs.Entries.{entries_of}
+use Rattle.history_laws.specs.Entries.{entries_of}
 use Rattle.corner_forest.specs.Entries.{root_points}
 use Rattle.corner_forest.specs.Stands.{AreBalanced, forest_pages}
 use Rattle.corner_forest.specs.Trees.{EachStands}

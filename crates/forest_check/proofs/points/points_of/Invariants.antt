@@ -1,5 +1,5 @@
 use Rattle.std.proofs.Common.{◌≡◌, take}
-use Rattle.history_entries.specs.Entries.{entries_of}
+use Rattle.history_laws.specs.Entries.{entries_of}
 use Rattle.corner_forest.specs.Entries.{root_points}
 use Rattle.forest_check.proofs.points.points_of.Given as goal
 

@@ -1,7 +1,7 @@
 use Rattle.std.proofs.Common.{take}
 use Rattle.std.specs.List.{All}
 use Rattle.poly_moments.specs.PlaneSums.{EnteredFits}
-use Rattle.history_entries.specs.Entries.{entries_of}
+use Rattle.history_laws.specs.Entries.{entries_of}
 use Rattle.corner_forest.specs.Stands.{HasSmallWeight}
 use Rattle.forest_check.proofs.rules.entries_fit.Given as goal
 

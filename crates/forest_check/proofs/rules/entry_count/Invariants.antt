@@ -1,5 +1,5 @@
 use Rattle.std.proofs.Common.{◌≡◌, ◌*◌, ◌≤◌, length, take}
-use Rattle.history_entries.specs.Entries.{entries_of}
+use Rattle.history_laws.specs.Entries.{entries_of}
 use Rattle.forest_check.proofs.rules.entry_count.Given as goal
 
 abbrev pub invariant-loop-life : goal.invariant-loop-life

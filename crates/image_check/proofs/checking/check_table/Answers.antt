@@ -9,7 +9,7 @@ use Rattle.page_space.specs.Chain.{FreeInOrder}
 use Rattle.page_ports.specs.Pages.{PageMap}
 use Rattle.object_table.specs.Stands.{TableStands}
 use Rattle.object_table.specs.declared.form.Form.{Form}
-use Rattle.history_entries.specs.Entries.{entries_of}
+use Rattle.history_laws.specs.Entries.{entries_of}
 use Rattle.page_warehouse.specs.Holds.{table_form}
 use Rattle.settled_pages.specs.Looked.{IsInOrder, disk_of, map_of, pages_of}
 use Rattle.settled_pages.specs.Shown.{pages_shown}

@@ -3,7 +3,7 @@ use Rattle.bw_types.specs.declared.dated.Dated.{Dated}
 use Rattle.bw_types.specs.declared.tree.Tree.{Tree}
 use Rattle.page_layout.specs.Footprint.{NamesNoneTwice}
 use Rattle.corner_forest.specs.Stands.{AreBalanced, ForestStands, forest_pages}
-use Rattle.history_entries.specs.Entries.{entries_of}
+use Rattle.history_laws.specs.Entries.{entries_of}
 use Rattle.settled_pages.specs.Looked.{IsInOrder, disk_of, chain_of, map_of}
 use Rattle.image_check.proofs.Ordered.{AreOrdered, found_is}
 use Rattle.image_check.proofs.Sound.{once_named, sound_by}

@@ -3,7 +3,7 @@ use Rattle.std.specs.List.Sorted.{IsNonDecreasing}
 use Rattle.std.proofs.lemmas.Bool.{false≢true}
 use Rattle.std.proofs.lemmas.List.Sorted.{IsNonDecreasingBy-from_sort, IsPermutation-sym}
 use Rattle.page_ports.specs.Pages.{PageMap}
-use Rattle.point_sums.specs.declared.corner.Corner.{Corner}
+use Rattle.key_check.specs.declared.corner.Corner.{Corner}
 use Rattle.key_check.specs.KeyTrees.{AddsRoots, RootsKeep}
 use Rattle.key_check.proofs.Moving.{keeps_moved}
 use Rattle.key_check.proofs.RootSteps.{sums_are_totals}

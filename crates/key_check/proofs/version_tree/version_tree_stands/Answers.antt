@@ -3,8 +3,8 @@ use Rattle.std.specs.List.{All}
 use Rattle.std.proofs.lemmas.Bool.{false≢true}
 use Rattle.page_ports.specs.Pages.{PageMap}
 use Rattle.page_layout.specs.Footprint.{NamesNoneTwice}
-use Rattle.point_sums.specs.declared.corner.Corner.{Corner}
-use Rattle.point_sums.specs.Sums.{SumOverVersions}
+use Rattle.key_check.specs.declared.corner.Corner.{Corner}
+use Rattle.key_check.specs.Sums.{SumOverVersions}
 use Rattle.key_check.specs.Steps.{AreResidues, jumps}
 use Rattle.key_check.specs.Walks.{IsWalk}
 use Rattle.key_check.proofs.Deciding.{AreMarked, marked_of, stands, sums_of}

@@ -6,7 +6,7 @@ use Rattle.page_ports.specs.Pages.{PageMap}
 use Rattle.page_ports.specs.declared.page.StageFault.TheVariants.{Damaged}
 use Rattle.object_table.specs.Lives.{last_life}
 use Rattle.object_table.specs.declared.form.Form.TheVariants.{ByLives}
-use Rattle.history_entries.specs.Entries.{history_entries}
+use Rattle.history_laws.specs.Entries.{history_entries}
 use Rattle.change_laws.specs.Begun.{with_changes}
 use Rattle.page_warehouse.specs.declared.roots.Roots.{Roots}
 use Rattle.page_warehouse.specs.Entering.{PagesTell, PagesWait}

@@ -4,7 +4,7 @@ use Rattle.bw_types.specs.declared.change.Change.TheVariants as change
 use Rattle.page_ports.specs.Calls.{Changes}
 use Rattle.page_ports.specs.Pages.{PageMap}
 use Rattle.page_ports.specs.declared.page.StageFault.TheVariants.{Damaged}
-use Rattle.history_entries.specs.Entries.{history_entries}
+use Rattle.history_laws.specs.Entries.{history_entries}
 use Rattle.change_laws.specs.Begun.{with_changes}
 use Rattle.page_warehouse.specs.Entering.{PagesTell, PagesWait}
 use Rattle.corner_forest.specs.declared.entry.Entry.{Entry as Waiting}

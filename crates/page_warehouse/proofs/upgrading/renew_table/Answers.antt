@@ -5,7 +5,7 @@ use Rattle.page_ports.specs.declared.page.StageFault.TheVariants.{Damaged}
 use Rattle.object_table.specs.declared.form.Form.TheVariants.{ByIds, ByLives}
 use Rattle.object_table.specs.Lives.{table_pages}
 use Rattle.corner_forest.specs.Stands.{forest_pages}
-use Rattle.history_entries.specs.Entries.{history_entries}
+use Rattle.history_laws.specs.Entries.{history_entries}
 use Rattle.page_warehouse.proofs.Exits.{exit_error}
 use Rattle.page_warehouse.proofs.Next.{few_kept}
 use Rattle.page_warehouse.proofs.Pages.{PageLaws, forest_stays, tells as telling}

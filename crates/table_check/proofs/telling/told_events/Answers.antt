@@ -6,7 +6,7 @@ use Rattle.bw_types.specs.History.{History, last_version}
 use Rattle.bw_types.specs.Lives.{Numbered}
 use Rattle.bw_types.specs.declared.dated.Dated.{Dated}
 use Rattle.page_layout.specs.FootprintLaws.{flat_more}
-use Rattle.told_history.specs.Told.{named_by}
+use Rattle.history_laws.specs.Told.{named_by}
 use Rattle.history_list.specs.Events.{AreEventsOf, numbered_in}
 use Rattle.history_list.specs.declared.event.Event.{Event}
 use Rattle.table_check.proofs.Cutting.{lawful_events, told_are, told_history}

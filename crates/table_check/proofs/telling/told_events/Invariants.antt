@@ -1,6 +1,6 @@
 use Rattle.std.proofs.Common.{◌≡◌, map, take}
 use Rattle.std.specs.List.{flat_map}
-use Rattle.told_history.specs.Told.{named_by}
+use Rattle.history_laws.specs.Told.{named_by}
 use Rattle.history_list.specs.Events.{numbered_in}
 use Rattle.table_check.proofs.telling.told_events.Given as goal
 

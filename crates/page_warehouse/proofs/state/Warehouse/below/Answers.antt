@@ -1,5 +1,5 @@
 use Rattle.std.proofs.Common.{Err, ap, ◌∙◌}
-use Rattle.history_entries.specs.Entries.{history_entries}
+use Rattle.history_laws.specs.Entries.{history_entries}
 use Rattle.page_space.specs.Shown.{disk_of, map_of, meta_of, params_of, IsInOrder}
 use Rattle.page_warehouse.proofs.Opened.{trees_here}
 use Rattle.page_warehouse.proofs.Queried.{balanced_here, below_at_most, below_given, forest_here, trees_of}

@@ -3,7 +3,7 @@ use Rattle.std.proofs.lemmas.Result.{err_from_is_err_and}
 use Rattle.bw_types.specs.Fits.{ends_fit}
 use Rattle.bw_types.specs.History.{changes}
 use Rattle.bw_types.specs.declared.params.Params.{Params}
-use Rattle.history_entries.specs.Entries.{history_entries}
+use Rattle.history_laws.specs.Entries.{history_entries}
 use Rattle.page_ports.specs.declared.page.PageFault.TheVariants.{Damaged}
 use Rattle.page_space.specs.Shown.{map_of}
 use Rattle.span_planes.specs.Shown.{space_in}

@@ -1,5 +1,0 @@
-use Rattle.history_entries.proofs.Counted.{are_changes}
-use Rattle.history_entries.proofs.growing.entries_are_changes.Goals as goal
-
-pub returns : goal.returns
-returns c = are_changes c.lives_are_alone.ensures.count

@@ -1,8 +1,0 @@
-use Rattle.history_entries.proofs.More.{by_add, by_end}
-use Rattle.history_entries.proofs.growing.entries_grow.Goals as goal
-
-pub returns-clause-add : goal.returns-clause-add
-returns-clause-add c = by_add
-
-pub returns-clause-end : goal.returns-clause-end
-returns-clause-end c = by_end

@@ -1,4 +1,0 @@
-pub mod Sums
-pub mod Additions
-pub mod Laws
-pub mod ThreePoints

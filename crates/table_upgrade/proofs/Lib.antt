@@ -1,3 +1,0 @@
-pub mod Anew
-pub mod Exits
-pub mod Next

@@ -1,6 +1,0 @@
-pub mod Members
-pub mod InOrder
-pub mod Batches
-pub mod EndsLive
-pub mod Named
-pub mod ToldAgain
