@@ -1,9 +1,9 @@
 -- A tree that takes a point, and the pages that this gives out.
 use Rattle.std.proofs.Common.{ℕ, ◌+◌, Result, Ok, Err, arith}
 use Rattle.std.specs.Prelude.{OnOk}
-use Rattle.page_ports.specs.Calls.{Changes, Grows}
-use Rattle.page_ports.specs.declared.page.StageFault.{StageFault}
-use Rattle.page_ports.specs.declared.pages.Pages.{Ghosts}
+use Rattle.ports.specs.Calls.{Changes, Grows}
+use Rattle.ports.specs.declared.page.StageFault.{StageFault}
+use Rattle.ports.specs.declared.pages.Pages.{Ghosts}
 
 -- Of three things that hold where a call was done follows a fourth.
 pub all_three : {A B C D : Type 0} (r : Result (Unit {0}) StageFault) → OnOk r A → OnOk r B → OnOk r C → (A → B → C → D) → OnOk r D

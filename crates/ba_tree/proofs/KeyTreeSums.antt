@@ -2,10 +2,10 @@
 use Rattle.std.proofs.Common.{◌≡◌, ◌≢◌, ℕ, ◌≤◌, slice_index_or, IfOk, List, [], ◌∷◌, length, Result, Ok, Err, refl, arith}
 use Rattle.bw_types.specs.Dominance.{dominance_sum}
 use Rattle.bw_types.specs.declared.point.Point.{Point}
-use Rattle.page_ports.specs.Calls.{OnlyReads}
-use Rattle.page_ports.specs.declared.page.PageFault.{PageFault}
-use Rattle.page_ports.specs.declared.page.PageFault.TheVariants.{Damaged, Disk}
-use Rattle.page_ports.specs.declared.pages.Pages.{Ghosts}
+use Rattle.ports.specs.Calls.{OnlyReads}
+use Rattle.ports.specs.declared.page.PageFault.{PageFault}
+use Rattle.ports.specs.declared.page.PageFault.TheVariants.{Damaged, Disk}
+use Rattle.ports.specs.declared.pages.Pages.{Ghosts}
 use Rattle.cut_parts.specs.Borders.{IsSum}
 
 -- The value is the total wherever there is one, and nothing is found damaged.

@@ -2,8 +2,8 @@
 use Rattle.std.proofs.Common.{◌≡◌, ℕ, zero, suc, List, IsPermutation}
 use Rattle.bw_types.specs.declared.point.Point.{Point}
 use Rattle.bw_types.specs.declared.tree.Tree.{Tree}
-use Rattle.page_ports.specs.Frame.{AgreeOn, AreInMap}
-use Rattle.page_ports.specs.Pages.{PageMap}
+use Rattle.ports.specs.Frame.{AgreeOn, AreInMap}
+use Rattle.ports.specs.Pages.{PageMap}
 use Rattle.dom_index.specs.Becoming.{IsTreeAfter}
 use Rattle.cut_parts.specs.Borders.{HoldForTrees}
 use Rattle.cut_parts.specs.Standing.{CutsBalanced, CutsStand, cuts_cost, cuts_growth, cuts_share, tree_pages}

@@ -4,7 +4,7 @@ use Rattle.std.specs.Prelude.{ℕ, zero, suc, ◌==◌, ◌&&◌, nat_le, nat_lt
 use Rattle.bw_types.specs.Depths.{added_pages}
 use Rattle.bw_types.specs.declared.point.Point.{Point}
 use Rattle.bw_types.specs.declared.tree.Tree.{Tree}
-use Rattle.page_ports.specs.Pages.{PageMap}
+use Rattle.ports.specs.Pages.{PageMap}
 use Rattle.dom_index.specs.Becoming.{IsTreeAfter}
 use Rattle.dom_index.specs.declared.index.DomIndex as index
 use Rattle.cut_parts.specs.Damage as cuts

@@ -2,15 +2,16 @@
 ghost use Rattle.bw_types.specs.Depths.{query_pages};
 ghost use Rattle.ba_tree.specs.Over.{BalancedOver, IsDamagedForAdd, IsDamagedForSum, MayBecome, MayChange, StandsOver, pages_over, tree_growth};
 
-use crate::adding::add_point;
-use crate::sum::dom_sum;
-use crate::{KeyTree, PlaneTree};
+use crate::add_point::add_point;
+use crate::dominance::dom_sum;
+use crate::key_tree::KeyTree;
+use crate::plane_tree::PlaneTree;
 use bw_types::{Point, Tree};
 use cut_parts::BorderTree;
 use cut_parts::laws::cuts_laws;
 use dom_index::DomIndex;
 use mvsb_tree::MvIndex;
-use page_ports::{PageFault, Pages, Stage, StageFault};
+use ports::{PageFault, Pages, Stage, StageFault};
 use std::alloc::Global;
 
 /// Trees over one to three dimensions: multiversion trees over one, and trees of cuts over two and three.

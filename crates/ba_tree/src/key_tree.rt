@@ -1,7 +1,7 @@
 //! The borders over one dimension: multiversion trees.
 ghost use Rattle.std.specs.Prelude.{◌≡◌, ◌+◌, ◌⊎◌, true, slice_index};
 ghost use Rattle.bw_types.specs.Digits.{digit_count};
-ghost use Rattle.page_ports.specs.Frame.{names_page};
+ghost use Rattle.ports.specs.Frame.{names_page};
 ghost use Rattle.mvsb_tree.specs.Damage.{IsDamagedForFree, IsDamagedForValue};
 ghost use Rattle.mvsb_tree.specs.Index.{IsDamagedForPoint, MayChange};
 ghost use Rattle.mvsb_tree.specs.Stands.{IsBalanced, MvStands};
@@ -10,7 +10,7 @@ ghost use Rattle.mvsb_tree.specs.Steps.{tree_pages};
 use bw_types::{Point, Tree};
 use cut_parts::BorderTree;
 use mvsb_tree::{freed_laws, mv_add, mv_build, mv_free, mv_laws, mv_value};
-use page_ports::{PageFault, Pages, Stage, StageFault};
+use ports::{PageFault, Pages, Stage, StageFault};
 use std::alloc::Global;
 
 /// Multiversion trees as the borders over one dimension.

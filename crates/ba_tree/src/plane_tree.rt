@@ -4,14 +4,14 @@ ghost use Rattle.cut_parts.specs.Damage.{BeforePage, IsDamagedForSum};
 ghost use Rattle.cut_parts.specs.Reach.{IsDamagedForAdd, IsDamagedForDrop, Leads};
 ghost use Rattle.cut_parts.specs.Standing.{CutsBalanced, CutsStand, cuts_cost, cuts_growth, cuts_share, tree_pages};
 
-use crate::KeyTree;
+use crate::building::build;
+use crate::key_tree::KeyTree;
+use crate::sum::tree_sum;
+use crate::tree::tree_add;
 use bw_types::{Point, Tree};
-use cut_build::build;
-use cut_index::tree_add;
 use cut_parts::BorderTree;
 use cut_parts::laws::cuts_laws;
-use cut_query::tree_sum;
-use page_ports::{PageFault, Pages, Stage, StageFault};
+use ports::{PageFault, Pages, Stage, StageFault};
 use std::alloc::Global;
 
 /// Trees of cuts over two dimensions, with multiversion trees as the borders of their cuts.
@@ -73,7 +73,7 @@ impl BorderTree for PlaneTree {
     }
 
     fn drop_tree<S: Stage>(stage: &mut S, tree: &Tree) -> Result<(), StageFault> {
-        cut_build::drop_tree::<KeyTree, S>(stage, tree)
+        crate::drop_tree::<KeyTree, S>(stage, tree)
     }
 
     fn border_laws() {

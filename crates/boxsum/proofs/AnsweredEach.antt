@@ -1,9 +1,9 @@
 -- Lines of an input were answered and none changed anything: which they were, and what was written, by the status.
 use Rattle.std.proofs.Common.{◌≡◌, ◌≢◌, ℕ, ◌+◌, ◌≤◌, IsTrue, List, [], ◌∷◌, ◌++◌, length, inl, refl, sym, ◌∙◌, ap, subst, append_assoc, add-zero, arith}
 use Rattle.std.proofs.lemmas.List.{append-nil}
-use Rattle.byte_ports.specs.Written.{WritesPart}
-use Rattle.byte_ports.specs.declared.Source.{Ghosts as SourceGhosts}
-use Rattle.byte_ports.specs.declared.Sink.{Ghosts as SinkGhosts}
+use Rattle.ports.specs.Written.{WritesPart}
+use Rattle.ports.specs.declared.Source.{Ghosts as SourceGhosts}
+use Rattle.ports.specs.declared.Sink.{Ghosts as SinkGhosts}
 use Rattle.line_reader.specs.Lines.{lines}
 use Rattle.page_disk.specs.declared.disk.Area.{Area}
 use Rattle.row_machine.specs.Answering.{AnswersLines, replies_by, reply_within}

@@ -1,11 +1,11 @@
 -- The lines of a source were answered from what is on a disk, or that was refused.
 use Rattle.std.proofs.Common.{◌≡◌, ◌≢◌, ◌⊎◌, ◌+◌, ◌≤◌, ◌<◌, ◌^◌, ℕ, IsTrue, List, [], length, inl, inr, refl, sym, ◌∙◌, ap, subst}
 use Rattle.std.specs.Bool.{MatchBool}
-use Rattle.counts.specs.Count.{Rose}
+use Rattle.ports.specs.Count.{Rose}
 use Rattle.bw_types.specs.History.{History}
 use Rattle.bw_types.specs.declared.params.Params.{Params}
-use Rattle.byte_ports.specs.declared.Source.{Ghosts as SourceGhosts}
-use Rattle.byte_ports.specs.declared.Sink.{Ghosts as SinkGhosts}
+use Rattle.ports.specs.declared.Source.{Ghosts as SourceGhosts}
+use Rattle.ports.specs.declared.Sink.{Ghosts as SinkGhosts}
 use Rattle.page_disk.specs.Image.{Image}
 use Rattle.page_disk.specs.declared.disk.Disk.{Ghosts as DiskGhosts}
 use Rattle.page_space.specs.Faults.{is_disk}

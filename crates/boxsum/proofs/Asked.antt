@@ -5,8 +5,8 @@ use Rattle.csv_rows.specs.Input.{given, provided}
 use Rattle.command_words.specs.Command.{command_of}
 use Rattle.command_words.specs.declared.command.Command.{Command}
 use Rattle.command_words.specs.declared.command.Command.TheVariants.{Create, Scratch, Sample}
-use Rattle.byte_ports.specs.declared.Source.{Ghosts as SourceGhosts}
-use Rattle.byte_ports.specs.declared.Sink.{Ghosts as SinkGhosts}
+use Rattle.ports.specs.declared.Source.{Ghosts as SourceGhosts}
+use Rattle.ports.specs.declared.Sink.{Ghosts as SinkGhosts}
 use Rattle.page_disk.specs.declared.disk.Disk.{Ghosts as DiskGhosts}
 use Rattle.dom_index.specs.declared.index.DomIndex.{Ghosts as IndexGhosts}
 use Rattle.boxsum.specs.OneDisk.{asks_one_disk, command_on_one, is_for_one_disk}

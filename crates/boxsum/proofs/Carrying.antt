@@ -1,7 +1,7 @@
 -- Where there is no memory to read the words, nothing is called, whatever they ask for.
 use Rattle.std.proofs.Common.{◌≡◌, ℕ, Option, Some, None, IsTrue, inl, inr, refl, subst, arith}
-use Rattle.byte_ports.specs.declared.Source.{Ghosts as SourceGhosts}
-use Rattle.byte_ports.specs.declared.Sink.{Ghosts as SinkGhosts}
+use Rattle.ports.specs.declared.Source.{Ghosts as SourceGhosts}
+use Rattle.ports.specs.declared.Sink.{Ghosts as SinkGhosts}
 use Rattle.command_words.specs.declared.command.Command.{Command}
 use Rattle.command_words.specs.declared.command.Command.TheVariants.{Create, Run, Scratch, Sample, Check, Spans, SpanRun, Report, Export, Compact}
 use Rattle.bw_types.specs.History.{last_version}

@@ -1,9 +1,9 @@
 -- How a check ends, by what it found, and where there is no memory to read the words.
 use Rattle.std.proofs.Common.{◌≡◌, ◌≢◌, ◌⊎◌, ℕ, true, IsTrue, List, length, Result, Ok, Err, inl, inr, refl, sym, ◌∙◌, ap, subst}
-use Rattle.counts.specs.Count.{Rose}
+use Rattle.ports.specs.Count.{Rose}
 use Rattle.bw_types.specs.History.{History, changes, last_version}
-use Rattle.byte_ports.specs.declared.Source.{Ghosts as SourceGhosts}
-use Rattle.byte_ports.specs.declared.Sink.{Ghosts as SinkGhosts}
+use Rattle.ports.specs.declared.Source.{Ghosts as SourceGhosts}
+use Rattle.ports.specs.declared.Sink.{Ghosts as SinkGhosts}
 use Rattle.dom_index.specs.declared.index.DomIndex.{Ghosts as IndexGhosts}
 use Rattle.page_disk.specs.Image.{Image}
 use Rattle.page_disk.specs.declared.disk.Disk.{Ghosts as DiskGhosts}

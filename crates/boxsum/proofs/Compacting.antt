@@ -1,9 +1,9 @@
 -- How a compaction ends, told from its status, and what is left then.
 use Rattle.std.proofs.Common.{◌≡◌, ◌≢◌, ◌⊎◌, ℕ, zero, suc, true, IsTrue, List, [], ◌∷◌, inl, inr, refl, sym, ◌∙◌, ap, subst}
-use Rattle.counts.specs.Count.{Rose}
+use Rattle.ports.specs.Count.{Rose}
 use Rattle.bw_types.specs.History.{History, last_version}
 use Rattle.bw_types.specs.declared.params.Params.{Params}
-use Rattle.byte_ports.specs.declared.Sink.{Ghosts as SinkGhosts}
+use Rattle.ports.specs.declared.Sink.{Ghosts as SinkGhosts}
 use Rattle.compact_store.specs.Compacted.{second_out}
 use Rattle.compact_store.specs.declared.compacting.Compacted.{Compacted}
 use Rattle.compact_store.specs.declared.compacting.Compacted.TheVariants as made
@@ -11,7 +11,7 @@ use Rattle.dom_index.specs.declared.index.DomIndex.{Ghosts as IndexGhosts}
 use Rattle.page_disk.specs.declared.disk.Disk.{Ghosts as DiskGhosts}
 use Rattle.page_disk.specs.declared.disk.Area.{Area}
 use Rattle.page_disk.specs.declared.disk.Area.TheVariants.{Pages, Journal}
-use Rattle.byte_ports.specs.Written.{WritesPart}
+use Rattle.ports.specs.Written.{WritesPart}
 use Rattle.boxsum.specs.Compacting.{EndsAs, PutsCompacted, compacted_line}
 use Rattle.boxsum.specs.Ends.{ends_compact}
 use Rattle.boxsum.specs.Ran.{WritesHistory, compacted_text}

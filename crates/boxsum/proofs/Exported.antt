@@ -1,20 +1,20 @@
 -- An export: what is printed, what the disk keeps, and where there is no memory to read the words.
 use Rattle.std.proofs.Common.{◌≡◌, ◌≢◌, ◌⊎◌, ℕ, IsTrue, List, [], ◌++◌, inl, inr, refl, sym, ◌∙◌}
 use Rattle.std.proofs.lemmas.List.{append-nil}
-use Rattle.byte_ports.specs.declared.Source.{Ghosts as SourceGhosts}
-use Rattle.byte_ports.specs.declared.Sink.{Ghosts as SinkGhosts}
+use Rattle.ports.specs.declared.Source.{Ghosts as SourceGhosts}
+use Rattle.ports.specs.declared.Sink.{Ghosts as SinkGhosts}
 use Rattle.dom_index.specs.declared.index.DomIndex.{Ghosts as IndexGhosts}
 use Rattle.history_text.specs.Rows.{rows_of}
 use Rattle.page_disk.specs.declared.disk.Area.{Area}
 use Rattle.page_disk.specs.declared.disk.Area.TheVariants.{Pages, Journal}
 use Rattle.page_disk.specs.declared.disk.Disk.{Ghosts as DiskGhosts}
-use Rattle.byte_ports.specs.Written.{WritesPart}
+use Rattle.ports.specs.Written.{WritesPart}
 use Rattle.boxsum.specs.Ends.{ends_export}
 use Rattle.boxsum.specs.Held.{warehouses}
 use Rattle.boxsum.specs.Ran.{ExportRan, Exports}
 use Rattle.boxsum.specs.Statuses.{status_of_gathering}
-use Rattle.history_list.specs.declared.gathering.GatherFault.{GatherFault}
-use Rattle.history_list.specs.declared.gathering.GatherFault.TheVariants as gathering
+use Rattle.page_warehouse.specs.declared.gathering.GatherFault.{GatherFault}
+use Rattle.page_warehouse.specs.declared.gathering.GatherFault.TheVariants as gathering
 use Rattle.boxsum.specs.declared.status.Status.{Status}
 use Rattle.boxsum.specs.declared.status.Status.TheVariants.{Fine, Usage, NoWarehouse, AlreadyThere, ReadFault, WriteFault, DiskFault, NoMemory, Damaged, InputLimit, PageLimit, NoVersion}
 use Rattle.boxsum.proofs.Nothing.{nothing_read}

@@ -26,7 +26,7 @@ use Rattle.page_warehouse.specs.Shown.{HoldsHistory}
 use Rattle.warehouse.specs.Crashes.{OnlyLeaves}
 use Rattle.row_machine.specs.Ended.{AllMayBeServed, SilentLinesKeep}
 use Rattle.row_machine.specs.Housed.{GoesOnFrom, rows_committed}
-use Rattle.byte_ports.specs.Written.{WritesPart}
+use Rattle.ports.specs.Written.{WritesPart}
 use Rattle.row_machine.specs.Serving.{MayServe, NextIsVersion, lines_sum, lines_need, next_rows}
 use Rattle.boxsum.specs.Held.{BeginsWith, HoldsBetween, HoldsFrom, IsRefusal, LeavesEach, Refuses}
 use Rattle.boxsum.specs.Runs.{AreReplied, LacksPagesNext, history_by, state_by}

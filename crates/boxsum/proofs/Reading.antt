@@ -5,7 +5,7 @@ use Rattle.bw_types.specs.declared.params.Params.{Params}
 use Rattle.csv_rows.specs.Input.{input}
 use Rattle.csv_rows.specs.Machine.{State, line_step, most_staged, rows_of}
 use Rattle.csv_rows.specs.declared.input.Input.{Input}
-use Rattle.csv_rows.specs.declared.input.Input.TheVariants.{Stage, Commit, Forget, Ask}
+use Rattle.csv_rows.specs.declared.input.Input.TheVariants.{Stage, Commit, Drop, Ask}
 use Rattle.row_machine.specs.Housed.{IsVersion, MayTake}
 use Rattle.row_machine.specs.Serving.{MayServe, NextIsVersion}
 
@@ -13,7 +13,7 @@ use Rattle.row_machine.specs.Serving.{MayServe, NextIsVersion}
 no_version : (params : Params) (n : ℕ) (s : State) (i : Option Input) → MayTake false i → IsVersion (line_step params n s i).reply → ⊥
 no_version params n s None may is = is
 no_version params n s (Some (Commit session)) may is = may
-no_version params n s (Some (Forget session)) may is = is
+no_version params n s (Some (Drop session)) may is = is
 no_version params n s (Some (Stage session r)) may is = by_room (nat_lt (length (rows_of s session)) most_staged) refl
   where
     by_room : (b : Bool) → nat_lt (length (rows_of s session)) most_staged ≡ b → ⊥

@@ -1,7 +1,7 @@
 -- A command that reads what is on a disk: what it leaves there, from what the opening answers and what is done with what was opened.
 use Rattle.std.proofs.Common.{◌≡◌, ◌≢◌, ◌⊎◌, ◌≤◌, ℕ, true, IsTrue, List, inl, inr, refl, sym, ◌∙◌, ap, subst, rules}
 use Rattle.std.specs.Bool.{MatchBool}
-use Rattle.counts.specs.Count.{Rose}
+use Rattle.ports.specs.Count.{Rose}
 use Rattle.bw_types.specs.History.{History}
 use Rattle.bw_types.specs.declared.params.Params.{Params}
 use Rattle.page_disk.specs.Image.{Image, PageList}

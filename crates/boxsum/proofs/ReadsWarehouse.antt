@@ -1,7 +1,7 @@
 -- A command that reads the warehouse on a disk.
 use Rattle.std.proofs.Common.{◌≡◌, ◌≢◌, ◌≤◌, ℕ, Bool, true, false, IsTrue, inl, inr, sym, ◌∙◌, subst}
 use Rattle.std.specs.Bool.{MatchBool}
-use Rattle.counts.specs.Count.{Rose}
+use Rattle.ports.specs.Count.{Rose}
 use Rattle.bw_types.specs.History.{History}
 use Rattle.bw_types.specs.declared.params.Params.{Params}
 use Rattle.page_disk.specs.declared.disk.Area.TheVariants.{Journal}

@@ -3,7 +3,7 @@ use Rattle.std.proofs.Common.{◌≡◌, ◌≢◌, ◌⊎◌, ℕ, zero, suc, �
 use Rattle.std.specs.List.{All}
 use Rattle.std.proofs.lemmas.List.{append-nil}
 use Rattle.std.proofs.lemmas.List.Elements.{All-cons, All-nil}
-use Rattle.counts.specs.Count.{Rose}
+use Rattle.ports.specs.Count.{Rose}
 use Rattle.bw_types.specs.Empty.{empty_tree}
 use Rattle.bw_types.specs.declared.tree.Tree.{Tree}
 use Rattle.bw_types.specs.History.{History}

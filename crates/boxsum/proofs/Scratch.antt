@@ -6,12 +6,12 @@ use Rattle.bw_types.specs.declared.row.Row.{Row}
 use Rattle.line_reader.specs.Lines.{lines}
 use Rattle.csv_rows.specs.Machine.{begun, text}
 use Rattle.warehouse.specs.declared.house.House.{Ghosts}
-use Rattle.row_machine.specs.declared.ending.Ran.{Ran}
+use Rattle.row_machine.specs.declared.ending.RunEnd.{RunEnd}
 use Rattle.row_machine.specs.Serving.{Ends, Lasts, MayServe}
 use Rattle.row_machine.specs.Ended.{ServedWhole}
 use Rattle.boxsum.specs.Runs.{WritesWholeLines}
 
-module _ {H D : Type 0} (g : Ghosts H D) (whole tells tells' still : Bool) (input left : List ℕ) (ran : Ran D) (written written' : List ℕ) where
+module _ {H D : Type 0} (g : Ghosts H D) (whole tells tells' still : Bool) (input left : List ℕ) (ran : RunEnd D) (written written' : List ℕ) where
   -- how serving from this history ends, at a desk with these params, this house and nothing staged
   abbrev pub EndsFrom : History → Params → H → List (List Row) → Type 0
   EndsFrom h params house staged = MayServe whole params (lines input) → g.stands whole (g.device house) params h
@@ -29,7 +29,7 @@ module _ {H D : Type 0} (g : Ghosts H D) (whole tells tells' still : Bool) (inpu
       → WritesWholeLines (text params h) input left written written'
   whole_text params h told still' s = record { taken = s.taken; cut = s.cut; wrote = s.served.wrote told still' }
 
-module _ {H D : Type 0} (g : Ghosts H D) (ran : Ran D) (h : History) where
+module _ {H D : Type 0} (g : Ghosts H D) (ran : RunEnd D) (h : History) where
   -- the same of what lasts, whatever the source gives
   abbrev pub LastsFrom : Params → H → Type 0
   LastsFrom params house = g.stands true (g.device house) params h → Lasts g params h (g.device house) ran

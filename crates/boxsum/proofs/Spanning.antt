@@ -1,9 +1,9 @@
 -- How a derivation of spans ends, told from its status, and what is left then.
 use Rattle.std.proofs.Common.{◌≡◌, ◌≢◌, ◌⊎◌, ℕ, ◌<◌, true, false, IsTrue, List, Option, Some, None, inl, inr, refl, sym, ◌∙◌, ap, subst, arith}
-use Rattle.counts.specs.Count.{Rose}
+use Rattle.ports.specs.Count.{Rose}
 use Rattle.bw_types.specs.declared.params.Params.{Params}
-use Rattle.byte_ports.specs.Written.{WritesPart}
-use Rattle.byte_ports.specs.declared.Sink.{Ghosts as SinkGhosts}
+use Rattle.ports.specs.Written.{WritesPart}
+use Rattle.ports.specs.declared.Sink.{Ghosts as SinkGhosts}
 use Rattle.page_layout.specs.declared.meta.Meta.{Meta}
 use Rattle.page_space.specs.Faults.{AtBadJournal, AtDamaged, AtEmpty}
 use Rattle.page_space.specs.Laws.{HeldOpens, HoldsOne}

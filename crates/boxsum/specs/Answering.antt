@@ -1,6 +1,6 @@
 -- What is written where each line of an input is answered and none changes anything.
 use Rattle.std.specs.Prelude.{◌≡◌, ◌≢◌, ◌⊎◌, ℕ, ◌+◌, ◌≤◌, ◌++◌, Bool, IsTrue, List, [], length}
-use Rattle.byte_ports.specs.Written.{WritesPart}
+use Rattle.ports.specs.Written.{WritesPart}
 use Rattle.line_reader.specs.Lines.{lines}
 use Rattle.row_machine.specs.Answering.{reads_by, replies_by}
 use Rattle.row_machine.specs.Serving.{TakesLines, TakesWhole}

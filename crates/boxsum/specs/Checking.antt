@@ -1,11 +1,11 @@
 -- What `check` prints of a disk on which nothing is known, and that it leaves the disk alone.
 use Rattle.std.specs.Prelude.{◌≡◌, ◌≢◌, ◌⊎◌, ℕ, true, IsTrue, List, ◌++◌, length, codes}
 use Rattle.std.specs.Fmt.{decimal}
-use Rattle.counts.specs.Count.{Rose}
+use Rattle.ports.specs.Count.{Rose}
 use Rattle.bw_types.specs.History.{History, changes, last_version}
 use Rattle.bw_types.specs.declared.params.Params.{Params}
-use Rattle.byte_ports.specs.Written.{WritesPart}
-use Rattle.byte_ports.specs.declared.Sink.{Ghosts as SinkGhosts}
+use Rattle.ports.specs.Written.{WritesPart}
+use Rattle.ports.specs.declared.Sink.{Ghosts as SinkGhosts}
 use Rattle.page_disk.specs.declared.disk.Disk.{Ghosts as DiskGhosts}
 use Rattle.redo_journal.specs.Gates.{is_empty}
 use Rattle.dom_index.specs.declared.index.DomIndex.{Ghosts as IndexGhosts}

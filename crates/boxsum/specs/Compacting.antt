@@ -1,7 +1,7 @@
 -- How a compaction ends, by what became of the second disk.
 use Rattle.std.specs.Prelude.{◌≡◌, ℕ, List, ◌++◌, codes}
 use Rattle.std.specs.Fmt.{decimal}
-use Rattle.byte_ports.specs.declared.Sink.{Ghosts as SinkGhosts}
+use Rattle.ports.specs.declared.Sink.{Ghosts as SinkGhosts}
 use Rattle.compact_store.specs.declared.compacting.Compacted.{Compacted}
 use Rattle.compact_store.specs.declared.compacting.Compacted.TheVariants as compacted
 use Rattle.page_disk.specs.declared.disk.Area.TheVariants.{Pages}

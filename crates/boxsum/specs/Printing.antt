@@ -1,8 +1,8 @@
 -- How a command ends that has one line to print.
 use Rattle.std.specs.Prelude.{◌≡◌, ◌⊎◌, ℕ, IsTrue, List, ◌++◌, Option, Some, None}
-use Rattle.counts.specs.Count.{Rose}
-use Rattle.byte_ports.specs.declared.Sink.{Ghosts as SinkGhosts}
-use Rattle.byte_ports.specs.Written.{WritesPart}
+use Rattle.ports.specs.Count.{Rose}
+use Rattle.ports.specs.declared.Sink.{Ghosts as SinkGhosts}
+use Rattle.ports.specs.Written.{WritesPart}
 use Rattle.boxsum.specs.declared.status.Status.{Status}
 use Rattle.boxsum.specs.declared.status.Status.TheVariants as status
 

@@ -1,12 +1,12 @@
 -- What a run of the program leaves behind, command by command.
 use Rattle.std.specs.Prelude.{◌≡◌, ◌≢◌, ◌⊎◌, ℕ, ◌+◌, ◌<◌, ◌≤◌, ◌^◌, ◌++◌, List, [], Option, Some, None, Bool, true, false, IsTrue, drop, length}
-use Rattle.counts.specs.Count.{Rose}
+use Rattle.ports.specs.Count.{Rose}
 use Rattle.bw_types.specs.Answers.{answer}
 use Rattle.bw_types.specs.History.{History, changes, last_version}
 use Rattle.bw_types.specs.declared.params.Params.{Params}
 use Rattle.bw_types.specs.declared.query.Query.{Query}
-use Rattle.byte_ports.specs.declared.Source.{Ghosts as SourceGhosts}
-use Rattle.byte_ports.specs.declared.Sink.{Ghosts as SinkGhosts}
+use Rattle.ports.specs.declared.Source.{Ghosts as SourceGhosts}
+use Rattle.ports.specs.declared.Sink.{Ghosts as SinkGhosts}
 use Rattle.line_reader.specs.Lines.{lines, whole_part}
 use Rattle.csv_rows.specs.Machine.{after, begun, text}
 use Rattle.command_words.specs.declared.command.Command.{Command}
@@ -18,7 +18,7 @@ use Rattle.page_disk.specs.declared.disk.Area.{Area}
 use Rattle.page_disk.specs.declared.disk.Area.TheVariants.{Journal}
 use Rattle.page_disk.specs.declared.disk.Disk.{Ghosts as DiskGhosts}
 use Rattle.page_layout.specs.declared.meta.Meta.{Meta}
-use Rattle.page_ports.specs.Pages.{PageMap}
+use Rattle.ports.specs.Pages.{PageMap}
 use Rattle.page_space.specs.Opened.{StaysAsRead}
 use Rattle.page_space.specs.Settling.{HasNoReplay, IsBadAt, replay_reads}
 use Rattle.page_space.specs.Space.{HoldsSpace}
@@ -32,10 +32,10 @@ use Rattle.page_warehouse.specs.Opened.{IsDamagedToOpen}
 use Rattle.page_warehouse.specs.Shown.{HoldsHistory}
 use Rattle.compact_store.specs.Compacted.{IsEmptyOrHoldsPart, LacksNext, batches_need}
 use Rattle.compact_store.specs.Kept.{kept}
-use Rattle.history_list.specs.Told.{HasNumbersOf}
+use Rattle.page_warehouse.specs.Told.{HasNumbersOf}
 use Rattle.history_text.specs.Rebuilt.{Rebuilds}
 use Rattle.history_text.specs.Rows.{rows_of}
-use Rattle.byte_ports.specs.Written.{WritesPart}
+use Rattle.ports.specs.Written.{WritesPart}
 use Rattle.row_machine.specs.Serving.{lines_need}
 use Rattle.sample_rows.specs.Generator.{rows}
 use Rattle.sample_rows.specs.Summary.{WritesSummary, sample_history, sample_params, summary}

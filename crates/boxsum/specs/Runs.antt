@@ -11,7 +11,7 @@ use Rattle.dom_index.specs.declared.index.DomIndex.{Ghosts as IndexGhosts}
 use Rattle.page_warehouse.specs.Holds.{Holds}
 use Rattle.page_warehouse.specs.Needs.{LacksPages}
 use Rattle.row_machine.specs.Housed.{IsVersion, rows_committed}
-use Rattle.byte_ports.specs.Written.{WritesPart}
+use Rattle.ports.specs.Written.{WritesPart}
 use Rattle.row_machine.specs.Serving.{PutsAllButOne, TakesLines, TakesWhole, lines_cost}
 use Rattle.boxsum.specs.declared.status.Status.{Status}
 use Rattle.boxsum.specs.declared.status.Status.TheVariants.{Fine, WriteFault, DiskFault, ReadFault, InputLimit}

@@ -1,11 +1,11 @@
 -- What becomes of a second disk to which the spans of a warehouse are written, and what is printed.
 use Rattle.std.specs.Prelude.{◌≡◌, ◌≢◌, ◌⊎◌, ℕ, ◌+◌, ◌<◌, true, false, IsTrue, List, ◌≤◌, ◌++◌, length, Option, Some, None, codes}
 use Rattle.std.specs.Fmt.{decimal}
-use Rattle.counts.specs.Count.{Rose}
+use Rattle.ports.specs.Count.{Rose}
 use Rattle.bw_types.specs.History.{History, changes, last_version}
 use Rattle.bw_types.specs.declared.params.Params.{Params}
-use Rattle.byte_ports.specs.Written.{WritesPart}
-use Rattle.byte_ports.specs.declared.Sink.{Ghosts as SinkGhosts}
+use Rattle.ports.specs.Written.{WritesPart}
+use Rattle.ports.specs.declared.Sink.{Ghosts as SinkGhosts}
 use Rattle.page_disk.specs.Image.{Image}
 use Rattle.page_disk.specs.Moment.{MayBeLeftNow}
 use Rattle.page_disk.specs.Since.{LeavesOnly}

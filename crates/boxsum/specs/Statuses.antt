@@ -3,8 +3,8 @@ use Rattle.std.specs.Prelude.{ℕ, List, [], ◌++◌, codes, decimal}
 use Rattle.page_disk.specs.declared.disk.Area.TheVariants.{Pages, Journal}
 use Rattle.page_space.specs.declared.refusal.OpenFault.{OpenFault}
 use Rattle.page_space.specs.declared.refusal.OpenFault.TheVariants as fault
-use Rattle.history_list.specs.declared.gathering.GatherFault.{GatherFault}
-use Rattle.history_list.specs.declared.gathering.GatherFault.TheVariants as gathering
+use Rattle.page_warehouse.specs.declared.gathering.GatherFault.{GatherFault}
+use Rattle.page_warehouse.specs.declared.gathering.GatherFault.TheVariants as gathering
 use Rattle.row_machine.specs.declared.ending.Ending.{Ending}
 use Rattle.row_machine.specs.declared.ending.Ending.TheVariants as ending
 use Rattle.boxsum.specs.declared.status.Status.{Status}

@@ -1,18 +1,17 @@
 //! `check`: whether the disk holds a history, and which part of it is broken first.
 ghost use Rattle.std.specs.Prelude.{◌≡◌, ◌≤◌, IsTrue, IfOk};
-ghost use Rattle.counts.specs.Count.{Rose};
+ghost use Rattle.ports.specs.Count.{Rose};
 ghost use Rattle.boxsum.specs.Checking.{Checks, broken_line as line_of_broken, good_line as line_of_good};
 ghost use Rattle.boxsum.specs.Ends.{ends_check};
 ghost use Rattle.boxsum.specs.Printing.{PutsLine};
 
 use crate::printing::put_line;
 use crate::status::{Ran, Status};
-use byte_ports::Sink;
-use forest_check::CheckedIndex;
-use image_check::{Verdict, check, verdicts_are_right};
+use image_check::{CheckedIndex, Verdict, check, verdicts_are_right};
 use page_checks::CheckFault;
 use page_disk::Disk;
 use page_warehouse::table_tells;
+use ports::Sink;
 use std::alloc::{AllocError, Global};
 
 /// Reads the whole disk, and prints whether it holds a history. Nothing is written to the disk.

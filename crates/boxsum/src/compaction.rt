@@ -6,12 +6,12 @@ ghost use Rattle.boxsum.specs.Ran.{Compacts};
 
 use crate::printing::put_line;
 use crate::status::{RanTwo, Status};
-use byte_ports::Sink;
 use compact_store::{Compacted, compact, kept_laws};
 use dom_index::DomIndex;
 use page_disk::{Area, Disk};
 use page_space::{held_opens, holds_one};
 use page_warehouse::{Warehouse, holding_laws};
+use ports::Sink;
 use redo_journal::settling_laws;
 use std::alloc::{AllocError, Global};
 

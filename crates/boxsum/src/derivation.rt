@@ -6,11 +6,11 @@ ghost use Rattle.boxsum.specs.Spanning.{Derives, failure_of, spans_line as line_
 
 use crate::printing::put_line;
 use crate::status::{RanTwo, Status};
-use byte_ports::Sink;
 use dom_index::DomIndex;
 use page_disk::{Area, Disk};
 use page_space::{held_opens, holds_one};
 use page_warehouse::{Warehouse, holding_laws};
+use ports::Sink;
 use redo_journal::settling_laws;
 use span_planes::{Derived, derive};
 use std::alloc::{AllocError, Global};

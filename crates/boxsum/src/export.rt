@@ -1,24 +1,23 @@
 //! `export`: the history of the warehouse on a disk, as rows that rebuild it.
 ghost use Rattle.std.specs.Prelude.{◌≡◌, ◌≢◌, ℕ, ◌≤◌, ◌++◌, ◌⊎◌, true, IsTrue};
-ghost use Rattle.counts.specs.Count.{Rose};
+ghost use Rattle.ports.specs.Count.{Rose};
 ghost use Rattle.bw_types.specs.History.{History};
 ghost use Rattle.history_text.specs.Rebuilt.{Rebuilds};
 ghost use Rattle.history_text.specs.Rows.{rows_of};
 ghost use Rattle.page_disk.specs.declared.disk.Area.{Area as AreaName};
 ghost use Rattle.page_warehouse.specs.Shown.{HasNewForm, HoldsHistory, disk_charge, disk_in, meta_in, params_in};
-ghost use Rattle.byte_ports.specs.Written.{WritesPart};
+ghost use Rattle.ports.specs.Written.{WritesPart};
 ghost use Rattle.warehouse.specs.Left.{IsAsBefore};
 ghost use Rattle.boxsum.specs.Ends.{ends_export};
 ghost use Rattle.boxsum.specs.Ran.{Exports, PrintsSome};
 
 use crate::status::{Ran, Status};
-use byte_ports::Sink;
 use dom_index::DomIndex;
-use history_list::gather;
 use history_text::{rows_rebuild, write_history};
 use page_disk::Disk;
 use page_space::holds_one;
-use page_warehouse::{Warehouse, holding_laws};
+use page_warehouse::{Warehouse, gather, holding_laws};
+use ports::Sink;
 use redo_journal::settling_laws;
 use std::alloc::Global;
 

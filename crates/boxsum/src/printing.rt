@@ -3,7 +3,7 @@ ghost use Rattle.std.specs.Prelude.{◌≢◌};
 ghost use Rattle.boxsum.specs.Printing.{PutsLine};
 
 use crate::status::Status;
-use byte_ports::Sink;
+use ports::Sink;
 
 /// Puts a line. The status is by that.
 pub(crate) fn put_line<K: Sink>(line: &[u8], sink: &mut K) -> Status

@@ -1,6 +1,6 @@
 //! `report`: the grids that lines ask for, of the warehouse on a disk.
 ghost use Rattle.std.specs.Prelude.{◌≡◌, ◌≢◌, ◌+◌, ◌<◌, ◌≤◌, ◌^◌, ℕ, false, IsTrue, [], length};
-ghost use Rattle.counts.specs.Count.{Rose};
+ghost use Rattle.ports.specs.Count.{Rose};
 ghost use Rattle.bw_types.specs.History.{History};
 ghost use Rattle.grid_report.specs.GridCosts.{grid_line_cost};
 ghost use Rattle.grid_report.specs.GridReplies.{grid_replies};
@@ -12,12 +12,12 @@ ghost use Rattle.boxsum.specs.Ends.{ends_report};
 ghost use Rattle.boxsum.specs.Ran.{HasCause, ReportRan};
 
 use crate::status::{Ran, Status};
-use byte_ports::{Sink, Source};
 use dom_index::DomIndex;
 use grid_report::GridDesk;
 use page_disk::Disk;
 use page_space::holds_one;
 use page_warehouse::{Warehouse, holding_laws};
+use ports::{Sink, Source};
 use redo_journal::settling_laws;
 use row_machine::{Ending, answer_lines};
 use std::alloc::Global;

@@ -1,7 +1,7 @@
 //! The top call.
 ghost use Rattle.std.specs.Prelude.{◌≡◌, ◌≢◌, ◌≤◌, ◌⊎◌, ℕ, Some, IsTrue, map, string_bytes};
 ghost use Rattle.command_words.specs.declared.command.Command.{Command as CommandName};
-ghost use Rattle.counts.specs.Count.{Rose};
+ghost use Rattle.ports.specs.Count.{Rose};
 ghost use Rattle.bw_types.specs.declared.params.Params.{Params};
 ghost use Rattle.bw_types.specs.Fits.{IsInRange};
 ghost use Rattle.page_warehouse.specs.Created.{IsNew};
@@ -21,12 +21,12 @@ use crate::sample::sample_on;
 use crate::span_run::span_run_on;
 use crate::status::{Ran, RanTwo, Status};
 use bw_types::Params;
-use byte_ports::{Sink, Source};
 use command_words::{Command, WordsFault, read_words};
 use dom_index::DomIndex;
 use page_disk::Disk;
 use page_space::holds_one;
 use page_warehouse::{Created, Warehouse, create, created_holds, holding_laws};
+use ports::{Sink, Source};
 use redo_journal::settling_laws;
 use row_machine::{Desk, ends_laws, machine_laws, serve};
 use std::alloc::Global;

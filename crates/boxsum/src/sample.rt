@@ -1,7 +1,7 @@
 //! `sample`: a warehouse that is loaded with rows that are drawn, and the summary of what they are answered.
 ghost use Rattle.std.specs.Prelude.{◌≡◌, ◌≢◌, ℕ, ◌+◌, ◌≤◌, ◌++◌, ◌⊎◌, [], true, IsTrue};
 ghost use Rattle.std.specs.Int.{int_wrap, w128};
-ghost use Rattle.counts.specs.Count.{Rose};
+ghost use Rattle.ports.specs.Count.{Rose};
 ghost use Rattle.line_reader.specs.Lines.{lines};
 ghost use Rattle.csv_rows.specs.Machine.{after, begun, text as text_of};
 ghost use Rattle.page_disk.specs.Since.{LeavesOnly};
@@ -11,7 +11,7 @@ ghost use Rattle.page_disk.specs.Image.{PageList};
 ghost use Rattle.page_warehouse.specs.Needs.{batch_need, pages_charge};
 ghost use Rattle.row_machine.specs.Serving.{lines_need};
 ghost use Rattle.page_warehouse.specs.Shown.{HoldsHistory};
-ghost use Rattle.byte_ports.specs.Written.{WritesPart};
+ghost use Rattle.ports.specs.Written.{WritesPart};
 ghost use Rattle.sample_rows.specs.Generator.{rows};
 ghost use Rattle.sample_rows.specs.Summary.{WritesSummary, answers_in as answers_of, sample_params as params_of_sample, summary, summary_with};
 ghost use Rattle.boxsum.specs.Ends.{ends_sample};
@@ -22,9 +22,9 @@ ghost use Rattle.boxsum.specs.Statuses.{status_amid};
 
 use crate::running::{create_on, run_on};
 use crate::status::{Ran, Status};
-use byte_ports::{MemSink, MemSource, Sink};
 use dom_index::DomIndex;
 use page_disk::{Area, Disk};
+use ports::{MemSink, MemSource, Sink};
 use sample_rows::{answers_in, sample_laws, sample_params, sample_summary, sample_text};
 use std::alloc::Global;
 

@@ -1,6 +1,6 @@
 //! `spanrun`: the spans that lines ask for, of a disk that holds them.
 ghost use Rattle.std.specs.Prelude.{◌≡◌, ◌≢◌, ◌+◌, ◌<◌, ◌≤◌, ◌^◌, ℕ, IsTrue, [], length};
-ghost use Rattle.counts.specs.Count.{Rose};
+ghost use Rattle.ports.specs.Count.{Rose};
 ghost use Rattle.bw_types.specs.History.{History};
 ghost use Rattle.bw_types.specs.declared.params.Params.{Params};
 ghost use Rattle.row_machine.specs.Answering.{AnswersLines};
@@ -11,10 +11,10 @@ ghost use Rattle.span_planes.specs.SpanRows.{span_line_cost, span_reply};
 ghost use Rattle.boxsum.specs.Ran.{SpanRunRan};
 
 use crate::status::{Ran, Status};
-use byte_ports::{Sink, Source};
 use dom_index::DomIndex;
 use page_disk::Disk;
 use page_space::holds_one;
+use ports::{Sink, Source};
 use redo_journal::settling_laws;
 use row_machine::{Ending, answer_lines};
 use span_planes::{SpanDesk, Spans};

@@ -2,9 +2,9 @@
 ghost use Rattle.std.specs.Prelude.{◌≡◌};
 ghost use Rattle.boxsum.specs.Statuses.{exit_code};
 
-use history_list::GatherFault;
 use page_disk::Area;
 use page_space::OpenFault;
+use page_warehouse::GatherFault;
 use row_machine::Ending;
 use std::fmt;
 

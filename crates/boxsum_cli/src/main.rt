@@ -14,8 +14,8 @@ mod words;
 use crate::places::hold_places;
 use crate::words::{is_for_spans, spans_begin_so, words_behind};
 use boxsum::{Status, run_two};
-use byte_ports::{StdSink, StdSource};
 use page_disk::{Failure, FileDisk};
+use ports::{StdSink, StdSource};
 use std::env;
 use std::process::ExitCode;
 
@@ -32,7 +32,7 @@ const SPANS_JOURNAL: &str = "boxsum.spans.journal";
 fn main(rt: HostRuntime) -> ExitCode {
     let held = hold_places(&rt);
     let (status, failure) = match &held {
-        Ok(_) => run_on(&rt),
+        Ok(_) => run_program(&rt),
         // The system has no place for three files.
         Err(_) => (Status::NoMemory, None),
     };
@@ -55,7 +55,7 @@ fn ending(status: Status) -> ExitCode
 
 // Reads the words and makes the devices. Arguments that cannot be read are no command. Answers the last
 // call on a file that failed as well, if one did.
-fn run_on(rt: &HostRuntime) -> (Status, Option<Failure>) {
+fn run_program(rt: &HostRuntime) -> (Status, Option<Failure>) {
     let Ok(args) = env::args(rt) else {
         return (Status::Usage, None);
     };

@@ -12,11 +12,11 @@ use Rattle.bw_types.specs.declared.change.Change.TheVariants as change
 use Rattle.bw_types.specs.declared.object.Object.{Object}
 use Rattle.bw_types.specs.declared.params.Params.{Params}
 use Rattle.history_laws.proofs.Room.{lawful_room}
-use Rattle.history_list.proofs.CutByVersion.{batches_are, both_cons, passes, stops}
-use Rattle.history_list.proofs.Numbers.{events_count}
-use Rattle.history_list.specs.Batches.{batches_from}
-use Rattle.history_list.specs.Events.{AreEventsOf, change_in, numbered_in}
-use Rattle.history_list.specs.declared.event.Event.{Event}
+use Rattle.page_warehouse.proofs.CutByVersion.{batches_are, both_cons, passes, stops}
+use Rattle.page_warehouse.proofs.EventNumbers.{events_count}
+use Rattle.page_warehouse.specs.Batches.{batches_from}
+use Rattle.page_warehouse.specs.Events.{AreEventsOf, change_in, numbered_in}
+use Rattle.page_warehouse.specs.declared.event.Event.{Event}
 use Rattle.compact_store.specs.Cuts.{batches_by_size, batches_of, count_to}
 use Rattle.compact_store.specs.Keeping.{HaveRoom, IsKept}
 use Rattle.compact_store.specs.Kept.{kept, most_adds}

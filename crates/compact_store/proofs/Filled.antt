@@ -6,10 +6,10 @@ use Rattle.bw_types.specs.Fits.{IsInRange}
 use Rattle.bw_types.specs.History.{History, changes}
 use Rattle.bw_types.specs.Lawful.{IsLawful}
 use Rattle.bw_types.specs.declared.params.Params.{Params}
-use Rattle.counts.specs.Count.{Rose}
+use Rattle.ports.specs.Count.{Rose}
 use Rattle.dom_index.specs.declared.index.DomIndex.{Ghosts as IndexGhosts}
-use Rattle.history_list.specs.declared.gathering.GatherFault.{GatherFault}
-use Rattle.history_list.specs.declared.gathering.GatherFault.TheVariants as gather_fault
+use Rattle.page_warehouse.specs.declared.gathering.GatherFault.{GatherFault}
+use Rattle.page_warehouse.specs.declared.gathering.GatherFault.TheVariants as gather_fault
 use Rattle.page_disk.specs.Image.{Image}
 use Rattle.page_disk.specs.Moment.{Moment, MayBeLeftNow, clock_of}
 use Rattle.page_disk.specs.Since.{LeavesNow, LeavesOnly}

@@ -7,8 +7,8 @@ use Rattle.bw_types.specs.declared.change.Change.TheVariants.{Add}
 use Rattle.bw_types.specs.declared.dated.Dated.{Dated}
 use Rattle.bw_types.specs.declared.object.Object.{Object}
 use Rattle.history_laws.specs.Living.{is_live_at, objects_at}
-use Rattle.history_list.specs.Events.{change_in}
-use Rattle.history_list.specs.declared.event.Event.{Event}
+use Rattle.page_warehouse.specs.Events.{change_in}
+use Rattle.page_warehouse.specs.declared.event.Event.{Event}
 
 -- the add of a life
 abbrev pub add_of : Dated → Event

@@ -15,7 +15,7 @@ use Rattle.page_layout.specs.MetaLaws.{meta_in-page}
 use Rattle.page_layout.specs.TreeValue.{IsTreeTyped, tree_fits}
 use Rattle.page_warehouse.specs.Created.{IsNew, new_meta}
 use Rattle.page_warehouse.specs.Needs.{charge_of, meta_charge, pages_charge}
-use Rattle.poly_moments.specs.Planes.{plane_count}
+use Rattle.corner_weights.specs.Planes.{plane_count}
 use Rattle.redo_journal.specs.Settled.{SettlesTo}
 
 all_same : {A : Type 0} (P : A → Type 0) (n : ℕ) (a : A) → P a → All P (replicate n a)

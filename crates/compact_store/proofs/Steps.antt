@@ -11,7 +11,7 @@ use Rattle.bw_types.specs.declared.change.Change.{Change}
 use Rattle.bw_types.specs.declared.params.Params.{Params}
 use Rattle.bw_types.specs.declared.refusal.Refusal.{Refusal}
 use Rattle.bw_types.specs.declared.row.Row.{Row}
-use Rattle.counts.specs.Count.{Rose}
+use Rattle.ports.specs.Count.{Rose}
 use Rattle.dom_index.specs.declared.index.DomIndex.{Ghosts as IndexGhosts}
 use Rattle.history_laws.proofs.Staging.{flat_staged}
 use Rattle.page_disk.specs.Image.{Image}

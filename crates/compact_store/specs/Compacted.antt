@@ -14,7 +14,7 @@ use Rattle.page_warehouse.specs.Holds.{Holds}
 use Rattle.page_warehouse.specs.Needs.{LacksPages, batch_need}
 use Rattle.page_layout.specs.declared.meta.Meta.{Meta}
 use Rattle.redo_journal.specs.Gates.{is_empty}
-use Rattle.history_list.specs.Told.{HasNumbersOf}
+use Rattle.page_warehouse.specs.Told.{HasNumbersOf}
 use Rattle.compact_store.specs.declared.compacting.Compacted.{Compacted}
 use Rattle.compact_store.specs.declared.compacting.Compacted.TheVariants.{Done, NoVersion, AlreadyThere, PageLimit, Damaged, NoMemory, Disk}
 

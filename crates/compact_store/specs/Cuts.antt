@@ -2,9 +2,9 @@
 use Rattle.std.specs.Prelude.{ℕ, zero, suc, ◌+◌, ◌-◌, nat_le, List, [], ◌∷◌, ◌++◌, map, take, drop}
 use Rattle.std.specs.List.{prefix_len}
 use Rattle.bw_types.specs.History.{History}
-use Rattle.history_list.specs.Batches.{batches_from}
-use Rattle.history_list.specs.Events.{change_in}
-use Rattle.history_list.specs.declared.event.Event.{Event}
+use Rattle.page_warehouse.specs.Batches.{batches_from}
+use Rattle.page_warehouse.specs.Events.{change_in}
+use Rattle.page_warehouse.specs.declared.event.Event.{Event}
 use Rattle.compact_store.specs.Kept.{most_adds}
 
 -- how many events from the first on are of versions up to this one

@@ -2,8 +2,8 @@
 use Rattle.std.specs.Prelude.{◌≡◌, ℕ, ◌+◌, ◌*◌, ◌^◌, ◌<◌, ◌≤◌, List, length, map}
 use Rattle.bw_types.specs.History.{History, live}
 use Rattle.bw_types.specs.declared.change.Change.TheVariants.{Add}
-use Rattle.history_list.specs.Events.{AreEventsOf, change_in}
-use Rattle.history_list.specs.declared.event.Event.{Event}
+use Rattle.page_warehouse.specs.Events.{AreEventsOf, change_in}
+use Rattle.page_warehouse.specs.declared.event.Event.{Event}
 use Rattle.compact_store.specs.Kept.{most_adds}
 
 -- These are adds of the objects that are live at the version, and all events of the history.

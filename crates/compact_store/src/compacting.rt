@@ -1,7 +1,7 @@
 //! A second warehouse, with the history from a version on.
 ghost use Rattle.std.specs.Prelude.{◌≡◌, ◌≢◌, ◌⊎◌, ◌<◌, ◌≤◌, ℕ, true, IsTrue};
 ghost use Rattle.bw_types.specs.History.{History, last_version};
-ghost use Rattle.counts.specs.Count.{Rose};
+ghost use Rattle.ports.specs.Count.{Rose};
 ghost use Rattle.page_warehouse.specs.Shown.{HasNewForm, HoldsHistory, disk_charge, disk_in, meta_in, params_in};
 ghost use Rattle.redo_journal.specs.Gates.{is_empty};
 ghost use Rattle.warehouse.specs.Left.{IsAsBefore};
@@ -13,9 +13,8 @@ ghost use Rattle.compact_store.specs.Putting.{IsReady, is_written};
 use crate::filling::fill;
 use crate::keeping::{events_after, gather_kept};
 use dom_index::DomIndex;
-use history_list::GatherFault;
 use page_disk::Disk;
-use page_warehouse::{Created, Warehouse, create, created_holds};
+use page_warehouse::{Created, GatherFault, Warehouse, create, created_holds};
 use std::alloc::Global;
 
 /// What became of a second disk that was to have a history from a version on.

@@ -3,7 +3,7 @@ ghost use Rattle.std.specs.Prelude.{◌≡◌, ◌≢◌, ◌+◌, ◌<◌, ◌�
 ghost use Rattle.bw_types.specs.History.{changes};
 ghost use Rattle.bw_types.specs.Lawful.{IsLawful};
 ghost use Rattle.bw_types.specs.declared.params.Params.{Params};
-ghost use Rattle.counts.specs.Count.{Rose};
+ghost use Rattle.ports.specs.Count.{Rose};
 ghost use Rattle.compact_store.specs.Compacted.{LeavesPart, second_out};
 ghost use Rattle.compact_store.specs.Cuts.{batches_of};
 ghost use Rattle.compact_store.specs.Ended.{refusal_of};
@@ -13,10 +13,9 @@ use crate::Compacted;
 use crate::keeping::row_count;
 use crate::putting::{put_by_size, put_versions};
 use dom_index::DomIndex;
-use history_list::Event;
 use page_disk::Disk;
 use page_space::{OpenFault, OpenRefused};
-use page_warehouse::{Warehouse, holding_laws};
+use page_warehouse::{Event, Warehouse, holding_laws};
 use std::alloc::Global;
 
 /// Writes a history to a disk that has a new warehouse: so many batches of the adds, 4096 each, and then those of the later events.

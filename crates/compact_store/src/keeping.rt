@@ -2,10 +2,10 @@
 ghost use Rattle.std.specs.Prelude.{◌≡◌, ◌≢◌, ◌≤◌, ◌+◌, ◌<◌, ◌^◌, ◌↔◌, ℕ, true, IfOk, IsTrue, Err, length, map, drop};
 ghost use Rattle.bw_types.specs.History.{History, live};
 ghost use Rattle.bw_types.specs.declared.change.Change.TheVariants.{Add};
-ghost use Rattle.counts.specs.Count.{Rose};
+ghost use Rattle.ports.specs.Count.{Rose};
 ghost use Rattle.history_laws.specs.Living.{is_live_at, objects_at};
-ghost use Rattle.history_list.specs.Events.{AreEventsOf, change_in};
-ghost use Rattle.history_list.specs.Told.{HasNumbersOf};
+ghost use Rattle.page_warehouse.specs.Events.{AreEventsOf, change_in};
+ghost use Rattle.page_warehouse.specs.Told.{HasNumbersOf};
 ghost use Rattle.page_warehouse.specs.Shown.{HasNewForm, HoldsHistory, disk_charge, disk_in, meta_in, params_in};
 ghost use Rattle.warehouse.specs.Left.{IsAsBefore};
 ghost use Rattle.compact_store.specs.Cuts.{count_to};
@@ -14,9 +14,8 @@ ghost use Rattle.compact_store.specs.Keeping.{HaveRoom, IsKept};
 use bw_types::Dated;
 use dom_index::DomIndex;
 use history_laws::lives_tell_live_objects;
-use history_list::{Event, GatherFault, gather, gather_lives};
 use page_disk::Disk;
-use page_warehouse::Warehouse;
+use page_warehouse::{Event, GatherFault, Warehouse, gather, gather_lives};
 use std::alloc::{AllocError, Global};
 
 // The number of the meta page.

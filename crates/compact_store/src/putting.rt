@@ -2,8 +2,8 @@
 ghost use Rattle.std.specs.Prelude.{◌≡◌, ◌∷◌, ◌-◌, ◌+◌, ◌≤◌, [], List, map};
 ghost use Rattle.bw_types.specs.Lawful.{staged_rows};
 ghost use Rattle.bw_types.specs.declared.change.Change.{Change};
-ghost use Rattle.history_list.specs.Batches.{batches_from};
-ghost use Rattle.history_list.specs.Events.{change_in};
+ghost use Rattle.page_warehouse.specs.Batches.{batches_from};
+ghost use Rattle.page_warehouse.specs.Events.{change_in};
 ghost use Rattle.page_warehouse.specs.Shown.{disk_in};
 ghost use Rattle.compact_store.specs.Cuts.{batches_by_size};
 ghost use Rattle.compact_store.specs.Putting.{Puts, outcome_of};
@@ -12,9 +12,8 @@ use crate::Compacted;
 use crate::staging::{rows_fit, stage};
 use bw_types::Row;
 use dom_index::DomIndex;
-use history_list::{Event, count_of};
 use page_disk::Disk;
-use page_warehouse::Warehouse;
+use page_warehouse::{Event, Warehouse, count_of};
 use std::alloc::Global;
 use warehouse::{Committed, House};
 

@@ -3,10 +3,10 @@ ghost use Rattle.std.specs.Prelude.{◌≡◌, OnOk, map};
 ghost use Rattle.std.specs.List.{list_all};
 ghost use Rattle.bw_types.specs.Fits.{IsInRange, row_fits};
 ghost use Rattle.bw_types.specs.Lawful.{staged_rows};
-ghost use Rattle.history_list.specs.Events.{change_in};
+ghost use Rattle.page_warehouse.specs.Events.{change_in};
 
 use bw_types::{Params, Row, object_fits};
-use history_list::{Event, first_row};
+use page_warehouse::{Event, first_row};
 use std::alloc::AllocError;
 
 /// Puts the rows that stage a batch, whose events these are, in place of those that were there.

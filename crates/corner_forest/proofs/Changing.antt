@@ -2,9 +2,9 @@
 use Rattle.std.proofs.Common.{◌≡◌, ℕ, suc, ◌+◌, ◌<◌, ◌≤◌, inl, inr, List, [], ◌∷◌, ◌++◌, length, refl, sym, ap, ◌∙◌, subst, arith}
 use Rattle.bw_types.specs.declared.point.Point.{Point}
 use Rattle.bw_types.specs.declared.tree.Tree.{Tree}
-use Rattle.page_ports.specs.Pages.{PageMap}
-use Rattle.page_ports.specs.Frame.{names_page, AgreeOn, AreApart, AreInMap, Replaces}
-use Rattle.page_ports.specs.FrameLaws.{names_page-append, Replaces-agree, Replaces-apart, Replaces-beside, Replaces-same}
+use Rattle.ports.specs.Pages.{PageMap}
+use Rattle.ports.specs.Frame.{names_page, AgreeOn, AreApart, AreInMap, Replaces}
+use Rattle.ports.specs.FrameLaws.{names_page-append, Replaces-agree, Replaces-apart, Replaces-beside, Replaces-same}
 use Rattle.page_layout.specs.Footprint.{NamesNoneTwice}
 use Rattle.std.proofs.lemmas.Bool.{or_left, or_right, or_cases}
 use Rattle.corner_forest.specs.Trees.{EachStands, trees_pages}

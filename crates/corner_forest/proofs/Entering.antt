@@ -6,11 +6,11 @@ use Rattle.std.proofs.lemmas.List.Elements.{All-cons, All-nil, All-head, All-tai
 use Rattle.bw_types.specs.declared.params.Params.{Params}
 use Rattle.bw_types.specs.declared.point.Point.{Point}
 use Rattle.bw_types.specs.declared.tree.Tree.{Tree}
-use Rattle.page_ports.specs.Pages.{PageMap}
-use Rattle.page_ports.specs.Frame.{AgreeOn, AreInMap}
-use Rattle.page_ports.specs.FrameLaws.{Replaces-then, Replaces-same}
+use Rattle.ports.specs.Pages.{PageMap}
+use Rattle.ports.specs.Frame.{AgreeOn, AreInMap}
+use Rattle.ports.specs.FrameLaws.{Replaces-then, Replaces-same}
 use Rattle.page_layout.specs.Footprint.{NamesNoneTwice}
-use Rattle.poly_moments.specs.PlaneSums.{Entered, EnteredFits}
+use Rattle.corner_weights.specs.PlaneSums.{Entered, EnteredFits}
 use Rattle.dom_index.specs.declared.index.DomIndex.{Ghosts}
 use Rattle.dom_index.specs.Adding.{TreeTakes}
 use Rattle.corner_forest.specs.Entries.{AreNextEntries, batch_points, root_count, root_points, with_entries}

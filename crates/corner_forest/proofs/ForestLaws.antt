@@ -9,10 +9,10 @@ use Rattle.bw_types.specs.Empty.{empty_tree}
 use Rattle.bw_types.specs.declared.params.Params.{Params}
 use Rattle.bw_types.specs.declared.point.Point.{Point}
 use Rattle.bw_types.specs.declared.tree.Tree.{Tree}
-use Rattle.page_ports.specs.Frame.{AgreeOn, AreInMap}
-use Rattle.page_ports.specs.Pages.{PageMap}
+use Rattle.ports.specs.Frame.{AgreeOn, AreInMap}
+use Rattle.ports.specs.Pages.{PageMap}
 use Rattle.page_layout.specs.Footprint.{NamesNoneTwice}
-use Rattle.poly_moments.specs.PlaneSums.{Entered, EnteredFits}
+use Rattle.corner_weights.specs.PlaneSums.{Entered, EnteredFits}
 use Rattle.dom_index.specs.declared.index.DomIndex.{Ghosts}
 use Rattle.corner_forest.specs.Entries.{corner_count, entry_points, root_count, root_points}
 use Rattle.corner_forest.specs.Laws.{EmptyForestStands, ForestPagesAreThere, ForestStandsByItsPages, EntryStandsAnywhere, TreesCountTheirPoints}

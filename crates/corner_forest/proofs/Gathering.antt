@@ -5,9 +5,9 @@ use Rattle.std.proofs.lemmas.Bool.{cases_lt}
 use Rattle.std.proofs.lemmas.List.{append-nil, drop_all, get_or-append_right, get_or_append_left, get_or_default}
 use Rattle.bw_types.specs.declared.params.Params.{Params}
 use Rattle.bw_types.specs.declared.point.Point.{Point}
-use Rattle.poly_moments.specs.PlaneSums.{Entered}
-use Rattle.poly_moments.specs.Powers.{ArePowersOf}
-use Rattle.poly_moments.specs.declared.powers.BoxPowers.{BoxPowers}
+use Rattle.corner_weights.specs.PlaneSums.{Entered}
+use Rattle.corner_weights.specs.Powers.{ArePowersOf}
+use Rattle.corner_weights.specs.declared.powers.BoxPowers.{BoxPowers}
 use Rattle.corner_forest.specs.BatchPowers.{ArePowersOfFirst}
 use Rattle.corner_forest.specs.Enters.{all_entered_at, entered_at}
 use Rattle.corner_forest.specs.Entries.{added_points, batch_points, entry_point, points_below}

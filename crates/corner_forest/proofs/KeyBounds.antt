@@ -9,8 +9,8 @@ use Rattle.bw_types.specs.Tally.{each_below}
 use Rattle.bw_types.specs.declared.object.Object.{Object}
 use Rattle.bw_types.specs.declared.params.Params.{Params}
 use Rattle.bw_types.specs.declared.query.Query.{Query}
-use Rattle.box_corners.specs.Subsets.{is_in_subset}
-use Rattle.box_corners.specs.Corners.{of_first_dimensions, object_end, query_end, meet_bound, has_bound, meet_corner, corner_keys, integral_corner}
+use Rattle.corner_weights.specs.Subsets.{is_in_subset}
+use Rattle.corner_weights.specs.Corners.{of_first_dimensions, object_end, query_end, meet_bound, has_bound, meet_corner, corner_keys, integral_corner}
 use Rattle.dom_index.specs.Points.{AreKeysBelow}
 
 at_one : (n i : ℕ) (p : ℕ → Bool) → each_below n p ≡ true → i < n → p i ≡ true

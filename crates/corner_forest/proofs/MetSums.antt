@@ -13,11 +13,11 @@ use Rattle.bw_types.specs.Tally.{int_sum_by}
 use Rattle.bw_types.specs.declared.params.Params.{Params}
 use Rattle.bw_types.specs.declared.point.Point.{Point}
 use Rattle.bw_types.specs.declared.query.Query.{Query}
-use Rattle.box_corners.specs.Entries.{Entry, EntryFits, SumsMeetByCorners, met_weight, sum_at_corner, weight_at}
-use Rattle.box_corners.specs.Subsets.{residue_signed_by}
-use Rattle.box_corners.specs.Sums.{residue_sum_below}
-use Rattle.box_corners.specs.SumLaws.{sum_below_of_equal}
-use Rattle.poly_moments.specs.PlaneSums.{Entered, EnteredFits, counts_at}
+use Rattle.corner_weights.specs.Entries.{Entry, EntryFits, SumsMeetByCorners, met_weight, sum_at_corner, weight_at}
+use Rattle.corner_weights.specs.Subsets.{residue_signed_by}
+use Rattle.corner_weights.specs.Sums.{residue_sum_below}
+use Rattle.corner_weights.specs.SumLaws.{sum_below_of_equal}
+use Rattle.corner_weights.specs.PlaneSums.{Entered, EnteredFits, counts_at}
 use Rattle.corner_forest.specs.Answers.{where_met, sum_of, count_of}
 use Rattle.corner_forest.specs.Corners.{value_at}
 use Rattle.corner_forest.specs.Entries.{as_met, corner_count, entered_residue, root_points, sum_and_count}

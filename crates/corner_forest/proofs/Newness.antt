@@ -11,9 +11,9 @@ use Rattle.bw_types.specs.Tally.{each_below}
 use Rattle.bw_types.specs.declared.object.Object.{Object}
 use Rattle.bw_types.specs.declared.params.Params.{Params}
 use Rattle.bw_types.specs.declared.point.Point.{Point}
-use Rattle.box_corners.specs.Corners.{corner_keys, object_end, of_first_dimensions}
-use Rattle.box_corners.specs.Entries.{corner_point}
-use Rattle.poly_moments.specs.PlaneSums.{Entered, EnteredFits, corner_number, plane_point}
+use Rattle.corner_weights.specs.Corners.{corner_keys, object_end, of_first_dimensions}
+use Rattle.corner_weights.specs.Entries.{corner_point}
+use Rattle.corner_weights.specs.PlaneSums.{Entered, EnteredFits, corner_number, plane_point}
 use Rattle.dom_index.specs.Points.{IsNewPoint, keys_differ}
 use Rattle.corner_forest.specs.Entries.{IsNextEntry, as_met, corner_count, entry_point, entry_points, point_count, root_points}
 

@@ -3,11 +3,11 @@ use Rattle.std.proofs.Common.{◌≡◌, ℕ, zero, suc, ◌+◌, ◌*◌, ◌<�
 use Rattle.std.specs.List.{All, range_with_len}
 use Rattle.bw_types.specs.declared.point.Point.{Point}
 use Rattle.bw_types.specs.declared.tree.Tree.{Tree}
-use Rattle.page_ports.specs.Pages.{PageMap}
+use Rattle.ports.specs.Pages.{PageMap}
 use Rattle.dom_index.specs.declared.index.DomIndex.{Ghosts}
 use Rattle.std.proofs.Math.Nat.{mul-le-mul_right}
 use Rattle.std.proofs.lemmas.List.Elements.{All-take}
-use Rattle.box_corners.specs.Sums.{residue_sum_below}
+use Rattle.corner_weights.specs.Sums.{residue_sum_below}
 use Rattle.corner_forest.specs.Trees.{EachStands}
 
 pub stands_at : (S : Tree → List Point → Type 0) (P : ℕ → List Point) (from : ℕ) (ts : List Tree) (k : ℕ) (d : Tree) → EachStands S P from ts → k < length ts

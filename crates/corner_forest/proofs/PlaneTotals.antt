@@ -9,13 +9,13 @@ use Rattle.bw_types.specs.declared.params.Params.{Params}
 use Rattle.bw_types.specs.declared.point.Point.{Point}
 use Rattle.bw_types.specs.declared.query.Query.{Query}
 use Rattle.page_layout.specs.Three.{three-is}
-use Rattle.box_corners.specs.Corners.{integral_corner}
-use Rattle.box_corners.specs.Subsets.{residue_signed_by}
-use Rattle.box_corners.specs.Sums.{residue_sum_below}
-use Rattle.box_corners.specs.SumLaws.{sum_below_of_equal}
-use Rattle.poly_moments.specs.Integrals.{query_corner}
-use Rattle.poly_moments.specs.Planes.{plane_count, planes_value}
-use Rattle.poly_moments.specs.PlaneSums.{BelowByPlanes, Entered, EnteredFits, IntegralByPlanes, entered_below, integral_at, plane_points, summed_planes}
+use Rattle.corner_weights.specs.Corners.{integral_corner}
+use Rattle.corner_weights.specs.Subsets.{residue_signed_by}
+use Rattle.corner_weights.specs.Sums.{residue_sum_below}
+use Rattle.corner_weights.specs.SumLaws.{sum_below_of_equal}
+use Rattle.corner_weights.specs.Integrals.{query_corner}
+use Rattle.corner_weights.specs.Planes.{plane_count, planes_value}
+use Rattle.corner_weights.specs.PlaneSums.{BelowByPlanes, Entered, EnteredFits, IntegralByPlanes, entered_below, integral_at, plane_points, summed_planes}
 use Rattle.corner_forest.specs.Corners.{planes_at}
 use Rattle.corner_forest.specs.Entries.{corner_count, root_points}
 use Rattle.corner_forest.proofs.Newness.{length_root}

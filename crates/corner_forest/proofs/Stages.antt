@@ -1,10 +1,10 @@
 -- Calls on a stage, one after another.
 use Rattle.std.proofs.Common.{◌≡◌, ℕ, ◌+◌, ◌≤◌, IsTrue, Result, Ok, Err, sym, ◌∙◌, subst, arith}
-use Rattle.counts.specs.Count.{Rose}
-use Rattle.page_ports.specs.Calls.{Changes, WentOn}
-use Rattle.page_ports.specs.declared.page.StageFault.{StageFault}
-use Rattle.page_ports.specs.declared.page.StageFault.TheVariants.{Disk, NoMemory, PageLimit}
-use Rattle.page_ports.specs.declared.pages.Pages.{Ghosts}
+use Rattle.ports.specs.Count.{Rose}
+use Rattle.ports.specs.Calls.{Changes, WentOn}
+use Rattle.ports.specs.declared.page.StageFault.{StageFault}
+use Rattle.ports.specs.declared.page.StageFault.TheVariants.{Disk, NoMemory, PageLimit}
+use Rattle.ports.specs.declared.pages.Pages.{Ghosts}
 use Rattle.corner_forest.proofs.Exits.{exit_error}
 
 pub went_then : {P : Type 0} (g : Ghosts P) (a b c : ℕ) (old mid new : P) → WentOn g a old mid → WentOn g b mid new → g.allotted new ≤ g.allotted old + c → WentOn g c old new

@@ -9,7 +9,7 @@ use Rattle.bw_types.specs.Meets.{meets}
 use Rattle.bw_types.specs.Tally.{int_sum_by}
 use Rattle.bw_types.specs.declared.params.Params.{Params}
 use Rattle.bw_types.specs.declared.query.Query.{Query}
-use Rattle.poly_moments.specs.PlaneSums.{Entered, counts_at}
+use Rattle.corner_weights.specs.PlaneSums.{Entered, counts_at}
 use Rattle.corner_forest.specs.Answers.{where_met, sum_of, count_of}
 use Rattle.corner_forest.specs.Entries.{corner_count, sum_and_count}
 use Rattle.corner_forest.specs.Stands.{HasSmallWeight}

@@ -5,8 +5,8 @@ use Rattle.std.proofs.lemmas.List.{length-map}
 use Rattle.std.proofs.lemmas.Bool.{lt-ltb, le-ltb}
 use Rattle.bw_types.specs.declared.params.Params.{Params}
 use Rattle.bw_types.specs.declared.point.Point.{Point}
-use Rattle.box_corners.specs.Entries.{corner_point}
-use Rattle.poly_moments.specs.PlaneSums.{Entered, plane_point, plane_points}
+use Rattle.corner_weights.specs.Entries.{corner_point}
+use Rattle.corner_weights.specs.PlaneSums.{Entered, plane_point, plane_points}
 use Rattle.corner_forest.specs.Entries.{as_met, corner_count, entry_points, root_points}
 
 -- the points that a tree of each kind gets

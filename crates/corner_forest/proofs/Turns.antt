@@ -8,7 +8,7 @@ use Rattle.std.proofs.lemmas.List.{length-map}
 use Rattle.std.proofs.lemmas.List.Elements.{All-cons, All-head, All-map, All-tail}
 use Rattle.bw_types.specs.declared.params.Params.{Params}
 use Rattle.bw_types.specs.declared.point.Point.{Point}
-use Rattle.poly_moments.specs.PlaneSums.{Entered, EnteredFits}
+use Rattle.corner_weights.specs.PlaneSums.{Entered, EnteredFits}
 use Rattle.dom_index.specs.Adding.{AreNewInTurn, with_points}
 use Rattle.dom_index.specs.Points.{IsNewPoint}
 use Rattle.corner_forest.specs.BatchPowers.{HaveSmallWeights}

@@ -5,7 +5,7 @@ use Rattle.bw_types.specs.Tally.{int_sum_by}
 use Rattle.bw_types.specs.declared.object.Object.{Object}
 use Rattle.bw_types.specs.declared.params.Params.{Params}
 use Rattle.bw_types.specs.declared.query.Query.{Query}
-use Rattle.poly_moments.specs.PlaneSums.{Entered, counts_at}
+use Rattle.corner_weights.specs.PlaneSums.{Entered, counts_at}
 
 -- what an object gives where it meets the query
 abbrev pub where_met : Params → Query → ℤ → Object → ℤ

@@ -2,8 +2,8 @@
 use Rattle.std.specs.Prelude.{ℕ, ◌^◌, ◌<◌, ◌≤◌, IsSome, List, get_or, nat_abs}
 use Rattle.std.specs.List.{All}
 use Rattle.bw_types.specs.declared.params.Params.{Params}
-use Rattle.poly_moments.specs.Powers.{ArePowersOf}
-use Rattle.poly_moments.specs.declared.powers.BoxPowers.{BoxPowers}
+use Rattle.corner_weights.specs.Powers.{ArePowersOf}
+use Rattle.corner_weights.specs.declared.powers.BoxPowers.{BoxPowers}
 use Rattle.corner_forest.specs.declared.entry.Entry.{Entry}
 
 -- Where there is a degree, each of the first n powers are those of the box of the entry at the same place.

@@ -7,8 +7,8 @@ use Rattle.bw_types.specs.declared.params.Params.{Params}
 use Rattle.bw_types.specs.declared.point.Point.{Point}
 use Rattle.bw_types.specs.declared.query.Query.{Query}
 use Rattle.bw_types.specs.Keys.{query_key}
-use Rattle.box_corners.specs.Corners.{meet_corner, of_first_dimensions}
-use Rattle.poly_moments.specs.Planes.{plane_count}
+use Rattle.corner_weights.specs.Corners.{meet_corner, of_first_dimensions}
+use Rattle.corner_weights.specs.Planes.{plane_count}
 use Rattle.corner_forest.specs.Entries.{corner_count}
 
 -- the dominance sum of the points at the query's corner of the subset for meeting, and 0 where that is missing

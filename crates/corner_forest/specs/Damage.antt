@@ -4,9 +4,9 @@ use Rattle.bw_types.specs.Empty.{empty_tree}
 use Rattle.bw_types.specs.declared.params.Params.{Params}
 use Rattle.bw_types.specs.declared.query.Query.{Query}
 use Rattle.bw_types.specs.declared.tree.Tree.{Tree}
-use Rattle.page_ports.specs.Pages.{PageMap}
-use Rattle.box_corners.specs.Corners.{integral_corner, meet_corner}
-use Rattle.poly_moments.specs.Planes.{plane_count}
+use Rattle.ports.specs.Pages.{PageMap}
+use Rattle.corner_weights.specs.Corners.{integral_corner, meet_corner}
+use Rattle.corner_weights.specs.Planes.{plane_count}
 use Rattle.dom_index.specs.declared.index.DomIndex.{Ghosts}
 use Rattle.corner_forest.specs.Entries.{corner_count}
 

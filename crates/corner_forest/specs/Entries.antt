@@ -7,9 +7,9 @@ use Rattle.std.specs.List.{All, flat_map, range_with_len}
 use Rattle.bw_types.specs.Residues.{residue, opposite_residue}
 use Rattle.bw_types.specs.declared.params.Params.{Params}
 use Rattle.bw_types.specs.declared.point.Point.{Point}
-use Rattle.box_corners.specs.Entries.{Entry, corner_point}
-use Rattle.poly_moments.specs.Planes.{plane_count}
-use Rattle.poly_moments.specs.PlaneSums.{Entered, plane_point}
+use Rattle.corner_weights.specs.Entries.{Entry, corner_point}
+use Rattle.corner_weights.specs.Planes.{plane_count}
+use Rattle.corner_weights.specs.PlaneSums.{Entered, plane_point}
 
 -- how many subsets of the dimensions there are, and so corners of a box
 abbrev pub corner_count : Params → ℕ

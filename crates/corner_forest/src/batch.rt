@@ -3,10 +3,10 @@ ghost use Rattle.std.specs.Prelude.{◌≡◌, ◌≢◌, ◌+◌, ◌-◌, ◌^
 ghost use Rattle.std.specs.List.{All};
 ghost use Rattle.bw_types.specs.Fits.{IsInRange};
 ghost use Rattle.bw_types.specs.declared.point.Point.{Point};
-ghost use Rattle.page_ports.specs.Calls.{Changes};
+ghost use Rattle.ports.specs.Calls.{Changes};
 ghost use Rattle.page_layout.specs.TreeValue.{tree_fits};
-ghost use Rattle.poly_moments.specs.PlaneSums.{Entered};
-ghost use Rattle.poly_moments.specs.Powers.{ArePowersOf};
+ghost use Rattle.corner_weights.specs.PlaneSums.{Entered};
+ghost use Rattle.corner_weights.specs.Powers.{ArePowersOf};
 ghost use Rattle.dom_index.specs.Points.{AreKeysBelow};
 ghost use Rattle.corner_forest.specs.BatchDamage.{IsDamagedForBatch};
 ghost use Rattle.corner_forest.specs.BatchPowers.{ArePowersOfFirst, HaveSmallWeights};
@@ -19,9 +19,9 @@ use crate::forest::{Forest, corner_count, root_count};
 use crate::points::entry_point;
 use arrayvec::ArrayVec;
 use bw_types::{Params, Point, Tree};
+use corner_weights::{BoxPowers, box_powers};
 use dom_index::{DomIndex, add_all};
-use page_ports::{Stage, StageFault};
-use poly_moments::{BoxPowers, box_powers};
+use ports::{Stage, StageFault};
 use std::alloc::Global;
 
 /// Adds the corner points of the batch's objects to every tree, with the opposite weights where `minus`, all from this

@@ -6,7 +6,7 @@ ghost use Rattle.corner_forest.specs.Entries.{root_count, corner_count};
 
 use arrayvec::ArrayVec;
 use bw_types::{Params, Tree};
-use poly_moments::plane_count;
+use corner_weights::plane_count;
 
 /// The trees in which objects are entered: first those by subset, of which sums and counts are both read, and
 /// where there is a degree one for each plane.

@@ -2,11 +2,11 @@
 ghost use Rattle.std.specs.Prelude.{◌≡◌, ◌≢◌, ◌+◌, ◌*◌, ◌^◌, ◌<◌, ◌≤◌, ◌≤ℤ◌, ◌<ℤ◌, ℕ, true, List, length, ℤ, pos, neg_ℤ, Some, Err, IsTrue, IfOk};
 ghost use Rattle.bw_types.specs.Fits.{IsInRange, ends_fit};
 ghost use Rattle.bw_types.specs.declared.point.Point.{Point};
-ghost use Rattle.page_ports.specs.Calls.{OnlyReads};
-ghost use Rattle.box_corners.specs.Corners.{meet_corner as corner_to_meet};
-ghost use Rattle.box_corners.specs.Subsets.{residue_signed_by};
-ghost use Rattle.box_corners.specs.Sums.{residue_sum_below};
-ghost use Rattle.poly_moments.specs.PlaneSums.{Entered};
+ghost use Rattle.ports.specs.Calls.{OnlyReads};
+ghost use Rattle.corner_weights.specs.Corners.{meet_corner as corner_to_meet};
+ghost use Rattle.corner_weights.specs.Subsets.{residue_signed_by};
+ghost use Rattle.corner_weights.specs.Sums.{residue_sum_below};
+ghost use Rattle.corner_weights.specs.PlaneSums.{Entered};
 ghost use Rattle.corner_forest.specs.Answers.{count_of, sum_of};
 ghost use Rattle.corner_forest.specs.Corners.{value_at};
 ghost use Rattle.corner_forest.specs.Damage.{IsDamagedAtCorners};
@@ -15,12 +15,12 @@ ghost use Rattle.corner_forest.specs.Stands.{AreBalanced, ForestStands};
 ghost use Rattle.corner_forest.specs.Trees.{EachStands};
 
 use crate::forest::{Forest, corner_count};
-use box_corners::meeting::entries_meet_by_corners;
-use box_corners::{meet_corner, sign};
 use bw_types::residue_laws::residues_are_signed;
 use bw_types::{Params, Query, Tree, res_add, res_signed};
+use corner_weights::meeting::entries_meet_by_corners;
+use corner_weights::{meet_corner, sign};
 use dom_index::DomIndex;
-use page_ports::{PageFault, Pages};
+use ports::{PageFault, Pages};
 
 /// The total weight at a version of the entries whose objects meet the query.
 ///

@@ -3,11 +3,11 @@ ghost use Rattle.std.specs.Prelude.{◌≡◌, ◌≢◌, ◌+◌, ◌*◌, ◌^
 ghost use Rattle.bw_types.specs.Fits.{IsInRange, ends_fit};
 ghost use Rattle.bw_types.specs.Residues.{residue, signed_of};
 ghost use Rattle.bw_types.specs.declared.point.Point.{Point};
-ghost use Rattle.page_ports.specs.Calls.{OnlyReads};
-ghost use Rattle.box_corners.specs.Corners.{integral_corner as corner_of_integral, query_end as end_of_query};
-ghost use Rattle.poly_moments.specs.Integrals.{query_corner as corner_of_query};
-ghost use Rattle.poly_moments.specs.Planes.{plane_count, planes_value};
-ghost use Rattle.poly_moments.specs.PlaneSums.{Entered, entered_below, integral_at};
+ghost use Rattle.ports.specs.Calls.{OnlyReads};
+ghost use Rattle.corner_weights.specs.Corners.{integral_corner as corner_of_integral, query_end as end_of_query};
+ghost use Rattle.corner_weights.specs.Integrals.{query_corner as corner_of_query};
+ghost use Rattle.corner_weights.specs.Planes.{plane_count, planes_value};
+ghost use Rattle.corner_weights.specs.PlaneSums.{Entered, entered_below, integral_at};
 ghost use Rattle.dom_index.specs.Points.{AreKeysBelow};
 ghost use Rattle.corner_forest.specs.Corners.{keys_below, planes_at};
 ghost use Rattle.corner_forest.specs.Damage.{IsDamagedForIntegral, IsDamagedInPlanes};
@@ -17,13 +17,12 @@ ghost use Rattle.corner_forest.specs.Trees.{EachStands};
 
 use crate::forest::{Forest, corner_count};
 use arrayvec::ArrayVec;
-use box_corners::{integral_corner, sign};
 use bw_types::residue_laws::residues_are_signed;
 use bw_types::{Kind, Query, res_add, res_signed};
+use corner_weights::integrals::{below_by_planes, integral_by_planes};
+use corner_weights::{eval, integral_corner, plane_count, sign};
 use dom_index::DomIndex;
-use page_ports::{PageFault, Pages};
-use poly_moments::integrals::{below_by_planes, integral_by_planes};
-use poly_moments::{eval, plane_count};
+use ports::{PageFault, Pages};
 
 /// The total at a version of the integrals of the entries' value functions over their common parts with the query,
 /// times 6 for each dimension, read as a signed number of 128 bits.

@@ -2,17 +2,16 @@
 ghost use Rattle.std.specs.Prelude.{◌≡◌, ◌+◌, ◌*◌, ◌^◌, ◌<◌, IsTrue, IsSome, nat_lt, if◌then◌else◌};
 ghost use Rattle.bw_types.specs.Fits.{IsInRange, object_fits};
 ghost use Rattle.bw_types.specs.Keys.{point_key as key_of_point};
-ghost use Rattle.box_corners.specs.Corners.{corner_keys};
+ghost use Rattle.corner_weights.specs.Corners.{corner_keys};
 ghost use Rattle.dom_index.specs.Points.{AreKeysBelow};
-ghost use Rattle.poly_moments.specs.Powers.{ArePowersOf};
+ghost use Rattle.corner_weights.specs.Powers.{ArePowersOf};
 ghost use Rattle.corner_forest.specs.Enters.{entered_at};
 ghost use Rattle.corner_forest.specs.Entries.{corner_count as count_of_corners, entered_residue, entry_point as point_of_entry, root_count};
 
 use crate::entry::Entry;
 use crate::forest::corner_count;
-use box_corners::object_corner;
 use bw_types::{Object, Params, Point, point_key, res_neg, res_of};
-use poly_moments::{BoxPowers, plane_weight_by};
+use corner_weights::{BoxPowers, object_corner, plane_weight_by};
 
 /// The entry's point in a tree; in a plane that of this corner, by the powers of the object's box.
 pub fn entry_point(

@@ -13,7 +13,7 @@ use Rattle.bw_types.specs.declared.query.Kind.TheVariants as kind
 use Rattle.csv_rows.specs.Fields.{field_at, line_fields}
 use Rattle.csv_rows.specs.Numbers.{number_of, signed_of}
 use Rattle.csv_rows.specs.declared.input.Input.{Input}
-use Rattle.csv_rows.specs.declared.input.Input.TheVariants.{Stage, Commit, Forget, Ask}
+use Rattle.csv_rows.specs.declared.input.Input.TheVariants.{Stage, Commit, Drop, Ask}
 
 -- what is made of a value, where there is one
 abbrev pub given : {A B : Type 0} → Option A → (A → Option B) → Option B
@@ -128,7 +128,7 @@ row_of params fields =
     else (if bytes_eq (field_at fields 0) (codes "move") then staged_object params fields row.Move
     else (if bytes_eq (field_at fields 0) (codes "withdraw") then staged_withdrawal fields
     else (if bytes_eq (field_at fields 0) (codes "commit") then of_session fields Commit
-    else (if bytes_eq (field_at fields 0) (codes "drop") then of_session fields Forget
+    else (if bytes_eq (field_at fields 0) (codes "drop") then of_session fields Drop
     else (if bytes_eq (field_at fields 0) (codes "sum") then asked params fields kind.Sum
     else (if bytes_eq (field_at fields 0) (codes "count") then asked params fields kind.Count
     else (if bytes_eq (field_at fields 0) (codes "integral") then asked params fields kind.Integral
@@ -150,5 +150,5 @@ input params line = if nat_le (length line) longest_line then given (line_fields
 abbrev pub InputFits : Params → Input → Type 0
 InputFits params (Stage session r) = (1 ≤ session) × (session ≤ 16) × IsTrue (row_fits params r)
 InputFits params (Commit session) = (1 ≤ session) × (session ≤ 16)
-InputFits params (Forget session) = (1 ≤ session) × (session ≤ 16)
+InputFits params (Drop session) = (1 ≤ session) × (session ≤ 16)
 InputFits params (Ask version q) = IsTrue (query_fits params q)

@@ -12,7 +12,7 @@ use Rattle.line_reader.specs.Lines.{lines}
 use Rattle.csv_rows.specs.Input.{input}
 use Rattle.csv_rows.specs.Replies.{reply_text}
 use Rattle.csv_rows.specs.declared.input.Input.{Input}
-use Rattle.csv_rows.specs.declared.input.Input.TheVariants.{Stage, Commit, Forget, Ask}
+use Rattle.csv_rows.specs.declared.input.Input.TheVariants.{Stage, Commit, Drop, Ask}
 use Rattle.csv_rows.specs.declared.reply.Reply.{Reply}
 use Rattle.csv_rows.specs.declared.reply.Reply.TheVariants.{Version, Refused, Dropped, Answer, Bad, Full, NoVersion}
 
@@ -65,7 +65,7 @@ ask_step params n s version q =
 abbrev pub input_step : Params → ℕ → State → Input → Step
 input_step params n s (Stage session r) = stage_step n s session r
 input_step params n s (Commit session) = commit_step s session (first_refusal params s.history (rows_of s session))
-input_step params n s (Forget session) = record { state = with_rows s session []; reply = Some (Dropped session) }
+input_step params n s (Drop session) = record { state = with_rows s session []; reply = Some (Dropped session) }
 input_step params n s (Ask version q) = ask_step params n s (unwrap_or version (last_version s.history)) q
 
 -- the step on line number n

@@ -8,7 +8,7 @@ use Rattle.bw_types.specs.declared.query.Kind.{Kind}
 use Rattle.bw_types.specs.declared.query.Kind.TheVariants.{Count, Integral, Sum}
 use Rattle.csv_rows.specs.Input.{input}
 use Rattle.csv_rows.specs.declared.input.Input.{Input}
-use Rattle.csv_rows.specs.declared.input.Input.TheVariants.{Ask, Commit, Forget, Stage}
+use Rattle.csv_rows.specs.declared.input.Input.TheVariants.{Ask, Commit, Drop, Stage}
 
 -- a warehouse of some dimensions, with or without a degree, whose coordinates are numbers
 abbrev pub plain : ℕ → Option ℕ → Params
@@ -40,7 +40,7 @@ AddsSpell =
 abbrev pub SessionRowsSpell : Type 0
 SessionRowsSpell =
     spelled (plain 1 None) (codes "move,16,7,4294967294,4294967294,-0" ∷ codes "withdraw,3,18446744073709551615" ∷ codes "commit,9" ∷ codes "drop,0016" ∷ [])
-    ≡ Some (Stage 16 (Move (flat_object 7 4294967294 4294967294 (pos 0)))) ∷ Some (Stage 3 (Withdraw 18446744073709551615)) ∷ Some (Commit 9) ∷ Some (Forget 16) ∷ []
+    ≡ Some (Stage 16 (Move (flat_object 7 4294967294 4294967294 (pos 0)))) ∷ Some (Stage 3 (Withdraw 18446744073709551615)) ∷ Some (Commit 9) ∷ Some (Drop 16) ∷ []
 
 -- queries; the word `now` may stand in quotes
 abbrev pub QueriesSpell : Type 0

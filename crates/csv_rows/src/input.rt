@@ -9,8 +9,8 @@ pub enum Input {
     Stage { session: u8, row: Row },
     /// Commit what the session, 1 to 16, has staged.
     Commit { session: u8 },
-    /// Forget what the session, 1 to 16, has staged: `drop`.
-    Forget { session: u8 },
+    /// Drop what the session, 1 to 16, has staged: `drop`.
+    Drop { session: u8 },
     /// Answer the query at the version, or at the last one where none is given: `now`.
     Ask { version: Option<u32>, query: Query },
 }

@@ -133,7 +133,7 @@ fn row_of(params: &Params, fields: &Fields) -> Option<Input>
         Some(Input::Commit { session })
     } else if word == b"drop".as_slice() {
         let session = lone_session(fields)?;
-        Some(Input::Forget { session })
+        Some(Input::Drop { session })
     } else if word == b"sum".as_slice() {
         query(params, fields, Kind::Sum)
     } else if word == b"count".as_slice() {

@@ -4,9 +4,9 @@ use Rattle.std.proofs.lemmas.Bool.{cases_lt, or_left, or_right, or_cases, eqb-tr
 use Rattle.bw_types.specs.Empty.{empty_tree}
 use Rattle.bw_types.specs.declared.point.Point.{Point}
 use Rattle.bw_types.specs.declared.tree.Tree.{Tree}
-use Rattle.page_ports.specs.Frame.{AgreeOn, AreInMap, names_page}
-use Rattle.page_ports.specs.FrameLaws.{names_page-append}
-use Rattle.page_ports.specs.Pages.{PageMap}
+use Rattle.ports.specs.Frame.{AgreeOn, AreInMap, names_page}
+use Rattle.ports.specs.FrameLaws.{names_page-append}
+use Rattle.ports.specs.Pages.{PageMap}
 use Rattle.cut_parts.specs.Standing.{BordersBalanced, HaveLaws, PartBalanced, PartStands, part_pages}
 use Rattle.cut_parts.specs.declared.border_tree.BorderTree.{Ghosts}
 use Rattle.cut_parts.specs.Parts.{Part, Leaf, Split, BordersStand, border_points, points_of}

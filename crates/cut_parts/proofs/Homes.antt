@@ -2,7 +2,7 @@
 use Rattle.std.proofs.Common.{◌≡◌, ℕ, Option, Some, None, List, [], ◌∷◌, refl}
 use Rattle.bw_types.specs.declared.point.Point.{Point}
 use Rattle.bw_types.specs.declared.tree.Tree.{Tree}
-use Rattle.page_ports.specs.Pages.{PageMap}
+use Rattle.ports.specs.Pages.{PageMap}
 use Rattle.cut_parts.specs.Parts.{Part, Leaf, Split, BordersStand, HasShape, IsParted, points_of}
 use Rattle.cut_parts.specs.Spelling.{Holds, IsSpelled, at_page, first_page, is_cuts, nodes_in, nodes_of, pages_of}
 use Rattle.page_layout.specs.declared.cut_page.CutNode.TheVariants.{Entry}

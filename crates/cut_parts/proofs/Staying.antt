@@ -1,8 +1,8 @@
 -- Pages that stay as they are, through one change after another.
 use Rattle.std.proofs.Common.{◌≡◌, ℕ, true, inl, inr, List, Option, None, Some, IsSome, sym, subst, ◌∙◌}
 use Rattle.std.proofs.lemmas.Bool.{cases_Bool}
-use Rattle.page_ports.specs.Frame.{Replaces, names_page}
-use Rattle.page_ports.specs.Pages.{PageMap}
+use Rattle.ports.specs.Frame.{Replaces, names_page}
+use Rattle.ports.specs.Pages.{PageMap}
 use Rattle.cut_parts.specs.Borders.{OthersStay}
 
 not_missing : (o : Option (List ℕ)) → o ≡ None → IsSome o → ⊥

@@ -3,7 +3,7 @@ use Rattle.std.proofs.Common.{◌≡◌, ℕ, zero, suc, ◌-◌, ◌*◌, ◌�
 use Rattle.std.proofs.lemmas.Bool.{le-leb, lt-leb}
 use Rattle.std.specs.Option.{option_map_or}
 use Rattle.bw_types.specs.declared.tree.Tree.{Tree}
-use Rattle.page_ports.specs.Pages.{PageMap}
+use Rattle.ports.specs.Pages.{PageMap}
 use Rattle.cut_parts.specs.Parts.{Part, Leaf, Split, HasShape}
 use Rattle.cut_parts.specs.Spelling.{Holds, IsSpelled, at_page, is_cuts, is_leaf, nodes_in, nodes_of, part_in, points_in}
 use Rattle.page_layout.specs.declared.cut_page.CutNode.{CutNode}

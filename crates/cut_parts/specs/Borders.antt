@@ -4,10 +4,10 @@ use Rattle.std.specs.List.{All}
 use Rattle.bw_types.specs.Empty.{empty_tree}
 use Rattle.bw_types.specs.declared.point.Point.{Point}
 use Rattle.bw_types.specs.declared.tree.Tree.{Tree}
-use Rattle.page_ports.specs.Frame.{AgreeOn, AreInMap, Replaces}
-use Rattle.page_ports.specs.Pages.{PageMap}
-use Rattle.page_ports.specs.declared.page.PageFault.{PageFault}
-use Rattle.page_ports.specs.declared.page.PageFault.TheVariants.{Damaged, Disk}
+use Rattle.ports.specs.Frame.{AgreeOn, AreInMap, Replaces}
+use Rattle.ports.specs.Pages.{PageMap}
+use Rattle.ports.specs.declared.page.PageFault.{PageFault}
+use Rattle.ports.specs.declared.page.PageFault.TheVariants.{Damaged, Disk}
 use Rattle.page_layout.specs.Footprint.{NamesNoneTwice}
 use Rattle.dom_index.specs.Points.{AreKeysBelow, keys_differ}
 use Rattle.bw_types.specs.Depths.{IsCost, NeverFalls}

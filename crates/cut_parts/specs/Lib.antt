@@ -6,3 +6,9 @@ pub mod Regions
 pub mod Damage
 pub mod Reach
 pub mod Laws
+pub mod Fitting
+pub mod Widest
+pub mod Medians
+pub mod Nodes
+pub mod Places
+pub mod PageRegions

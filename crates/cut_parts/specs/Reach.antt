@@ -8,8 +8,8 @@ use Rattle.bw_types.specs.Empty.{empty_tree}
 use Rattle.bw_types.specs.Without.{without_dimension}
 use Rattle.bw_types.specs.declared.point.Point.{Point}
 use Rattle.bw_types.specs.declared.tree.Tree.{Tree}
-use Rattle.page_ports.specs.Frame.{AreInMap, Replaces, names_page}
-use Rattle.page_ports.specs.Pages.{PageMap}
+use Rattle.ports.specs.Frame.{AreInMap, Replaces, names_page}
+use Rattle.ports.specs.Pages.{PageMap}
 use Rattle.page_layout.specs.declared.cut_page.CutNode.{CutNode}
 use Rattle.page_layout.specs.declared.cut_page.CutNode.TheVariants.{Entry, Cut}
 use Rattle.cut_parts.specs.Borders.{MayBeBuilt, OthersStay}

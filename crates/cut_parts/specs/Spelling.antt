@@ -6,7 +6,7 @@ use Rattle.std.specs.Prelude.{◌≡◌, ℕ, zero, suc, ◌-◌, nat_le, if◌t
 use Rattle.std.specs.Option.{option_map_or}
 use Rattle.bw_types.specs.declared.point.Point.{Point}
 use Rattle.bw_types.specs.declared.tree.Tree.{Tree}
-use Rattle.page_ports.specs.Pages.{PageMap}
+use Rattle.ports.specs.Pages.{PageMap}
 use Rattle.page_layout.specs.CutPage as cuts
 use Rattle.page_layout.specs.PointLeaf as leaf
 use Rattle.page_layout.specs.Spelled.{Spells}

@@ -3,15 +3,15 @@ ghost use Rattle.std.specs.Prelude.{◌≡◌, ◌≢◌, ◌+◌, ◌-◌, ◌*
 ghost use Rattle.bw_types.specs.Dominance.{dominance_sum};
 ghost use Rattle.bw_types.specs.declared.point.Point.{Point};
 ghost use Rattle.bw_types.specs.declared.tree.Tree.{Tree};
-ghost use Rattle.page_ports.specs.Calls.{Changes, Grows, OnlyReads};
-ghost use Rattle.page_ports.specs.Frame.{AreInMap, Replaces};
-ghost use Rattle.page_ports.specs.Pages.{PageMap};
+ghost use Rattle.ports.specs.Calls.{Changes, Grows, OnlyReads};
+ghost use Rattle.ports.specs.Frame.{AreInMap, Replaces};
+ghost use Rattle.ports.specs.Pages.{PageMap};
 ghost use Rattle.page_layout.specs.TreeValue.{IsTreeTyped, tree_fits};
 ghost use Rattle.dom_index.specs.Points.{AreKeysBelow, IsNewPoint};
 ghost use Rattle.cut_parts.specs.Borders.{HoldForTrees, IsBuiltOf, IsSum, MayBeBuilt, OthersStay, TakesPoint};
 
 use bw_types::{Point, Tree};
-use page_ports::{PageFault, Pages, Stage, StageFault};
+use ports::{PageFault, Pages, Stage, StageFault};
 use std::alloc::Global;
 
 /// Trees over one or two dimensions, of which the borders of trees over one dimension more are: multiversion trees, or trees of

@@ -1,8 +1,8 @@
 //! The laws of parts: a function here does nothing, and its contract is the law.
 ghost use Rattle.std.specs.Prelude.{◌≡◌, ◌≤◌, ◌*◌, ◌++◌, ◌∷◌, [], ℕ, Option, Some, None, List};
 ghost use Rattle.bw_types.specs.declared.tree.Tree.{Tree};
-ghost use Rattle.page_ports.specs.Frame.{AgreeOn, AreInMap};
-ghost use Rattle.page_ports.specs.Pages.{PageMap};
+ghost use Rattle.ports.specs.Frame.{AgreeOn, AreInMap};
+ghost use Rattle.ports.specs.Pages.{PageMap};
 ghost use Rattle.page_layout.specs.declared.cut_page.CutNode.{CutNode};
 ghost use Rattle.page_layout.specs.declared.cut_page.CutNode.TheVariants.{Entry};
 ghost use Rattle.cut_parts.specs.Borders.{HoldForTrees};

@@ -6,9 +6,9 @@ use Rattle.std.proofs.lemmas.List.{drop_all}
 use Rattle.bw_types.specs.Depths.{added_pages}
 use Rattle.bw_types.specs.declared.point.Point.{Point}
 use Rattle.bw_types.specs.declared.tree.Tree.{Tree}
-use Rattle.page_ports.specs.Pages.{PageMap}
-use Rattle.page_ports.specs.Frame.{Replaces}
-use Rattle.page_ports.specs.FrameLaws.{Replaces-then, Replaces-same}
+use Rattle.ports.specs.Pages.{PageMap}
+use Rattle.ports.specs.Frame.{Replaces}
+use Rattle.ports.specs.FrameLaws.{Replaces-then, Replaces-same}
 use Rattle.dom_index.specs.Adding.{AreNewInTurn, TreeTakes, with_points}
 use Rattle.dom_index.specs.AddingDamage.{AdditionsMayLeave, IsDamagedForPoints, MayLeave}
 use Rattle.dom_index.specs.Growth.{TakesMore, stays_one_page, step_growth, sum_below, tree_growth}

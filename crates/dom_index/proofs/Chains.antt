@@ -6,7 +6,7 @@ use Rattle.std.proofs.Math.Nat.{mod-add-mod}
 use Rattle.std.proofs.lemmas.Bool.{eq-eqb, ne_eqb}
 use Rattle.std.proofs.lemmas.List.Sums.{sum_by-append}
 use Rattle.bw_types.specs.Dominance.{dominance_sum, dominated_weight}
-use Rattle.page_ports.specs.Pages.{PageMap}
+use Rattle.ports.specs.Pages.{PageMap}
 use Rattle.page_layout.specs.PointLeaf.{IsPointLeaf, IsTyped, point_leaf_page, point_leaf_in}
 use Rattle.page_layout.specs.PointLeafLaws.{point_leaf_in-page}
 use Rattle.page_layout.specs.declared.point_leaf.PointLeaf.{PointLeaf}

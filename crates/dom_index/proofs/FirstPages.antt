@@ -1,7 +1,7 @@
 -- What a page tells, and a point put into it or before it.
 use Rattle.std.proofs.Common.{◌≡◌, ◌≢◌, ℕ, ◌<◌, ◌≤◌, ◌==◌, false, inl, inr, ◌⊎◌, List, [], ◌∷◌, ◌++◌, length, Option, Some, None, IsSome, refl, sym, ap, ◌∙◌, subst, arith}
 use Rattle.bw_types.specs.declared.point.Point.{Point}
-use Rattle.page_ports.specs.Pages.{PageMap, put_page}
+use Rattle.ports.specs.Pages.{PageMap, put_page}
 use Rattle.page_layout.specs.PointLeaf.{point_leaf_page}
 use Rattle.page_layout.specs.Spelled.{Spells}
 use Rattle.page_layout.specs.declared.point_leaf.PointLeaf.{PointLeaf}

@@ -3,8 +3,8 @@ use Rattle.std.proofs.Common.{◌≡◌, ◌≢◌, ℕ, zero, suc, ◌==◌, tr
 use Rattle.std.specs.Option.{option_map_or}
 use Rattle.std.proofs.lemmas.Bool.{eq-eqb, ne_eqb, cases_eq, or_left, or_right, or_cases, eqb-true}
 use Rattle.bw_types.specs.declared.point.Point.{Point}
-use Rattle.page_ports.specs.Pages.{PageMap}
-use Rattle.page_ports.specs.Frame.{names_page, AgreeOn, AreInMap}
+use Rattle.ports.specs.Pages.{PageMap}
+use Rattle.ports.specs.Frame.{names_page, AgreeOn, AreInMap}
 use Rattle.page_layout.specs.PointLeaf.{point_leaf_page, point_leaf_in}
 use Rattle.page_layout.specs.Spelled.{Spells}
 use Rattle.page_layout.specs.declared.point_leaf.PointLeaf.{PointLeaf}

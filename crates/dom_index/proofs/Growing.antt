@@ -4,8 +4,8 @@ use Rattle.std.proofs.lemmas.Bool.{eq-eqb, ne_eqb, cases_eq, or_from, false≢tr
 use Rattle.std.proofs.lemmas.List.Elements.{All-append, All-cons, All-nil}
 use Rattle.std.proofs.lemmas.List.Sorted.{IsPermutation-refl, IsPermutation-sym, IsPermutation-middle}
 use Rattle.bw_types.specs.declared.point.Point.{Point}
-use Rattle.page_ports.specs.Pages.{PageMap, put_page}
-use Rattle.page_ports.specs.Frame.{names_page, AgreeOn, AreInMap, Replaces}
+use Rattle.ports.specs.Pages.{PageMap, put_page}
+use Rattle.ports.specs.Frame.{names_page, AgreeOn, AreInMap, Replaces}
 use Rattle.page_layout.specs.Footprint.{NamesNoneTwice}
 use Rattle.page_layout.specs.PointLeaf.{IsPointLeaf, IsTyped, IsPointTyped, point_leaf_page}
 use Rattle.page_layout.specs.Spelled.{Spells}

@@ -1,9 +1,9 @@
 -- What a call on a stage leaves, where another call ends with its result.
 use Rattle.std.proofs.Common.{◌≡◌, ℕ, Result, Ok, Err}
-use Rattle.page_ports.specs.Calls.{Changes, Grows}
-use Rattle.page_ports.specs.declared.page.StageFault.{StageFault}
-use Rattle.page_ports.specs.declared.page.StageFault.TheVariants.{Disk, PageLimit}
-use Rattle.page_ports.specs.declared.pages.Pages.{Ghosts}
+use Rattle.ports.specs.Calls.{Changes, Grows}
+use Rattle.ports.specs.declared.page.StageFault.{StageFault}
+use Rattle.ports.specs.declared.page.StageFault.TheVariants.{Disk, PageLimit}
+use Rattle.ports.specs.declared.pages.Pages.{Ghosts}
 use Rattle.dom_index.proofs.Exits.{exit_error}
 
 pub changes_to_refusal : {P T U : Type 0} (g : Ghosts P) (most : ℕ) (old new : P) (r : Result T StageFault) (q : Result U StageFault) (fault : StageFault)

@@ -1,9 +1,9 @@
 -- Calls on a stage, one after another.
 use Rattle.std.proofs.Common.{◌≡◌, ℕ, ◌+◌, ◌-◌, ◌^◌, ◌≤◌, min, IsTrue, Result, Ok, Err, sym, ◌∙◌, subst, arith}
-use Rattle.page_ports.specs.Calls.{Changes, WentOn}
-use Rattle.page_ports.specs.declared.page.StageFault.{StageFault}
-use Rattle.page_ports.specs.declared.page.StageFault.TheVariants.{Disk, PageLimit}
-use Rattle.page_ports.specs.declared.pages.Pages.{Ghosts}
+use Rattle.ports.specs.Calls.{Changes, WentOn}
+use Rattle.ports.specs.declared.page.StageFault.{StageFault}
+use Rattle.ports.specs.declared.page.StageFault.TheVariants.{Disk, PageLimit}
+use Rattle.ports.specs.declared.pages.Pages.{Ghosts}
 use Rattle.dom_index.proofs.Exits.{exit_error}
 
 pub went_then : {P : Type 0} (g : Ghosts P) (a b c : ℕ) (old mid new : P) → WentOn g a old mid → WentOn g b mid new → g.allotted new ≤ g.allotted old + c → WentOn g c old new

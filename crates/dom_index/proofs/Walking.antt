@@ -2,7 +2,7 @@
 use Rattle.std.proofs.Common.{◌≡◌, ◌≢◌, ℕ, zero, suc, inl, inr, subst, ◌+◌, ◌-◌, ◌%◌, ◌^◌, ◌<◌, ◌≤◌, List, Some, sym, ap, ◌∙◌, arith}
 use Rattle.bw_types.specs.Dominance.{dominated_weight}
 use Rattle.bw_types.specs.declared.point.Point.{Point}
-use Rattle.page_ports.specs.Pages.{PageMap}
+use Rattle.ports.specs.Pages.{PageMap}
 use Rattle.page_layout.specs.Damage.{NothingBeside}
 use Rattle.page_layout.specs.DamageLaws.{damaged_here, damaged_further}
 use Rattle.page_layout.specs.PointLeaf.{point_leaf_page}

@@ -2,7 +2,7 @@
 use Rattle.std.specs.Prelude.{◌≡◌, ℕ, ◌⊎◌, IsSome, List, [], ◌∷◌}
 use Rattle.bw_types.specs.declared.point.Point.{Point}
 use Rattle.bw_types.specs.declared.tree.Tree.{Tree}
-use Rattle.page_ports.specs.Pages.{PageMap}
+use Rattle.ports.specs.Pages.{PageMap}
 use Rattle.dom_index.specs.Adding.{TreeTakes}
 use Rattle.dom_index.specs.Points.{IsNewPoint}
 use Rattle.dom_index.specs.declared.index.DomIndex.{Ghosts}

@@ -1,7 +1,7 @@
 -- What an addition makes of a tree's value, whatever the pages hold.
 use Rattle.std.specs.Prelude.{◌≡◌, ℕ, ◌+◌, IsSome}
 use Rattle.bw_types.specs.declared.tree.Tree.{Tree}
-use Rattle.page_ports.specs.Pages.{PageMap}
+use Rattle.ports.specs.Pages.{PageMap}
 
 -- In the place of one page a tree may name another: where that one was in the map, and is none that may be changed, it is the same page.
 abbrev pub MayName : (ℕ → Type 0) → PageMap → ℕ → ℕ → Type 0

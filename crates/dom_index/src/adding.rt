@@ -2,7 +2,7 @@
 ghost use Rattle.std.specs.Prelude.{◌≡◌, ◌≢◌, ◌+◌, ◌-◌, ◌^◌, ◌<◌, ◌≤◌, ◌⊎◌, ℕ, List, length, Err, IsTrue, OnOk, OnErr};
 ghost use Rattle.std.specs.List.{All};
 ghost use Rattle.bw_types.specs.declared.point.Point.{Point};
-ghost use Rattle.page_ports.specs.Calls.{Changes};
+ghost use Rattle.ports.specs.Calls.{Changes};
 ghost use Rattle.page_layout.specs.TreeValue.{IsTreeTyped, tree_fits};
 ghost use Rattle.dom_index.specs.Adding.{AreNewInTurn, TreeTakes};
 ghost use Rattle.dom_index.specs.AddingDamage.{AdditionsMayLeave, IsDamagedForPoints};
@@ -11,7 +11,7 @@ ghost use Rattle.dom_index.specs.Points.{AreKeysBelow};
 
 use crate::index::DomIndex;
 use bw_types::{Point, Tree};
-use page_ports::{Stage, StageFault};
+use ports::{Stage, StageFault};
 use std::alloc::Global;
 
 /// Adds points to a tree, one after the other: all of them, or none.

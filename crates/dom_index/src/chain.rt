@@ -1,14 +1,14 @@
 //! A chain of pages of points.
 ghost use Rattle.std.specs.Prelude.{◌≡◌, ◌≤◌, ℕ, ◌==◌, Err, IsTrue, IfOk, OnOk};
 ghost use Rattle.bw_types.specs.Dominance.{dominance_sum};
-ghost use Rattle.page_ports.specs.Calls.{OnlyReads};
+ghost use Rattle.ports.specs.Calls.{OnlyReads};
 ghost use Rattle.page_layout.specs.declared.point_leaf.PointLeaf.{PointLeaf};
 ghost use Rattle.dom_index.specs.Chain.{IsDamagedAlong, chain_points};
 
 use crate::points::sum_on;
 use bw_types::Tree;
 use page_layout::{PointLeaf, View, view_page};
-use page_ports::{PageFault, Pages, blank_page};
+use ports::{PageFault, Pages, blank_page};
 
 /// The dominance sum of the points in the chain, of which at most so many pages are read as the tree counts points.
 ///

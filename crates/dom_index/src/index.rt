@@ -6,16 +6,16 @@ ghost use Rattle.bw_types.specs.Empty.{empty_tree};
 ghost use Rattle.bw_types.specs.Depths.{added_pages};
 ghost use Rattle.bw_types.specs.declared.point.Point.{Point};
 ghost use Rattle.bw_types.specs.declared.tree.Tree.{Tree};
-ghost use Rattle.page_ports.specs.Calls.{Changes, OnlyReads};
-ghost use Rattle.page_ports.specs.Frame.{AgreeOn, AreInMap, Replaces};
-ghost use Rattle.page_ports.specs.Pages.{PageMap};
+ghost use Rattle.ports.specs.Calls.{Changes, OnlyReads};
+ghost use Rattle.ports.specs.Frame.{AgreeOn, AreInMap, Replaces};
+ghost use Rattle.ports.specs.Pages.{PageMap};
 ghost use Rattle.page_layout.specs.Footprint.{NamesNoneTwice};
 ghost use Rattle.page_layout.specs.TreeValue.{IsTreeTyped, tree_fits};
 ghost use Rattle.dom_index.specs.Becoming.{IsTreeAfter};
 ghost use Rattle.dom_index.specs.Points.{AreKeysBelow, IsNewPoint, HasRoom};
 
 use bw_types::{Point, Tree};
-use page_ports::{PageFault, Pages, Stage, StageFault};
+use ports::{PageFault, Pages, Stage, StageFault};
 use std::alloc::Global;
 
 /// Keeps weighted points in the pages of trees, over 1 to `DIMS` dimensions.

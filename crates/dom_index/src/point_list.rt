@@ -7,7 +7,7 @@ use crate::chain::sum_along;
 use crate::index::DomIndex;
 use crate::putting::put_first;
 use bw_types::{Point, Tree};
-use page_ports::{PageFault, Pages, Stage, StageFault};
+use ports::{PageFault, Pages, Stage, StageFault};
 use std::alloc::Global;
 
 /// A chain of pages of up to 64 points, over 1 to 3 dimensions.

@@ -1,13 +1,13 @@
 //! A point put into a chain of pages.
 ghost use Rattle.std.specs.Prelude.{◌≡◌, ◌≢◌, ◌==◌, ◌≤◌, ◌<◌, ◌⊎◌, ◌^◌, false, ℕ, [], ◌∷◌, Some, None, Err, IsTrue, IfOk, OnOk, length};
-ghost use Rattle.page_ports.specs.Calls.{Grows};
+ghost use Rattle.ports.specs.Calls.{Grows};
 ghost use Rattle.page_layout.specs.PointLeaf.{IsPointTyped};
 ghost use Rattle.dom_index.specs.Chain.{HoldsNoLeaf, IsPutFirst, LeafStands, leaf_on, page_of};
 
 use arrayvec::ArrayVec;
 use bw_types::Point;
 use page_layout::{PointLeaf, make_page, put_page, read_page};
-use page_ports::{Stage, StageFault};
+use ports::{Stage, StageFault};
 
 /// Puts the point into the chain's first page, or into a new page before it where that is full or 0. The result is
 /// the first page then.

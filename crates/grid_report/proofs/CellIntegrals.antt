@@ -9,11 +9,11 @@ use Rattle.bw_types.specs.History.{History}
 use Rattle.bw_types.specs.ResidueLaws.{signed_of_residue}
 use Rattle.bw_types.specs.Residues.{residue, signed_of}
 use Rattle.bw_types.specs.declared.params.Params.{Params}
-use Rattle.box_corners.specs.SumLaws.{residue_keeps_sign, residue_of_sum_below, sum_below_of_equal}
-use Rattle.box_corners.specs.Subsets.{residue_signed_by, signed_by}
-use Rattle.box_corners.specs.Sums.{int_sum_below, residue_sum_below}
+use Rattle.corner_weights.specs.SumLaws.{residue_keeps_sign, residue_of_sum_below, sum_below_of_equal}
+use Rattle.corner_weights.specs.Subsets.{residue_signed_by, signed_by}
+use Rattle.corner_weights.specs.Sums.{int_sum_below, residue_sum_below}
 use Rattle.history_laws.specs.Bounds.{HasRoom, IntegralsAreBounded}
-use Rattle.poly_moments.specs.Integrals.{IntegralByCorners, query_corner}
+use Rattle.corner_weights.specs.Integrals.{IntegralByCorners, query_corner}
 use Rattle.grid_report.specs.Corners.{corner_at, corners_of, value_by_corners}
 use Rattle.grid_report.specs.Grids.{cell_count, cell_query, cells_of, grid_integrals}
 use Rattle.grid_report.specs.Indexes.{indexes_of}

@@ -7,10 +7,10 @@ use Rattle.std.specs.List.{range_with_len}
 use Rattle.bw_types.specs.Residues.{signed_of}
 use Rattle.bw_types.specs.Tally.{product_below}
 use Rattle.bw_types.specs.declared.params.Params.{Params}
-use Rattle.box_corners.specs.Subsets.{is_in_subset, residue_signed_by}
-use Rattle.box_corners.specs.SumLaws.{sum_below_of_equal}
-use Rattle.box_corners.specs.Sums.{residue_sum_below}
-use Rattle.poly_moments.specs.Integrals.{query_corner}
+use Rattle.corner_weights.specs.Subsets.{is_in_subset, residue_signed_by}
+use Rattle.corner_weights.specs.SumLaws.{sum_below_of_equal}
+use Rattle.corner_weights.specs.Sums.{residue_sum_below}
+use Rattle.corner_weights.specs.Integrals.{query_corner}
 use Rattle.grid_report.specs.Corners.{corner_at, corner_line, corners_of, value_by_corners}
 use Rattle.grid_report.specs.Grids.{cell_count, cell_query, cells_of, grid_corners, line_at, lists_below}
 use Rattle.grid_report.specs.Indexes.{indexes_of, number_of}

@@ -5,7 +5,7 @@ use Rattle.std.proofs.lemmas.List.FromFn.{map-range_with_len_more}
 use Rattle.std.proofs.lemmas.Nat.{div-mul-add, mod-mul-add, mul-add-lt}
 use Rattle.std.specs.List.{range_with_len}
 use Rattle.bw_types.specs.Tally.{product_below}
-use Rattle.box_corners.specs.Subsets.{is_in_subset}
+use Rattle.corner_weights.specs.Subsets.{is_in_subset}
 use Rattle.grid_report.specs.Corners.{corner_line}
 use Rattle.grid_report.specs.Indexes.{indexes_of, number_of}
 use Rattle.grid_report.proofs.Products.{product-grows}

@@ -5,7 +5,7 @@ use Rattle.std.proofs.lemmas.Bool.{le-leb, lt-ltb}
 use Rattle.bw_types.specs.Fits.{ends_fit, greatest_number}
 use Rattle.bw_types.specs.Tally.{each_below}
 use Rattle.bw_types.specs.declared.params.Params.{Params}
-use Rattle.box_corners.specs.Corners.{of_first_dimensions}
+use Rattle.corner_weights.specs.Corners.{of_first_dimensions}
 use Rattle.grid_report.specs.Corners.{corner_at}
 use Rattle.grid_report.specs.Grids.{cell_query, line_at}
 use Rattle.grid_report.specs.declared.asked.Grid.{Grid}

@@ -13,7 +13,7 @@ use Rattle.bw_types.specs.Integral.{exponent_lists, moment, common_moment, integ
 use Rattle.bw_types.specs.Tally.{int_product_below, int_sum_by}
 use Rattle.bw_types.specs.declared.params.Params.{Params}
 use Rattle.bw_types.specs.declared.object.Object.{Object}
-use Rattle.box_corners.specs.Corners.{of_first_dimensions}
+use Rattle.corner_weights.specs.Corners.{of_first_dimensions}
 use Rattle.grid_report.specs.Grids.{line_at, lists_below, cells_of, cell_query}
 use Rattle.grid_report.specs.CellsAddUp.{CellsAddUp, grid_query}
 use Rattle.grid_report.specs.declared.asked.Grid.{Grid}

@@ -6,7 +6,7 @@ use Rattle.bw_types.specs.Tally.{int_sum_by}
 use Rattle.bw_types.specs.declared.params.Params.{Params}
 use Rattle.bw_types.specs.declared.query.Kind.TheVariants.{Integral}
 use Rattle.bw_types.specs.declared.query.Query.{Query}
-use Rattle.box_corners.specs.Corners.{of_first_dimensions}
+use Rattle.corner_weights.specs.Corners.{of_first_dimensions}
 use Rattle.grid_report.specs.Grids.{line_at, grid_integrals}
 use Rattle.grid_report.specs.declared.asked.Grid.{Grid}
 

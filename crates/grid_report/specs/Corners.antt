@@ -2,10 +2,10 @@
 use Rattle.std.specs.Prelude.{ℕ, ◌+◌, ◌^◌, if◌then◌else◌, List, map, take, ℤ, slice_index}
 use Rattle.bw_types.specs.Residues.{signed_of}
 use Rattle.bw_types.specs.declared.params.Params.{Params}
-use Rattle.box_corners.specs.Corners.{of_first_dimensions}
-use Rattle.box_corners.specs.Subsets.{is_in_subset, residue_signed_by}
-use Rattle.box_corners.specs.Sums.{residue_sum_below}
-use Rattle.poly_moments.specs.Integrals.{query_corner}
+use Rattle.corner_weights.specs.Corners.{of_first_dimensions}
+use Rattle.corner_weights.specs.Subsets.{is_in_subset, residue_signed_by}
+use Rattle.corner_weights.specs.Sums.{residue_sum_below}
+use Rattle.corner_weights.specs.Integrals.{query_corner}
 use Rattle.grid_report.specs.Grids.{cell_query, line_at, lists_below}
 use Rattle.grid_report.specs.declared.asked.Grid.{Grid}
 

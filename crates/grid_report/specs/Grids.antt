@@ -8,7 +8,7 @@ use Rattle.bw_types.specs.Tally.{each_below, product_below}
 use Rattle.bw_types.specs.declared.params.Params.{Params}
 use Rattle.bw_types.specs.declared.query.Kind.TheVariants.{Integral}
 use Rattle.bw_types.specs.declared.query.Query.{Query}
-use Rattle.box_corners.specs.Corners.{of_first_dimensions}
+use Rattle.corner_weights.specs.Corners.{of_first_dimensions}
 use Rattle.grid_report.specs.declared.asked.Grid.{Grid}
 
 -- the stored number at which line k of the grid stands in dimension i: a cell lies between two lines

@@ -1,7 +1,7 @@
 //! The desk of grids: it answers rows that ask for grids, line by line.
 ghost use Rattle.std.specs.Prelude.{◌≡◌, ◌≢◌, ◌+◌, ◌≤◌, ◌++◌, ℕ, false, Err, IfErr, IsTrue, OnErr, OnOk, Some};
 ghost use Rattle.bw_types.specs.History.{History};
-ghost use Rattle.counts.specs.Count.{Rose};
+ghost use Rattle.ports.specs.Count.{Rose};
 ghost use Rattle.csv_rows.specs.Replies.{reply_text};
 ghost use Rattle.warehouse.specs.Left.{IsAsBefore};
 ghost use Rattle.page_warehouse.specs.Shown.{HasNewForm, HoldsHistory, disk_charge, disk_in, params_in};

@@ -3,16 +3,16 @@ ghost use Rattle.std.specs.Prelude.{◌≡◌, ℕ, ◌+◌, ◌<◌, ◌≤◌,
 ghost use Rattle.bw_types.specs.Fits.{IsInRange};
 ghost use Rattle.bw_types.specs.Residues.{signed_of};
 ghost use Rattle.bw_types.specs.Tally.{product_below};
-ghost use Rattle.box_corners.specs.Sums.{residue_sum_below};
-ghost use Rattle.box_corners.specs.Subsets.{residue_signed_by};
+ghost use Rattle.corner_weights.specs.Sums.{residue_sum_below};
+ghost use Rattle.corner_weights.specs.Subsets.{residue_signed_by};
 ghost use Rattle.grid_report.specs.Corners.{corner_at, corner_line, corners_of, value_by_corners};
 ghost use Rattle.grid_report.specs.Grids.{cells_of, grid_corners, grid_fits};
 ghost use Rattle.grid_report.specs.Indexes.{number_of};
 
 use crate::Grid;
 use crate::indexes::{element_count, indexes};
-use box_corners::{is_in_subset, sign};
 use bw_types::{Params, res_add, res_signed};
+use corner_weights::{is_in_subset, sign};
 use std::alloc::{AllocError, Global};
 
 /// The value of each cell: the signed sum of the residues at its corners. The residues stand in the order of the corners.

@@ -13,7 +13,7 @@ use Rattle.bw_types.specs.declared.object.Object.{Object}
 use Rattle.bw_types.specs.declared.params.Params.{Params}
 use Rattle.bw_types.specs.declared.query.Query.{Query}
 use Rattle.history_laws.specs.Living.{IsInOrder, LivesAreInOrder, LivesTellLive, is_live_at, objects_at}
-use Rattle.poly_moments.specs.PlaneSums.{Entered, counts_at}
+use Rattle.corner_weights.specs.PlaneSums.{Entered, counts_at}
 use Rattle.history_laws.specs.Entries.{life_entries, entries_of}
 use Rattle.history_laws.specs.Answers.{signed_sum}
 

@@ -4,7 +4,7 @@ use Rattle.std.proofs.lemmas.Bool.{eq-eqb, ne_eqb}
 use Rattle.std.proofs.lemmas.List.Concat.{flat_map-append}
 use Rattle.std.proofs.lemmas.List.Sorted.{IsPermutation-middle}
 use Rattle.bw_types.specs.declared.dated.Dated.{Dated}
-use Rattle.poly_moments.specs.PlaneSums.{Entered}
+use Rattle.corner_weights.specs.PlaneSums.{Entered}
 use Rattle.history_laws.specs.Entries.{begun_entry, ended_entry, life_entries, entries_of}
 
 pub by_add : (ds : List Dated) (d : Dated) → d.withdrawn ≡ 0 → entries_of (ds ++ d ∷ []) ≡ entries_of ds ++ begun_entry d ∷ []

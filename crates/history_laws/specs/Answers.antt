@@ -7,8 +7,8 @@ use Rattle.bw_types.specs.Tally.{int_sum_by}
 use Rattle.bw_types.specs.declared.object.Object.{Object}
 use Rattle.bw_types.specs.declared.params.Params.{Params}
 use Rattle.bw_types.specs.declared.query.Query.{Query}
-use Rattle.poly_moments.specs.PlaneSums.{Entered, counts_at}
-use Rattle.poly_moments.specs.PlaneSums.{integral_at as entered_integral_at}
+use Rattle.corner_weights.specs.PlaneSums.{Entered, counts_at}
+use Rattle.corner_weights.specs.PlaneSums.{integral_at as entered_integral_at}
 use Rattle.history_laws.specs.Entries.{history_entries}
 
 -- the sum over the entries of a number of their objects, each with its sign at the version

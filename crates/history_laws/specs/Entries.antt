@@ -4,7 +4,7 @@ use Rattle.std.specs.List.{flat_map}
 use Rattle.bw_types.specs.History.{History}
 use Rattle.bw_types.specs.Lives.{lives}
 use Rattle.bw_types.specs.declared.dated.Dated.{Dated}
-use Rattle.poly_moments.specs.PlaneSums.{Entered}
+use Rattle.corner_weights.specs.PlaneSums.{Entered}
 
 -- the life where it begins
 abbrev pub begun_entry : Dated → Entered

@@ -2,10 +2,10 @@
 use Rattle.std.proofs.Common.{◌≡◌, ℕ, suc, ◌+◌, List, ◌++◌, take, drop, map, ap, ◌∙◌}
 use Rattle.bw_types.specs.History.{History, last_version}
 use Rattle.bw_types.specs.declared.params.Params.{Params}
-use Rattle.history_list.proofs.CutByVersion.{batches_are, next_batch}
-use Rattle.history_list.specs.Batches.{batches_from, count_of}
-use Rattle.history_list.specs.Events.{AreEventsOf, change_in}
-use Rattle.history_list.specs.declared.event.Event.{Event}
+use Rattle.page_warehouse.proofs.CutByVersion.{batches_are, next_batch}
+use Rattle.page_warehouse.specs.Batches.{batches_from, count_of}
+use Rattle.page_warehouse.specs.Events.{AreEventsOf, change_in}
+use Rattle.page_warehouse.specs.declared.event.Event.{Event}
 use Rattle.history_text.specs.Rows.{batch_text, rows_of}
 
 -- the rows of the next batch, and those of the later ones

@@ -8,8 +8,8 @@ use Rattle.bw_types.specs.Lives.{Numbered, numbered_batch, numbered_from}
 use Rattle.bw_types.specs.declared.change.Change.{Change}
 use Rattle.bw_types.specs.declared.change.Change.TheVariants as change
 use Rattle.bw_types.specs.declared.object.Object.{Object}
-use Rattle.history_list.specs.Events.{AreEventsOf, change_in, numbered_in}
-use Rattle.history_list.specs.declared.event.Event.{Event}
+use Rattle.page_warehouse.specs.Events.{AreEventsOf, change_in, numbered_in}
+use Rattle.page_warehouse.specs.declared.event.Event.{Event}
 use Rattle.history_text.specs.Rebuilt.{ChangeHasSizes, Has64Bits, HasSizes}
 
 below : (n : ℕ) → n ≤ 9223372036854775807 → IsTrue (nat_le n 9223372036854775807)

@@ -2,8 +2,8 @@
 use Rattle.std.proofs.Common.{◌≡◌, ℕ, Bool, ◌≤◌, IsTrue, List, [], ◌++◌, length, take, drop, refl, sym, ap, subst, ◌∙◌, append_assoc}
 use Rattle.std.proofs.lemmas.List.{append-nil, take-append-drop}
 use Rattle.std.specs.Prelude.{Result, Ok, Err, IsErr, OnErr}
-use Rattle.byte_ports.specs.Written.{WritesPart}
-use Rattle.counts.specs.Count.{Rose}
+use Rattle.ports.specs.Written.{WritesPart}
+use Rattle.ports.specs.Count.{Rose}
 use Rattle.history_text.specs.Given.{Gave, Gives, Standing, Stopped, standing}
 
 -- where nothing was printed

@@ -1,7 +1,7 @@
 -- What printing says of a sink and of the bytes that are gathered for it.
 use Rattle.std.specs.Prelude.{◌≡◌, ℕ, Bool, IsTrue, List, ◌++◌, Result, MatchResult}
-use Rattle.byte_ports.specs.Written.{WritesPart}
-use Rattle.counts.specs.Count.{Rose}
+use Rattle.ports.specs.Written.{WritesPart}
+use Rattle.ports.specs.Count.{Rose}
 
 -- what the sink tells, and the bytes that are gathered behind what it has written
 pub record Standing : Type 0 where

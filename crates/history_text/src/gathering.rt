@@ -3,7 +3,7 @@ ghost use Rattle.std.specs.Prelude.{◌≡◌, [], OnOk};
 ghost use Rattle.history_text.specs.Given.{Gives, standing};
 
 use arrayvec::ArrayVec;
-use byte_ports::{Failed, Sink};
+use ports::{Failed, Sink};
 
 /// Room for the bytes that are gathered.
 pub type Room = ArrayVec<u8, 8192>;

@@ -8,8 +8,8 @@ ghost use Rattle.history_text.specs.Rows.{ends_text, field, object_text, row_tex
 
 use crate::gathering::{Room, put_piece};
 use bw_types::{Object, Params, Row, coefficient_count};
-use byte_ports::{Failed, Sink};
 use itoa::Buffer;
+use ports::{Failed, Sink};
 
 /// Puts the row, with its line feed.
 pub fn put_row<K: Sink>(

@@ -5,7 +5,7 @@ ghost use Rattle.std.specs.List.{All};
 ghost use Rattle.history_text.specs.Rebuilt.{HasSizes};
 
 use bw_types::Object;
-use history_list::Event;
+use page_warehouse::Event;
 
 /// Shows that the numbers of the events have the sizes of their fields.
 pub fn events_have_sizes(events: &[Event])

@@ -1,12 +1,12 @@
 //! The rows of a history, put one after the other.
 ghost use Rattle.std.specs.Prelude.{◌≡◌, ◌++◌, IsTrue, OnOk, OnErr, map};
 ghost use Rattle.std.specs.List.{All};
-ghost use Rattle.byte_ports.specs.Written.{WritesPart};
-ghost use Rattle.counts.specs.Count.{Rose};
+ghost use Rattle.ports.specs.Written.{WritesPart};
+ghost use Rattle.ports.specs.Count.{Rose};
 ghost use Rattle.bw_types.specs.Fits.{IsInRange};
 ghost use Rattle.bw_types.specs.History.{History, changes, last_version};
-ghost use Rattle.history_list.specs.Batches.{batches_from};
-ghost use Rattle.history_list.specs.Events.{AreEventsOf, change_in};
+ghost use Rattle.page_warehouse.specs.Batches.{batches_from};
+ghost use Rattle.page_warehouse.specs.Events.{AreEventsOf, change_in};
 ghost use Rattle.history_text.specs.Given.{Gives, standing};
 ghost use Rattle.history_text.specs.Rebuilt.{ChangeHasSizes};
 ghost use Rattle.history_text.specs.Rows.{batch_text, rows_of};
@@ -15,8 +15,8 @@ use crate::gathering::{Room, put_gathered, put_piece};
 use crate::printing::put_row;
 use crate::sizes::events_have_sizes;
 use bw_types::Params;
-use byte_ports::{Failed, Sink};
-use history_list::{Event, count_of, first_row};
+use page_warehouse::{Event, count_of, first_row};
+use ports::{Failed, Sink};
 
 /// Puts the rows that rebuild a history, whose adds and withdrawals these events are, up to the last version.
 ///

@@ -5,11 +5,11 @@ use Rattle.bw_types.specs.declared.dated.Dated.{Dated}
 use Rattle.bw_types.specs.declared.params.Params.{Params}
 use Rattle.bw_types.specs.declared.point.Point.{Point}
 use Rattle.bw_types.specs.declared.tree.Tree.{Tree}
-use Rattle.page_ports.specs.Pages.{PageMap}
-use Rattle.poly_moments.specs.PlaneSums.{Entered, EnteredFits}
+use Rattle.ports.specs.Pages.{PageMap}
+use Rattle.corner_weights.specs.PlaneSums.{Entered, EnteredFits}
 use Rattle.dom_index.specs.declared.index.DomIndex.{Ghosts}
 use Rattle.history_laws.specs.Entries.{entries_of, life_entries}
-use Rattle.history_list.proofs.Rejoined.{rejoined}
+use Rattle.page_warehouse.proofs.Rejoined.{rejoined}
 use Rattle.corner_forest.specs.Entries.{corner_count, entry_points, root_points}
 use Rattle.corner_forest.specs.Stands.{ForestStands, HasSmallWeight}
 use Rattle.corner_forest.specs.Trees.{EachStands}

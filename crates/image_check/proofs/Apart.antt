@@ -1,7 +1,7 @@
 -- The pages of a table and of trees, named by a check and by the definitions.
 use Rattle.std.proofs.Common.{◌≡◌, ℕ, List, ◌++◌, sym, ◌∙◌, IsPermutation}
 use Rattle.std.proofs.lemmas.List.Sorted.{IsPermutation-sym}
-use Rattle.page_ports.specs.Frame.{AreApart, names_page}
+use Rattle.ports.specs.Frame.{AreApart, names_page}
 use Rattle.page_layout.specs.Footprint.{NamesNoneTwice}
 use Rattle.page_layout.specs.FootprintLaws.{once_apart, once_join, once_permuted, once_right}
 

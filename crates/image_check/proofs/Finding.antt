@@ -9,7 +9,7 @@ use Rattle.bw_types.specs.declared.params.Params.{Params}
 use Rattle.bw_types.specs.declared.point.Point.{Point}
 use Rattle.bw_types.specs.declared.tree.Tree.{Tree}
 use Rattle.page_disk.specs.Image.{Image, PageList, page_at}
-use Rattle.page_ports.specs.Pages.{PageMap}
+use Rattle.ports.specs.Pages.{PageMap}
 use Rattle.page_layout.specs.Footprint.{NamesNoneTwice}
 use Rattle.page_layout.specs.declared.meta.Meta.{Meta}
 use Rattle.redo_journal.specs.Settled.{SettlesTo}
@@ -23,12 +23,12 @@ use Rattle.dom_index.specs.declared.index.DomIndex.{Ghosts}
 use Rattle.corner_forest.specs.Entries.{root_count}
 use Rattle.corner_forest.specs.Stands.{forest_pages}
 use Rattle.page_warehouse.specs.Holds.{Holds, TableKeeps, TreesStand, table_form}
-use Rattle.table_check.specs.Judging.{IsKept}
-use Rattle.table_check.specs.Telling.{IsToldBy}
+use Rattle.image_check.specs.Judging.{IsKept}
+use Rattle.image_check.specs.Telling.{IsToldBy}
 use Rattle.image_check.specs.Parts as parts
 use Rattle.image_check.specs.Trees.{TreesAreSound}
 use Rattle.image_check.proofs.AnyOrder.{forest_in_any_order}
-use Rattle.image_check.proofs.Same.{as_found, unordered}
+use Rattle.image_check.proofs.SameSpace.{as_found, unordered}
 
 -- where each life is its id's first
 abbrev AreFirst : Meta → List Dated → Type 0

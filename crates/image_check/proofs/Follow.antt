@@ -7,11 +7,11 @@ use Rattle.redo_journal.specs.Gates.{is_empty}
 use Rattle.history_laws.specs.Telling.{LivesNameChanges}
 use Rattle.dom_index.specs.declared.index.DomIndex.{Ghosts}
 use Rattle.page_warehouse.specs.Holds.{Holds}
-use Rattle.table_check.specs.Judging.{IsKept}
+use Rattle.image_check.specs.Judging.{IsKept}
 use Rattle.image_check.specs.Laws.{BrokenIsNo, PartsFollow}
 use Rattle.image_check.specs.Parts.{HoldsOne, IsBrokenAt, IsHistory}
 use Rattle.image_check.proofs.Naming.{kept_is_told}
-use Rattle.image_check.proofs.Same.{unordered}
+use Rattle.image_check.proofs.SameSpace.{unordered}
 
 module _ {X : Type 0} (g : Ghosts X) where
   history_of : LivesNameChanges → (x : Image) (params : Params) (h : History) → (held : Holds g x params h) → IsHistory x params held.meta held.pages held.table.kept h

@@ -11,8 +11,8 @@ use Rattle.bw_types.specs.declared.params.Params.{Params}
 use Rattle.page_layout.specs.declared.meta.Meta.{Meta}
 use Rattle.history_laws.specs.Told.{by_event, named_by, with_change}
 use Rattle.history_laws.specs.Telling.{LivesNameChanges}
-use Rattle.table_check.specs.Judging.{IsKept}
-use Rattle.table_check.specs.Telling.{IsToldBy}
+use Rattle.image_check.specs.Judging.{IsKept}
+use Rattle.image_check.specs.Telling.{IsToldBy}
 
 -- From a number on, the event numbers never fall.
 abbrev GoUp : ℕ → List Numbered → Type 0

@@ -1,15 +1,15 @@
 -- When the trees, the table and the free pages are sound, from what is found of each.
 use Rattle.std.proofs.Common.{ℕ, ◌≤◌, List, ◌++◌, IsPermutation}
 use Rattle.bw_types.specs.declared.params.Params.{Params}
-use Rattle.page_ports.specs.Pages.{PageMap}
+use Rattle.ports.specs.Pages.{PageMap}
 use Rattle.page_layout.specs.Footprint.{NamesNoneTwice}
 use Rattle.page_layout.specs.declared.meta.Meta.{Meta}
 use Rattle.object_table.specs.Lives.{table_pages}
-use Rattle.poly_moments.specs.PlaneSums.{Entered}
+use Rattle.corner_weights.specs.PlaneSums.{Entered}
 use Rattle.dom_index.specs.declared.index.DomIndex.{Ghosts}
 use Rattle.corner_forest.specs.Stands.{AreBalanced, ForestStands, forest_pages}
 use Rattle.page_warehouse.specs.Holds.{table_form}
-use Rattle.table_check.specs.Reading.{AreItsPages}
+use Rattle.image_check.specs.Reading.{AreItsPages}
 use Rattle.image_check.specs.Trees.{TreesAreSound}
 use Rattle.image_check.proofs.Apart.{apart_is}
 

@@ -3,3 +3,13 @@ pub mod Laws
 pub mod Looks
 pub mod Shown
 pub mod Trees
+pub mod Keeping
+pub mod Passing
+pub mod Reading
+pub mod Telling
+pub mod Fitting
+pub mod Rebuilding
+pub mod Judging
+pub mod Walked
+pub mod Numbers
+pub mod Whole

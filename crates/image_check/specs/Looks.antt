@@ -1,6 +1,6 @@
 -- What a check leaves as it found it.
 use Rattle.std.specs.Prelude.{◌≡◌, ◌≤◌, Result, Err}
-use Rattle.counts.specs.Count.{Rose}
+use Rattle.ports.specs.Count.{Rose}
 use Rattle.page_disk.specs.declared.disk.Disk.{Ghosts}
 use Rattle.page_checks.specs.declared.fault.CheckFault.{CheckFault}
 use Rattle.page_checks.specs.declared.fault.CheckFault.TheVariants.{Disk}

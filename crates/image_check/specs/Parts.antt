@@ -5,7 +5,7 @@ use Rattle.bw_types.specs.History.{History, changes, last_version}
 use Rattle.bw_types.specs.declared.dated.Dated.{Dated}
 use Rattle.bw_types.specs.declared.params.Params.{Params}
 use Rattle.page_disk.specs.Image.{Image, PageList}
-use Rattle.page_ports.specs.Pages.{PageMap}
+use Rattle.ports.specs.Pages.{PageMap}
 use Rattle.page_layout.specs.declared.meta.Meta.{Meta}
 use Rattle.redo_journal.specs.Gates.{is_empty}
 use Rattle.redo_journal.specs.Settled.{SettlesTo}
@@ -14,8 +14,8 @@ use Rattle.object_table.specs.Stands.{TableStands}
 use Rattle.dom_index.specs.declared.index.DomIndex.{Ghosts}
 use Rattle.corner_forest.specs.Entries.{root_count}
 use Rattle.page_warehouse.specs.Holds.{Holds, table_form}
-use Rattle.table_check.specs.Judging.{IsKept}
-use Rattle.table_check.specs.Telling.{IsToldBy}
+use Rattle.image_check.specs.Judging.{IsKept}
+use Rattle.image_check.specs.Telling.{IsToldBy}
 
 -- Part 1: the disk is not empty, and stands for some pages: its journal keeps its rules.
 abbrev pub HasJournal : Image → Type 0

@@ -1,11 +1,11 @@
 -- When the trees of a space, its table and its free pages are sound together.
 use Rattle.std.specs.Prelude.{◌≤◌, ◌++◌, List}
 use Rattle.bw_types.specs.declared.params.Params.{Params}
-use Rattle.page_ports.specs.Pages.{PageMap}
+use Rattle.ports.specs.Pages.{PageMap}
 use Rattle.page_layout.specs.Footprint.{NamesNoneTwice}
 use Rattle.page_layout.specs.declared.meta.Meta.{Meta}
 use Rattle.object_table.specs.Lives.{table_pages}
-use Rattle.poly_moments.specs.PlaneSums.{Entered}
+use Rattle.corner_weights.specs.PlaneSums.{Entered}
 use Rattle.dom_index.specs.declared.index.DomIndex.{Ghosts}
 use Rattle.corner_forest.specs.Stands.{AreBalanced, ForestStands, forest_pages}
 use Rattle.page_warehouse.specs.Holds.{table_form}

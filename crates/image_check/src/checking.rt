@@ -9,11 +9,13 @@ ghost use Rattle.image_check.specs.Looks.{OnlyLooks};
 ghost use Rattle.image_check.specs.Parts.{IsBrokenAt, IsGood};
 ghost use Rattle.image_check.specs.Shown.{IsShown};
 
+use crate::checked_index::CheckedIndex;
+use crate::judging::{Told, judge};
+use crate::reading::read_table;
 use crate::trees::trees_stand;
 use crate::verdict::Verdict;
 use bw_types::{Dated, Params};
 use corner_forest::root_count;
-use forest_check::CheckedIndex;
 use history_laws::lives_name_changes;
 use object_table::Form;
 use page_checks::CheckFault;
@@ -22,7 +24,6 @@ use page_layout::Meta;
 use page_space::holds_one;
 use settled_pages::{SettleFault, SettledPages, SettledSpace};
 use std::alloc::Global;
-use table_check::{Told, judge, read_table};
 
 /// Finds out whether the disk holds a history, from what is on it alone.
 ///

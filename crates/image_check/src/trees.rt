@@ -6,19 +6,20 @@ ghost use Rattle.object_table.specs.Lives.{table_pages};
 ghost use Rattle.history_laws.specs.Entries.{entries_of};
 ghost use Rattle.corner_forest.specs.Stands.{AreBalanced, ForestStands, forest_pages};
 ghost use Rattle.page_warehouse.specs.Holds.{table_form};
-ghost use Rattle.table_check.specs.Reading.{AreItsPages};
+ghost use Rattle.image_check.specs.Reading.{AreItsPages};
 ghost use Rattle.settled_pages.specs.Looked.{IsInOrder, disk_of, looked_at, map_of};
 ghost use Rattle.image_check.specs.Looks.{OnlyLooks};
 ghost use Rattle.image_check.specs.Trees.{TreesAreSound};
 
+use crate::checked_index::CheckedIndex;
+use crate::forest::forest_stands;
+use crate::reading::FoundTable;
 use bw_types::{Dated, Params};
-use forest_check::{CheckedIndex, forest_stands};
 use page_checks::{CheckFault, name_none_twice};
 use page_disk::Disk;
 use page_layout::Meta;
 use settled_pages::{LookFault, SettledSpace};
 use std::alloc::Global;
-use table_check::FoundTable;
 
 /// Whether the trees stand for these lives and are balanced, no page is both in them twice or in them and in the table, and the
 /// free pages are in order.

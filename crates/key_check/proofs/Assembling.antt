@@ -3,7 +3,7 @@ use Rattle.std.proofs.Common.{◌≡◌, ◌≢◌, ℕ, ◌%◌, ◌^◌, ◌<�
 use Rattle.bw_types.specs.Digits.{digit_count}
 use Rattle.bw_types.specs.declared.point.Point.{Point}
 use Rattle.bw_types.specs.declared.tree.Tree.{Tree}
-use Rattle.page_ports.specs.Pages.{PageMap}
+use Rattle.ports.specs.Pages.{PageMap}
 use Rattle.page_layout.specs.Footprint.{NamesNoneTwice}
 use Rattle.mvsb_tree.specs.Stands.{IsBalanced, MvStands, RootStands}
 use Rattle.mvsb_tree.specs.Steps.{directory, node_pages, place_count, root_at, root_level, tree_pages}

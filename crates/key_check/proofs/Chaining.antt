@@ -2,8 +2,8 @@
 use Rattle.std.proofs.Common.{◌≡◌, ℕ, zero, suc, ◌-◌, ◌<◌, ◌==◌, true, List, refl, [], ◌∷◌, ◌++◌, Some, sym, ◌∙◌, ap, subst, arith, append_assoc, inl, inr}
 use Rattle.std.proofs.lemmas.Bool.{eq-eqb, eqb-true, false≢true, or_cases, or_left, or_right}
 use Rattle.bw_types.specs.declared.point.Point.{Point}
-use Rattle.page_ports.specs.Frame.{names_page}
-use Rattle.page_ports.specs.Pages.{PageMap}
+use Rattle.ports.specs.Frame.{names_page}
+use Rattle.ports.specs.Pages.{PageMap}
 use Rattle.page_layout.specs.MvNode.{IsMvNode, IsTyped, mv_node_page}
 use Rattle.page_layout.specs.Spelled.{Spells}
 use Rattle.page_layout.specs.declared.mv_node.MvNode.{MvNode}

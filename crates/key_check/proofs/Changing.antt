@@ -13,7 +13,7 @@ use Rattle.std.proofs.lemmas.Map.Made.{length-le_from_is_member}
 use Rattle.bw_types.specs.Dominance.{dominance_sum, dominated_weight, is_dominated}
 use Rattle.bw_types.specs.declared.point.Point.{Point}
 use Rattle.bw_types.specs.declared.tree.Tree.{Tree}
-use Rattle.page_ports.specs.Pages.{PageMap}
+use Rattle.ports.specs.Pages.{PageMap}
 use Rattle.page_layout.specs.Footprint.{NamesNoneTwice}
 use Rattle.page_layout.specs.declared.sb_node.SbEntry.{SbEntry}
 use Rattle.sb_tree.specs.Stands.{is_marked}

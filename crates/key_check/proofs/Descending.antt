@@ -6,7 +6,7 @@ use Rattle.std.proofs.lemmas.Bool.{cases_lt, le-leb, le-ltb, lt-leb}
 use Rattle.std.proofs.lemmas.List.{take_all}
 use Rattle.std.proofs.lemmas.List.Elements.{All-head, All-nil, All-more}
 use Rattle.std.proofs.lemmas.List.Sums.{sum_by_more}
-use Rattle.page_ports.specs.Pages.{PageMap}
+use Rattle.ports.specs.Pages.{PageMap}
 use Rattle.page_layout.specs.declared.mv_node.MvEntry.{MvEntry}
 use Rattle.key_check.specs.declared.corner.Corner.{Corner}
 use Rattle.key_check.specs.Sums.{corner_sum, weight_at}

@@ -2,7 +2,7 @@
 use Rattle.std.proofs.Common.{◌≡◌, ℕ, zero, suc, List, [], ◌∷◌, ◌++◌, map, refl, sym, ◌∙◌, ap}
 use Rattle.std.specs.List.{flat_map}
 use Rattle.std.proofs.lemmas.List.{map-append}
-use Rattle.page_ports.specs.Pages.{PageMap}
+use Rattle.ports.specs.Pages.{PageMap}
 use Rattle.page_layout.specs.declared.sb_node.SbEntry.{SbEntry}
 use Rattle.sb_tree.specs.Steps.{entries_on, lows_below}
 use Rattle.key_check.specs.declared.step.Step.{Step}

@@ -4,8 +4,8 @@ use Rattle.std.proofs.Common.{arith, ap, length, take, drop, ◌≡◌, ℕ, zer
 use Rattle.std.proofs.lemmas.Bool.{or_parts}
 use Rattle.std.proofs.lemmas.List.Folds.{list_any-append}
 use Rattle.std.proofs.lemmas.List.Sorted.{list_any-IsPermutation}
-use Rattle.page_ports.specs.Frame.{names_page}
-use Rattle.page_ports.specs.Pages.{PageMap}
+use Rattle.ports.specs.Frame.{names_page}
+use Rattle.ports.specs.Pages.{PageMap}
 use Rattle.page_layout.specs.Footprint.{NamesNoneTwice}
 use Rattle.mvsb_tree.specs.Stands.{NodeStands, RootStands, StandsOnWay}
 use Rattle.mvsb_tree.specs.Steps.{root_level}

@@ -1,7 +1,7 @@
 -- A node that was read, where a walk reaches it.
 use Rattle.std.proofs.Common.{◌≡◌, ℕ, ◌<◌, ◌≤◌, List, length, Some, sym, ap, subst, ◌∙◌}
 use Rattle.std.specs.List.{All}
-use Rattle.page_ports.specs.Pages.{PageMap}
+use Rattle.ports.specs.Pages.{PageMap}
 use Rattle.page_layout.specs.SbNode.{IsSbNode, IsTyped, sb_node_page}
 use Rattle.page_layout.specs.declared.sb_node.SbNode.{SbNode}
 use Rattle.page_layout.specs.declared.sb_node.SbEntry.{SbEntry}

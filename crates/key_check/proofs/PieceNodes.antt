@@ -1,7 +1,7 @@
 -- The node at the head of a piece.
 use Rattle.std.proofs.Common.{◌≡◌, ℕ, true, List, sym, ◌∙◌, ap, subst}
-use Rattle.page_ports.specs.Frame.{names_page}
-use Rattle.page_ports.specs.Pages.{PageMap}
+use Rattle.ports.specs.Frame.{names_page}
+use Rattle.ports.specs.Pages.{PageMap}
 use Rattle.page_layout.specs.declared.mv_node.MvEntry.{MvEntry}
 use Rattle.page_layout.specs.declared.mv_node.MvNode.{MvNode}
 use Rattle.mvsb_tree.specs.Steps.{entries_on, node_on}

@@ -6,7 +6,7 @@ use Rattle.std.proofs.lemmas.List.{take_more}
 use Rattle.std.proofs.lemmas.List.Elements.{All-append, All-head, All-more, All-nil, All-cons, All-tail}
 use Rattle.std.proofs.lemmas.List.Sums.{sum_by-append, sum_by-cons, sum_by_more}
 use Rattle.std.proofs.lemmas.List.Sorted.{All-permutation, IsPermutation-sym, sum_by-IsPermutation}
-use Rattle.page_ports.specs.Pages.{PageMap}
+use Rattle.ports.specs.Pages.{PageMap}
 use Rattle.mvsb_tree.specs.Stands.{StandsOnWay, ends_after}
 use Rattle.mvsb_tree.specs.Steps.{total_below}
 use Rattle.mvsb_tree.specs.Ways.{IsKeyIn}

@@ -2,7 +2,7 @@
 use Rattle.std.proofs.Common.{◌≡◌, ℕ, Bool, true, false, ◌+◌, ◌<◌, ◌≤◌, ◌==◌, ◌&&◌, IsTrue, List, [], ◌∷◌, drop, length, get_or, zero, suc, nat_lt, cond, max, min, Option, refl, sym, ◌∙◌, ap, subst, arith, inl, inr}
 use Rattle.std.proofs.lemmas.Bool.{and_parts, cases_Bool, cases_lt, eqb-true, ltb-true}
 use Rattle.std.proofs.lemmas.List.{drop_more}
-use Rattle.page_ports.specs.Pages.{PageMap}
+use Rattle.ports.specs.Pages.{PageMap}
 use Rattle.page_layout.specs.declared.mv_node.MvEntry.{MvEntry}
 use Rattle.mv_pages.specs.Alive.{is_alive, or_later}
 use Rattle.mv_pages.specs.Lows.{alive_lows}

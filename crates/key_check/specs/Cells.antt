@@ -1,6 +1,6 @@
 -- The entries of a node cut a piece into cells: the keys that lead to an entry, version by version.
 use Rattle.std.specs.Prelude.{◌≡◌, ℕ, ◌+◌, ◌%◌, ◌^◌, ◌<◌, ◌≤◌, ◌==◌, ◌&&◌, Bool, nat_lt, nat_le, max, min, if◌then◌else◌, List, [], ◌∷◌, Option}
-use Rattle.page_ports.specs.Pages.{PageMap}
+use Rattle.ports.specs.Pages.{PageMap}
 use Rattle.key_check.specs.declared.corner.Corner.{Corner}
 use Rattle.key_check.specs.Sums.{corner_sum}
 use Rattle.page_layout.specs.declared.mv_node.MvEntry.{MvEntry}

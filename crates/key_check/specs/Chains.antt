@@ -1,7 +1,7 @@
 -- The nodes of a multiversion tree, one page after the other.
 use Rattle.std.specs.Prelude.{◌≡◌, ℕ, zero, suc, Some, List}
 use Rattle.bw_types.specs.declared.point.Point.{Point}
-use Rattle.page_ports.specs.Pages.{PageMap}
+use Rattle.ports.specs.Pages.{PageMap}
 use Rattle.page_layout.specs.MvNode.{IsMvNode, IsTyped, mv_node_page}
 use Rattle.page_layout.specs.declared.mv_node.MvNode.{MvNode}
 use Rattle.mvsb_tree.specs.Stands.{EntriesKeep}

@@ -5,7 +5,7 @@ use Rattle.bw_types.specs.Dominance.{dominance_sum}
 use Rattle.bw_types.specs.Digits.{digit_count}
 use Rattle.bw_types.specs.declared.point.Point.{Point}
 use Rattle.bw_types.specs.declared.tree.Tree.{Tree}
-use Rattle.page_ports.specs.Pages.{PageMap}
+use Rattle.ports.specs.Pages.{PageMap}
 use Rattle.key_check.specs.declared.corner.Corner.{Corner}
 use Rattle.key_check.specs.Sums.{corner_sum}
 use Rattle.mvsb_tree.specs.Stands.{RootStands, has_begun}

@@ -1,6 +1,6 @@
 -- The pieces in which a walk reaches the nodes of a multiversion tree.
 use Rattle.std.specs.Prelude.{ℕ, ◌<◌, ◌≤◌, Bool, ◌&&◌, nat_lt, nat_le, if◌then◌else◌, List}
-use Rattle.page_ports.specs.Pages.{PageMap}
+use Rattle.ports.specs.Pages.{PageMap}
 use Rattle.mvsb_tree.specs.Stands.{StandsOnWay, ends_after}
 use Rattle.mvsb_tree.specs.Steps.{total_below}
 use Rattle.page_layout.specs.declared.mv_node.MvEntry.{MvEntry}

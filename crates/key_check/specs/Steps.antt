@@ -2,7 +2,7 @@
 use Rattle.std.specs.Prelude.{◌≡◌, ℕ, zero, suc, ◌+◌, ◌%◌, ◌^◌, ◌<◌, ◌≤◌, nat_le, if◌then◌else◌, List, [], ◌∷◌, ◌++◌}
 use Rattle.std.specs.List.{All}
 use Rattle.bw_types.specs.Residues.{opposite_residue}
-use Rattle.page_ports.specs.Pages.{PageMap}
+use Rattle.ports.specs.Pages.{PageMap}
 use Rattle.page_layout.specs.declared.sb_node.SbEntry.{SbEntry}
 use Rattle.key_check.specs.declared.corner.Corner.{Corner}
 use Rattle.sb_tree.specs.Stands.{StandsBelow}

@@ -1,7 +1,7 @@
 -- What a walk over a whole tree over versions finds.
 use Rattle.std.specs.Prelude.{◌≡◌}
 use Rattle.bw_types.specs.declared.tree.Tree.{Tree}
-use Rattle.page_ports.specs.Pages.{PageMap}
+use Rattle.ports.specs.Pages.{PageMap}
 use Rattle.sb_tree.specs.Stands.{RootStands}
 use Rattle.sb_tree.specs.Steps.{tree_pages}
 use Rattle.key_check.specs.Steps.{steps_below}

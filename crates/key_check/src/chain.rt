@@ -11,12 +11,12 @@ use crate::marks::{Marks, entries_keep};
 use bw_types::Tree;
 use page_checks::{CheckFault, push_page};
 use page_layout::{MvNode, read_page};
-use page_ports::{PageFault, Pages};
+use ports::{PageFault, Pages};
 
 /// Puts the pages of the chain behind those named, the last one allotted first. Answers `false` where the
 /// chain does not stand, is empty below a directory that has levels, or has entries that do not keep to the
 /// points of these marks.
-pub fn walk_chain<P: Pages>(
+pub(crate) fn walk_chain<P: Pages>(
     pages: &mut P,
     tree: &Tree,
     marks: &Marks,

@@ -8,11 +8,11 @@ ghost use Rattle.page_layout.specs.Footprint.{NamesNoneTwice};
 ghost use Rattle.key_check.specs.Walks.{IsWalk};
 ghost use Rattle.key_check.specs.declared.version_tree.Walk.{Walk};
 
-use crate::Step;
+use crate::step::Step;
 use crate::version_tree::{MOST, Walk, walk_tree};
 use bw_types::{Point, Tree};
 use page_checks::{CheckFault, name_none_twice};
-use page_ports::Pages;
+use ports::Pages;
 use std::alloc::Global;
 
 /// Whether the tree stands for some list of changes, none of which is later than the last of the points.

@@ -4,7 +4,7 @@ ghost use Rattle.key_check.specs.Sums.{IsTyped, rank};
 
 /// A weight that counts from a version and a key on. The weight is a residue modulo `2^128`.
 #[derive(Clone, Copy, Debug, Default, PartialEq, Eq)]
-pub struct Corner {
+pub(crate) struct Corner {
     pub version: u32,
     pub key: u64,
     pub weight: u128,

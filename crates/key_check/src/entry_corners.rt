@@ -4,7 +4,7 @@ ghost use Rattle.mvsb_tree.specs.Stands.{ends_after};
 ghost use Rattle.key_check.specs.Cells.{Adds, entries_total, weight_within};
 ghost use Rattle.key_check.specs.Pieces.{StandsThroughout};
 
-use crate::Corner;
+use crate::corner::Corner;
 use crate::life::{END, life_in};
 use crate::piece::Piece;
 use page_layout::MvEntry;

@@ -3,7 +3,8 @@ ghost use Rattle.std.specs.Prelude.{◌≡◌, ◌+◌, ◌%◌, ◌^◌, ◌<�
 ghost use Rattle.bw_types.specs.Residues.{opposite_residue};
 ghost use Rattle.key_check.specs.Steps.{AreResidues, jump, jumps};
 
-use crate::{Corner, Step};
+use crate::corner::Corner;
+use crate::step::Step;
 use std::alloc::{AllocError, Global};
 
 /// The jumps of the steps, from 0 on.

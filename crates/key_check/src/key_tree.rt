@@ -16,7 +16,7 @@ use crate::roots::roots_stand;
 use crate::version_tree::MOST;
 use bw_types::{Point, Tree};
 use page_checks::{CheckFault, name_none_twice};
-use page_ports::Pages;
+use ports::Pages;
 use std::alloc::{AllocError, Global};
 
 // No point is added at this version.

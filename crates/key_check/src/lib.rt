@@ -4,13 +4,13 @@
 //! many steps as the tree has entries and the list has points, but for the sorts.
 //!
 //! A tree over versions is decided as a whole ([`version_tree_stands`], [`changes_stand`]), and so is a multiversion tree
-//! ([`key_tree_stands`]): its directory and the roots that this tells, the chain of its nodes with their entries ([`walk_chain`],
-//! [`entries_keep`]), and the nodes below the roots, for which the alive entries of a node cut an interval of keys at each of a stretch of
-//! versions ([`stands_throughout`]). These are gone to level by level, and the pieces in which a node is reached from the copies of its
+//! ([`key_tree_stands`]): its directory and the roots that this tells, the chain of its nodes with their entries (`walk_chain`,
+//! `entries_keep`), and the nodes below the roots, for which the alive entries of a node cut an interval of keys at each of a stretch of
+//! versions (`stands_throughout`). These are gone to level by level, and the pieces in which a node is reached from the copies of its
 //! parent are merged, so that it is read about once.
 //!
 //! Sums are compared by a sort: in the order by versions and keys the sum of signed corners is 0 everywhere exactly where the weights of
-//! each single version and key come to 0, modulo `2^128` ([`vanish`]).
+//! each single version and key come to 0, modulo `2^128` (`vanish`).
 #![tactic(auto)]
 
 mod chain;
@@ -41,14 +41,6 @@ mod throughout;
 mod version_tree;
 mod walk;
 
-pub use chain::walk_chain;
 pub use changes::changes_stand;
-pub use corner::Corner;
 pub use key_tree::key_tree_stands;
-pub use marks::{Marks, entries_keep, marks_of};
-pub use piece::Piece;
-pub use points::{sum_over_keys, sum_over_versions};
-pub use scan::vanish;
-pub use step::Step;
-pub use throughout::stands_throughout;
 pub use version_tree::version_tree_stands;

@@ -16,13 +16,13 @@ const OPEN: u32 = 4294967295;
 
 /// The versions and the first keys of points, each in order.
 #[derive(Drop)]
-pub struct Marks {
+pub(crate) struct Marks {
     pub(crate) versions: Vec<u32>,
     pub(crate) keys: Vec<u64>,
 }
 
 /// The marks of the points.
-pub fn marks_of(alloc: Global, points: &[Point]) -> Result<Marks, AllocError>
+pub(crate) fn marks_of(alloc: Global, points: &[Point]) -> Result<Marks, AllocError>
     ensures order { IfOk result (λ marks. AreInOrder marks) }
     ensures same { IfOk result (λ marks. AreMarksOf points.now marks) }
 {
@@ -43,7 +43,7 @@ fn keys_in_order(alloc: Global, points: &[Point]) -> Result<Vec<u64>, AllocError
 
 /// Whether each entry starts and ends no later than the last point, and in a leaf begins at 0 or at the key of
 /// a point.
-pub fn entries_keep(marks: &Marks, level: u8, entries: &[MvEntry]) -> bool
+pub(crate) fn entries_keep(marks: &Marks, level: u8, entries: &[MvEntry]) -> bool
     requires { AreInOrder marks.now }
     ensures { (points : List Point) → AreMarksOf points marks.now → IsTrue result ↔ EntriesKept points level entries.now }
 {

@@ -1,6 +1,6 @@
 //! Pieces of a node that follow one another are made one.
 ghost use Rattle.std.specs.Prelude.{◌≡◌, ℕ, List, [], IsTrue, IfOk, OnOk};
-ghost use Rattle.page_ports.specs.Pages.{PageMap};
+ghost use Rattle.ports.specs.Pages.{PageMap};
 ghost use Rattle.key_check.specs.Levels.{AreWhole, Follows, IsWhole, PiecesStand, Pushes, StandsThere, pieces_total, total_there};
 
 use crate::leveled::{Leveled, push_leveled};

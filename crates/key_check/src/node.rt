@@ -9,7 +9,7 @@ ghost use Rattle.page_layout.specs.declared.sb_node.SbNode.{SbNode};
 use crate::reached::Reached;
 use page_checks::CheckFault;
 use page_layout::{SbEntry, SbNode, read_level};
-use page_ports::{PageFault, Pages};
+use ports::{PageFault, Pages};
 
 /// The node of the level that the page spells, where it stands as it is reached.
 pub(crate) fn node_at<P: Pages>(

@@ -3,7 +3,7 @@
 /// The page is to stand for the versions from one to before another, and for the keys of an interval, with at
 /// least so many alive entries at each of the versions.
 #[derive(Clone, Copy)]
-pub struct Piece {
+pub(crate) struct Piece {
     pub page: u64,
     pub from: u32,
     pub to: u64,

@@ -1,7 +1,7 @@
 //! The node at the head of a piece.
 ghost use Rattle.std.specs.Prelude.{◌≡◌, ◌^◌, ◌<◌, ◌≤◌, Ok, Some, None, IsTrue};
 ghost use Rattle.std.specs.List.Sorted.{IsNonDecreasing};
-ghost use Rattle.page_ports.specs.Frame.{names_page};
+ghost use Rattle.ports.specs.Frame.{names_page};
 ghost use Rattle.page_layout.specs.declared.mv_node.MvNode.{MvNode};
 ghost use Rattle.mvsb_tree.specs.Steps.{node_on};
 ghost use Rattle.key_check.specs.Cells.{NodeStandsThroughout};
@@ -13,7 +13,7 @@ use crate::piece::Piece;
 use crate::throughout::stands_throughout;
 use page_checks::CheckFault;
 use page_layout::MvNode;
-use page_ports::Pages;
+use ports::Pages;
 
 /// The node that the piece's page spells, where it is one of these, is of this level, and stands at each of the piece's versions.
 pub(crate) fn node_of<P: Pages>(

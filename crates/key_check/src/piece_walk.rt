@@ -6,14 +6,14 @@ ghost use Rattle.key_check.specs.Cells.{Adds};
 ghost use Rattle.key_check.specs.Levels.{AreWhole, IsWhole, Leaves, PiecesStand, StandsThere, pieces_total, total_there};
 ghost use Rattle.page_checks.specs.Reads.{OnlyChecks};
 
-use crate::Corner;
+use crate::corner::Corner;
 use crate::entry_corners::push_entries;
 use crate::leveled::{Leveled, push_leveled};
 use crate::merging::merge;
 use crate::piece_node::node_of;
 use crate::pieces_below::push_children;
 use page_checks::CheckFault;
-use page_ports::Pages;
+use ports::Pages;
 use std::alloc::Global;
 
 /// Whether the nodes from the pieces' pages down stand for them, all of them among these, which are in order. Puts corners behind

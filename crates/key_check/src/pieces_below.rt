@@ -1,6 +1,6 @@
 //! The pieces in which the children of a node are reached.
 ghost use Rattle.std.specs.Prelude.{◌≡◌, ℕ, ◌^◌, ◌<◌, ◌≤◌, List, IsTrue, OnOk};
-ghost use Rattle.page_ports.specs.Pages.{PageMap};
+ghost use Rattle.ports.specs.Pages.{PageMap};
 ghost use Rattle.mvsb_tree.specs.Stands.{ends_after};
 ghost use Rattle.key_check.specs.Cells.{CellStands, CellsStand, cell_total, cells_total, next_low};
 ghost use Rattle.key_check.specs.Levels.{AreWhole, Pushes};

@@ -3,13 +3,14 @@ ghost use Rattle.std.specs.Prelude.{◌≡◌, ◌++◌, ◌^◌, ◌<◌, ◌�
 ghost use Rattle.std.specs.List.{All};
 ghost use Rattle.key_check.specs.Sums.{SumOverKeys, SumOverVersions, opposite_corner};
 
-use crate::{Corner, vanish};
+use crate::corner::Corner;
+use crate::scan::vanish;
 use bw_types::Point;
 use std::alloc::AllocError;
 
 /// Whether the sum of the corners is that of the points at each key and version. The points' keys past the
 /// first do not count.
-pub fn sum_over_keys(mut corners: Vec<Corner>, points: &[Point]) -> Result<bool, AllocError>
+pub(crate) fn sum_over_keys(mut corners: Vec<Corner>, points: &[Point]) -> Result<bool, AllocError>
     ensures { IfOk result (λ same. IsTrue same ↔ SumOverKeys corners.items points.now) }
 {
     push_opposites(&mut corners, points, true)?;
@@ -17,7 +18,10 @@ pub fn sum_over_keys(mut corners: Vec<Corner>, points: &[Point]) -> Result<bool,
 }
 
 /// Whether the sum of the corners is that of the points at each version, whatever the points' keys.
-pub fn sum_over_versions(mut corners: Vec<Corner>, points: &[Point]) -> Result<bool, AllocError>
+pub(crate) fn sum_over_versions(
+    mut corners: Vec<Corner>,
+    points: &[Point],
+) -> Result<bool, AllocError>
     requires { All (λ c. c.key ≡ 0) corners.items }
     ensures { IfOk result (λ same. IsTrue same ↔ SumOverVersions corners.items points.now) }
 {

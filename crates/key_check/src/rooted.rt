@@ -5,7 +5,7 @@ ghost use Rattle.mvsb_tree.specs.Stands.{has_begun};
 ghost use Rattle.key_check.specs.KeyTrees.{IsRooted, never_zero};
 ghost use Rattle.key_check.specs.Steps.{AscendFrom};
 
-use crate::Step;
+use crate::step::Step;
 use bw_types::Point;
 
 /// Whether the steps' value is not 0 at any version from the first point's on.

@@ -8,15 +8,17 @@ ghost use Rattle.key_check.specs.Steps.{AscendFrom};
 ghost use Rattle.page_checks.specs.Reads.{OnlyChecks};
 
 use crate::chain::mv_node_at;
+use crate::corner::Corner;
 use crate::digits::has_digits;
 use crate::leveled::{Leveled, push_leveled};
 use crate::piece::Piece;
 use crate::piece_walk::walk_levels;
+use crate::points::sum_over_keys;
+use crate::step::Step;
 use crate::version_tree::END;
-use crate::{Corner, Step, sum_over_keys};
 use bw_types::Point;
 use page_checks::CheckFault;
-use page_ports::Pages;
+use ports::Pages;
 use std::alloc::Global;
 
 /// Whether the nodes stand below the roots that the steps tell, all of them among these and in balance for so many points,

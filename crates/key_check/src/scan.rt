@@ -3,11 +3,10 @@ ghost use Rattle.std.specs.Prelude.{◌↔◌, IsTrue};
 ghost use Rattle.std.specs.List.Sorted.{IsNonDecreasingBy};
 ghost use Rattle.key_check.specs.Sums.{Vanish, rank};
 
-use crate::Corner;
-use crate::corner::rank_of;
+use crate::corner::{Corner, rank_of};
 
 /// Whether the sum of the corners is 0 at each key and version. The corners are put into another order.
-pub fn vanish(corners: &mut [Corner]) -> bool
+pub(crate) fn vanish(corners: &mut [Corner]) -> bool
     ensures { IsTrue result ↔ Vanish corners.old }
 {
     corners.sort_unstable_by_key(|corner| rank_of(*corner));

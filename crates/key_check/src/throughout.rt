@@ -12,7 +12,7 @@ use std::alloc::AllocError;
 
 /// Whether the alive lows cut the piece's interval at each of its versions. Between the versions at which an
 /// entry starts or ends they stay the same, so only these are looked at. What `lows` held does not matter.
-pub fn stands_throughout(
+pub(crate) fn stands_throughout(
     lows: &mut Vec<u64>,
     entries: &[MvEntry],
     piece: Piece,

@@ -10,12 +10,13 @@ ghost use Rattle.key_check.specs.declared.version_tree.Walk.{Walk};
 use crate::digits::has_digits;
 use crate::jumps::jumps_of;
 use crate::numbers::{is_mark, versions_in_order};
+use crate::points::sum_over_versions;
 use crate::reached::Reached;
+use crate::step::Step;
 use crate::walk::walk_below;
-use crate::{Step, sum_over_versions};
 use bw_types::{Point, Tree};
 use page_checks::{CheckFault, name_none_twice};
-use page_ports::Pages;
+use ports::Pages;
 use std::alloc::{AllocError, Global};
 
 // The versions of a tree over versions end before this one.

@@ -4,12 +4,12 @@ ghost use Rattle.sb_tree.specs.Stands.{StandsBelow};
 ghost use Rattle.page_checks.specs.Reads.{OnlyChecks};
 ghost use Rattle.key_check.specs.Steps.{Walked, entries_steps, leaf_steps};
 
-use crate::Step;
 use crate::node::{low_at, node_at};
 use crate::reached::Reached;
+use crate::step::Step;
 use page_checks::{CheckFault, push_page};
 use page_layout::SbEntry;
-use page_ports::Pages;
+use ports::Pages;
 use std::alloc::AllocError;
 
 const LEAST: usize = 32;

@@ -1,6 +1,6 @@
 -- What contracts see of the buffer between a source and its lines.
 use Rattle.std.specs.Prelude.{◌≡◌, ℕ, ◌+◌, ◌<◌, Bool, true, IsTrue, List, [], ◌++◌, length, take, slice_index}
-use Rattle.counts.specs.Count.{Rose}
+use Rattle.ports.specs.Count.{Rose}
 use Rattle.line_reader.specs.Lines.{is_line_feed, HasNoLineFeed}
 use Rattle.line_reader.specs.Reader.{IsCalm}
 use Rattle.line_reader.specs.declared.lines.intake.Stop.{Stop}

@@ -1,6 +1,6 @@
 -- What contracts see of a reader of lines, and what each of its answers says.
 use Rattle.std.specs.Prelude.{◌≡◌, ℕ, ◌<◌, ⊤, Bool, IsTrue, List, [], ◌++◌, length, Option, None, Some, IfSome}
-use Rattle.counts.specs.Count.{Rose}
+use Rattle.ports.specs.Count.{Rose}
 use Rattle.line_reader.specs.Lines.{TakesLine, PassesNoLineFeed}
 use Rattle.line_reader.specs.declared.lines.Line.{Line}
 use Rattle.line_reader.specs.declared.lines.Line.TheVariants.{Text, Long, End, Fault, Limit}

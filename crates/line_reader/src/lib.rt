@@ -1,6 +1,6 @@
 //! The lines of an input, cut from what a source gives.
 //!
-//! [`LineReader`] takes bytes from a [`Source`](byte_ports::Source) in whatever pieces they come, and answers line
+//! [`LineReader`] takes bytes from a [`Source`](ports::Source) in whatever pieces they come, and answers line
 //! after line. Its contract says that the answers are the lines of the definition `lines` in specs/, in their order, that a
 //! line of more than 4096 bytes is told as such, and when the end, a fault or the limit comes.
 #![tactic(auto)]

@@ -5,9 +5,9 @@ ghost use Rattle.line_reader.specs.Lines.{lines, is_whole, HasNoLineFeed};
 mod cutting;
 mod intake;
 
-use byte_ports::Source;
 use cutting::cut_line;
 use intake::Intake;
+use ports::Source;
 use std::marker::Model;
 
 /// The most bytes of a line, without its ending.

@@ -1,7 +1,7 @@
 -- What an addition makes of a node, from what it makes of those below it.
 use Rattle.std.proofs.Common.{◌≡◌, ◌⊎◌, ℕ, suc, ◌+◌, ◌<◌, ◌≤◌, inl, inr, length, Option, Some, None, IsSome, refl, sym, subst, arith}
 use Rattle.std.specs.List.{All}
-use Rattle.page_ports.specs.Pages.{PageMap}
+use Rattle.ports.specs.Pages.{PageMap}
 use Rattle.page_layout.specs.MvNode.{IsMvEntryTyped}
 use Rattle.page_layout.specs.declared.mv_node.MvNode.{MvNode}
 use Rattle.mv_pages.specs.Alive.{alive_at, child_of}

@@ -5,8 +5,8 @@ use Rattle.std.proofs.lemmas.Bool.{le-leb, or_left, true≢false}
 use Rattle.std.proofs.lemmas.List.Elements.{All-head}
 use Rattle.bw_types.specs.declared.point.Point.{Point}
 use Rattle.bw_types.specs.declared.tree.Tree.{Tree}
-use Rattle.page_ports.specs.Pages.{PageMap}
-use Rattle.page_ports.specs.Frame.{names_page}
+use Rattle.ports.specs.Pages.{PageMap}
+use Rattle.ports.specs.Frame.{names_page}
 use Rattle.page_layout.specs.MvNode.{IsMvNode, mv_node_page}
 use Rattle.page_layout.specs.declared.mv_node.MvEntry.{MvEntry}
 use Rattle.mvsb_tree.specs.Stands.{ChainStands, MvStands, RootStands, StandsOnWay, has_begun, is_marked, is_past, key_of}

@@ -11,9 +11,9 @@ use Rattle.std.proofs.lemmas.List.Sorted.{All-permutation, IsPermutation-sym, Is
 use Rattle.bw_types.specs.Empty.{empty_tree}
 use Rattle.bw_types.specs.declared.point.Point.{Point}
 use Rattle.bw_types.specs.declared.tree.Tree.{Tree}
-use Rattle.page_ports.specs.Frame.{names_page, Replaces}
-use Rattle.page_ports.specs.FrameLaws.{Replaces-same, Replaces-then}
-use Rattle.page_ports.specs.Pages.{PageMap, put_page}
+use Rattle.ports.specs.Frame.{names_page, Replaces}
+use Rattle.ports.specs.FrameLaws.{Replaces-same, Replaces-then}
+use Rattle.ports.specs.Pages.{PageMap, put_page}
 use Rattle.page_layout.specs.MvNode.{IsMvNode, IsTyped, mv_node_page}
 use Rattle.page_layout.specs.declared.mv_node.MvNode.{MvNode}
 use Rattle.mv_pages.specs.Alive.{node_value}

@@ -3,9 +3,9 @@ use Rattle.std.proofs.Common.{◌≡◌, ◌≢◌, ℕ, zero, suc, ◌+◌, ◌
 use Rattle.std.specs.Option.{option_map_or}
 use Rattle.std.proofs.lemmas.Bool.{cases_Bool, or_left, or_right, or_cases, or_parts, eqb-true, eq-eqb, true≢false}
 use Rattle.std.proofs.lemmas.List.Sums.{sum_by-append, sum_by-cons}
-use Rattle.page_ports.specs.Pages.{PageMap, remove_page}
-use Rattle.page_ports.specs.Frame.{names_page, AgreeOn, AreApart, AreInMap, Replaces}
-use Rattle.page_ports.specs.FrameLaws.{names_page-append, Replaces-beside, Replaces-free}
+use Rattle.ports.specs.Pages.{PageMap, remove_page}
+use Rattle.ports.specs.Frame.{names_page, AgreeOn, AreApart, AreInMap, Replaces}
+use Rattle.ports.specs.FrameLaws.{names_page-append, Replaces-beside, Replaces-free}
 use Rattle.page_layout.specs.Damage.{NothingBeside}
 use Rattle.page_layout.specs.DamageLaws as laws
 use Rattle.page_layout.specs.Footprint.{NamesNoneTwice, IsNamedTwice, times_named}

@@ -4,7 +4,7 @@ use Rattle.bw_types.specs.Digits.{digit_count}
 use Rattle.bw_types.specs.DigitLaws.{digits_are_few, digits_grow}
 use Rattle.bw_types.specs.declared.point.Point.{Point}
 use Rattle.bw_types.specs.declared.tree.Tree.{Tree}
-use Rattle.page_ports.specs.Pages.{PageMap}
+use Rattle.ports.specs.Pages.{PageMap}
 use Rattle.mvsb_tree.specs.declared.place.Place.{Place}
 use Rattle.mvsb_tree.specs.Damage.{root_place}
 use Rattle.mvsb_tree.specs.Stands.{IsBalanced, MvStands, RootStands}

@@ -9,7 +9,7 @@ use Rattle.std.proofs.Math.Nat.{suc-mul, pow-suc, mul-le-mul_right, mul_comm, on
 use Rattle.bw_types.specs.Digits.{digit_count}
 use Rattle.bw_types.specs.DigitLaws.{powers_have_digits}
 use Rattle.bw_types.specs.declared.point.Point.{Point}
-use Rattle.page_ports.specs.Pages.{PageMap}
+use Rattle.ports.specs.Pages.{PageMap}
 use Rattle.page_layout.specs.declared.mv_node.MvEntry.{MvEntry}
 use Rattle.page_layout.specs.MvNode.{IsMvEntryTyped}
 use Rattle.mv_pages.specs.Alive.{child_of, is_alive, or_later, path_child}

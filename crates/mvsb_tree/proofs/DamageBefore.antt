@@ -3,9 +3,9 @@ use Rattle.std.proofs.Common.{◌≡◌, ◌≢◌, ◌⊎◌, ℕ, zero, suc, �
 use Rattle.std.proofs.lemmas.Bool.{cases_Bool, cases_lt, or_left, or_right}
 use Rattle.std.proofs.lemmas.List.{append-nil}
 use Rattle.bw_types.specs.declared.tree.Tree.{Tree}
-use Rattle.page_ports.specs.Pages.{PageMap}
-use Rattle.page_ports.specs.Frame.{Replaces, names_page}
-use Rattle.page_ports.specs.FrameLaws.{Replaces-beside, Replaces-same, names_page-append}
+use Rattle.ports.specs.Pages.{PageMap}
+use Rattle.ports.specs.Frame.{Replaces, names_page}
+use Rattle.ports.specs.FrameLaws.{Replaces-beside, Replaces-same, names_page-append}
 use Rattle.page_layout.specs.Footprint.{IsNamedTwice, times_named}
 use Rattle.page_layout.specs.FootprintLaws.{named_by_one, named_once, times_append}
 use Rattle.page_layout.specs.MvNode.{IsMvNode, IsTyped, mv_node_page}

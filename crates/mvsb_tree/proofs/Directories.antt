@@ -4,7 +4,7 @@ use Rattle.std.specs.List.{list_any}
 use Rattle.std.specs.Option.{option_map_or}
 use Rattle.std.proofs.lemmas.Bool.{cases_Bool, eqb-true, eq-eqb}
 use Rattle.bw_types.specs.declared.tree.Tree.{Tree}
-use Rattle.page_ports.specs.Pages.{PageMap, put_page}
+use Rattle.ports.specs.Pages.{PageMap, put_page}
 use Rattle.page_layout.specs.Damage.{IsDamagedBelow, NothingBeside}
 use Rattle.page_layout.specs.MvNode.{mv_node_page}
 use Rattle.page_layout.specs.SbNode.{sb_node_in, sb_node_page}

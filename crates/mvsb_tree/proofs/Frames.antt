@@ -3,9 +3,9 @@ use Rattle.std.proofs.Common.{◌≡◌, ℕ, zero, suc, ◌+◌, ◌≤◌, ◌
 use Rattle.std.specs.List.{All}
 use Rattle.std.specs.Option.{option_map_or}
 use Rattle.std.proofs.lemmas.Bool.{or_left, or_right}
-use Rattle.page_ports.specs.Pages.{PageMap}
-use Rattle.page_ports.specs.Frame.{names_page, AgreeOn}
-use Rattle.page_ports.specs.FrameLaws.{names_page-append}
+use Rattle.ports.specs.Pages.{PageMap}
+use Rattle.ports.specs.Frame.{names_page, AgreeOn}
+use Rattle.ports.specs.FrameLaws.{names_page-append}
 use Rattle.page_layout.specs.MvNode.{IsMvNode, IsTyped, mv_node_page}
 use Rattle.page_layout.specs.declared.mv_node.MvNode.{MvNode}
 use Rattle.mv_pages.specs.Alive.{child_of, value_of}

@@ -1,12 +1,12 @@
 -- A stage that goes on through several calls.
 use Rattle.std.proofs.Common.{◌≡◌, ℕ, ◌+◌, ◌<◌, ◌≤◌, IsTrue, Bool, Result, Ok, Err, sym, subst, ◌∙◌, ap, arith}
-use Rattle.counts.specs.Count.{Rose}
-use Rattle.page_ports.specs.Calls.{Grows, WasRead, WentOn}
-use Rattle.page_ports.specs.Frame.{KeepsPages}
-use Rattle.page_ports.specs.Pages.{PageMap}
-use Rattle.page_ports.specs.declared.page.StageFault.{StageFault}
-use Rattle.page_ports.specs.declared.page.StageFault.TheVariants.{Disk, PageLimit}
-use Rattle.page_ports.specs.declared.pages.Pages.{Ghosts}
+use Rattle.ports.specs.Count.{Rose}
+use Rattle.ports.specs.Calls.{Grows, WasRead, WentOn}
+use Rattle.ports.specs.Frame.{KeepsPages}
+use Rattle.ports.specs.Pages.{PageMap}
+use Rattle.ports.specs.declared.page.StageFault.{StageFault}
+use Rattle.ports.specs.declared.page.StageFault.TheVariants.{Disk, PageLimit}
+use Rattle.ports.specs.declared.pages.Pages.{Ghosts}
 
 -- A count that rose from a moment on rose from before.
 rose_before : (a b c : ℕ) → a ≤ b → Rose b c → Rose a c
@@ -68,7 +68,7 @@ went_reading g w n old mid new first read = record {
     from_three = gone.from_three;
     given_out = subst (λ (k : ℕ). page < k) read.allotted gone.given_out;
     gone = sym (ap (λ (m : PageMap). m page) read.map) ∙ gone.gone;
-    unchained = subst (λ (ps : Rattle.std.specs.Prelude.List ℕ). Rattle.page_ports.specs.Frame.names_page ps page ≡ Rattle.std.specs.Prelude.false) read.chain gone.unchained;
+    unchained = subst (λ (ps : Rattle.std.specs.Prelude.List ℕ). Rattle.ports.specs.Frame.names_page ps page ≡ Rattle.std.specs.Prelude.false) read.chain gone.unchained;
   });
   allotted = omega (arith, first.allotted, read.allotted);
   at_most = omega (arith, first.at_most, read.allotted);

@@ -1,9 +1,9 @@
 -- How the nodes of a tree grow, step by step.
 use Rattle.std.proofs.Common.{◌≡◌, ℕ, zero, suc, ◌+◌, ◌==◌, ◌||◌, inl, inr, true, false, Bool, List, [], ◌∷◌, ◌++◌, Option, Some, None, IsSome, refl, sym, ap, ◌∙◌, subst, arith, append_assoc}
 use Rattle.std.proofs.lemmas.Bool.{cases_Bool, or_cases, or_left, or_right, or_parts, or_from, eqb-true, eq-eqb, true≢false}
-use Rattle.page_ports.specs.Pages.{PageMap, put_page}
-use Rattle.page_ports.specs.Frame.{names_page, AgreeOn}
-use Rattle.page_ports.specs.FrameLaws.{names_page-append, Replaces-then}
+use Rattle.ports.specs.Pages.{PageMap, put_page}
+use Rattle.ports.specs.Frame.{names_page, AgreeOn}
+use Rattle.ports.specs.FrameLaws.{names_page-append, Replaces-then}
 use Rattle.page_layout.specs.Footprint.{NamesNoneTwice}
 use Rattle.page_layout.specs.MvNode.{IsMvNode, IsTyped, mv_node_page}
 use Rattle.page_layout.specs.declared.mv_node.MvNode.{MvNode}

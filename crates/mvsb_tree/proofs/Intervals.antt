@@ -3,8 +3,8 @@ use Rattle.std.proofs.Common.{◌≡◌, ℕ, zero, suc, ◌<◌, ◌≤◌, ◌
 use Rattle.std.specs.Option.{option_map_or}
 use Rattle.std.proofs.lemmas.Bool.{and_parts, cases_Bool, cases_lt, or_cases, eqb-true, le-leb, lt-ltb, ltb-true, ltb-false, true≢false}
 use Rattle.std.proofs.lemmas.List.Elements.{All-cons}
-use Rattle.page_ports.specs.Pages.{PageMap}
-use Rattle.page_ports.specs.Frame.{names_page}
+use Rattle.ports.specs.Pages.{PageMap}
+use Rattle.ports.specs.Frame.{names_page}
 use Rattle.mv_pages.specs.Alive.{child_of, or_later}
 use Rattle.mv_pages.specs.Lows.{alive_lows, ascend, ascend_from, follows, low_above, low_at}
 use Rattle.mvsb_tree.specs.Stands.{NodeStands, StandsOnWay, ends_after, first_of, inner_high, inner_low}

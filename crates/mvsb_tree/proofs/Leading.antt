@@ -8,9 +8,9 @@ use Rattle.std.proofs.lemmas.List.Sums.{sum_by-cons}
 use Rattle.bw_types.specs.Dominance.{dominated_weight, is_dominated}
 use Rattle.bw_types.specs.declared.point.Point.{Point}
 use Rattle.bw_types.specs.declared.tree.Tree.{Tree}
-use Rattle.page_ports.specs.Pages.{PageMap}
-use Rattle.page_ports.specs.Frame.{Replaces}
-use Rattle.page_ports.specs.FrameLaws.{Replaces-same}
+use Rattle.ports.specs.Pages.{PageMap}
+use Rattle.ports.specs.Frame.{Replaces}
+use Rattle.ports.specs.FrameLaws.{Replaces-same}
 use Rattle.sb_tree.specs.Stands.{SbStands}
 use Rattle.sb_tree.specs.Steps.{tree_pages}
 use Rattle.mvsb_tree.specs.Led.{Led}

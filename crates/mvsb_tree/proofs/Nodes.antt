@@ -1,7 +1,7 @@
 -- The node that a page of a node spells.
 use Rattle.std.proofs.Common.{◌≡◌, ℕ, List, Option, Some, sym, ap, ◌∙◌, subst}
 use Rattle.std.specs.Option.{option_map_or}
-use Rattle.page_ports.specs.Pages.{PageMap}
+use Rattle.ports.specs.Pages.{PageMap}
 use Rattle.page_layout.specs.declared.mv_node.MvNode.{MvNode}
 use Rattle.page_layout.specs.MvNode.{IsMvNode, IsTyped, mv_node_page, mv_node_in}
 use Rattle.page_layout.specs.MvNodeLaws.{mv_node_in-page}

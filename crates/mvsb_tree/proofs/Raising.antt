@@ -5,8 +5,8 @@ use Rattle.std.specs.Option.{option_map_or}
 use Rattle.std.proofs.lemmas.Bool.{and_from, and_parts, cases_lt, cond-true, eq-eqb, le-leb, lt-leb, lt-ltb}
 use Rattle.std.proofs.lemmas.List.Elements.{All-tail, All-map}
 use Rattle.std.proofs.lemmas.List.{length-map}
-use Rattle.page_ports.specs.Pages.{PageMap}
-use Rattle.page_ports.specs.Frame.{names_page}
+use Rattle.ports.specs.Pages.{PageMap}
+use Rattle.ports.specs.Frame.{names_page}
 use Rattle.page_layout.specs.declared.mv_node.MvNode.{MvNode}
 use Rattle.page_layout.specs.declared.mv_node.MvEntry.{MvEntry}
 use Rattle.mv_pages.specs.Alive.{child_of, node_value, path_child, value_of}

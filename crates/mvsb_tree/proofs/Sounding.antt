@@ -1,7 +1,7 @@
 -- An addition on ways that stand finds no page damaged.
 use Rattle.std.proofs.Common.{◌≡◌, ◌⊎◌, ℕ, zero, suc, ◌<◌, inl, inr, Bool, IsTrue, List, Option, Some, None, IsSome, refl, sym, subst, arith}
 use Rattle.std.specs.List.{All}
-use Rattle.page_ports.specs.Pages.{PageMap}
+use Rattle.ports.specs.Pages.{PageMap}
 use Rattle.page_layout.specs.Damage.{HoldsNoNode, NothingBeside}
 use Rattle.page_layout.specs.DamageLaws as laws
 use Rattle.page_layout.specs.MvNode.{IsMvNode, IsTyped, mv_node_page}

@@ -2,8 +2,8 @@
 use Rattle.std.proofs.Common.{◌≡◌, ◌≢◌, ℕ, zero, suc, ◌+◌, ◌%◌, ◌^◌, ◌<◌, ◌≤◌, length, ◌==◌, ◌||◌, ◌&&◌, inl, inr, true, false, Bool, IsTrue, nat_le, nat_lt, List, [], ◌∷◌, Option, Some, None, cond, refl, sym, ap, ◌∙◌, subst, arith}
 use Rattle.std.proofs.lemmas.Bool.{and_from, cases_Bool, cases_lt, cond-false, eqb-true, le-leb, lt-leb, lt-ltb, le-ltb, or_right}
 use Rattle.std.proofs.lemmas.List.Elements.{All-cons, All-nil}
-use Rattle.page_ports.specs.Pages.{PageMap}
-use Rattle.page_ports.specs.Frame.{names_page}
+use Rattle.ports.specs.Pages.{PageMap}
+use Rattle.ports.specs.Frame.{names_page}
 use Rattle.page_layout.specs.declared.mv_node.MvEntry.{MvEntry}
 use Rattle.page_layout.specs.declared.mv_node.MvNode.{MvNode}
 use Rattle.mv_pages.specs.Alive.{child_of, is_alive, or_later, path_child, reaches, value_of}

@@ -3,8 +3,8 @@ use Rattle.std.specs.Prelude.{◌≡◌, ◌≢◌, ℕ, ◌<◌, ◌≤◌, ◌
 use Rattle.std.specs.List.{All}
 use Rattle.bw_types.specs.declared.point.Point.{Point}
 use Rattle.bw_types.specs.declared.tree.Tree.{Tree}
-use Rattle.page_ports.specs.Frame.{Replaces}
-use Rattle.page_ports.specs.Pages.{PageMap, put_page}
+use Rattle.ports.specs.Frame.{Replaces}
+use Rattle.ports.specs.Pages.{PageMap, put_page}
 use Rattle.page_layout.specs.MvNode.{mv_node_page}
 use Rattle.page_layout.specs.declared.mv_node.MvNode.{MvNode}
 use Rattle.mvsb_tree.specs.Stands.{IsBalanced, MvStands}

@@ -2,7 +2,7 @@
 use Rattle.std.specs.Prelude.{◌≡◌, ◌≢◌, ℕ, ◌⊎◌, ◌≤◌, ◌^◌, nat_le, ◌&&◌, ◌||◌, not, Bool, IsTrue, List, Some, None, IsSome}
 use Rattle.std.specs.List.{list_all}
 use Rattle.bw_types.specs.declared.tree.Tree.{Tree}
-use Rattle.page_ports.specs.Pages.{PageMap}
+use Rattle.ports.specs.Pages.{PageMap}
 use Rattle.page_layout.specs.Damage.{IsDamagedBelow, NothingBeside}
 use Rattle.page_layout.specs.Footprint.{IsNamedTwice}
 use Rattle.page_layout.specs.Spelled.{Spells, SpellsNone}

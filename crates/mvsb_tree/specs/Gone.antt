@@ -4,8 +4,8 @@
 -- what is damaged in it, is told of whatever map this one was before it lost pages.
 use Rattle.std.specs.Prelude.{◌≡◌, ℕ, true, ◌⊎◌, List, []}
 use Rattle.bw_types.specs.declared.tree.Tree.{Tree}
-use Rattle.page_ports.specs.Frame.{AreInMap, Replaces, names_page}
-use Rattle.page_ports.specs.Pages.{PageMap}
+use Rattle.ports.specs.Frame.{AreInMap, Replaces, names_page}
+use Rattle.ports.specs.Pages.{PageMap}
 use Rattle.page_layout.specs.Footprint.{IsNamedTwice}
 use Rattle.mvsb_tree.specs.Damage.{IsDamagedForFree}
 use Rattle.mvsb_tree.specs.Steps.{tree_pages}

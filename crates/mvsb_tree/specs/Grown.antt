@@ -1,8 +1,8 @@
 -- How the nodes of a tree grow at a version: the past stays, and the chain gets longer at its end.
 use Rattle.std.specs.Prelude.{◌≡◌, ℕ, ◌<◌, true, IsTrue, Bool, List, ◌++◌, None}
 use Rattle.std.specs.List.{All}
-use Rattle.page_ports.specs.Pages.{PageMap}
-use Rattle.page_ports.specs.Frame.{names_page, Replaces}
+use Rattle.ports.specs.Pages.{PageMap}
+use Rattle.ports.specs.Frame.{names_page, Replaces}
 use Rattle.page_layout.specs.Footprint.{NamesNoneTwice}
 use Rattle.page_layout.specs.declared.mv_node.MvNode.{MvNode}
 use Rattle.mv_pages.specs.Alive.{IsPastOf, child_of, node_value}

@@ -2,8 +2,8 @@
 use Rattle.std.specs.Prelude.{◌≡◌, ℕ, ◌<◌, ◌≤◌, ◌^◌, List, [], length, IsPermutation}
 use Rattle.bw_types.specs.declared.point.Point.{Point}
 use Rattle.bw_types.specs.declared.tree.Tree.{Tree}
-use Rattle.page_ports.specs.Pages.{PageMap}
-use Rattle.page_ports.specs.Frame.{AgreeOn, AreInMap}
+use Rattle.ports.specs.Pages.{PageMap}
+use Rattle.ports.specs.Frame.{AgreeOn, AreInMap}
 use Rattle.mvsb_tree.specs.Steps.{root_at, root_level, tree_pages}
 use Rattle.mvsb_tree.specs.Stands.{IsBalanced, IsEmptyTree, MvStands}
 

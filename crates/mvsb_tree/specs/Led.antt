@@ -3,8 +3,8 @@ use Rattle.std.specs.Prelude.{◌≡◌, ◌≢◌, ℕ, ◌<◌, ◌≤◌, ◌
 use Rattle.std.specs.List.{All}
 use Rattle.bw_types.specs.declared.point.Point.{Point}
 use Rattle.bw_types.specs.declared.tree.Tree.{Tree}
-use Rattle.page_ports.specs.Pages.{PageMap}
-use Rattle.page_ports.specs.Frame.{Replaces}
+use Rattle.ports.specs.Pages.{PageMap}
+use Rattle.ports.specs.Frame.{Replaces}
 use Rattle.sb_tree.specs.Stands.{SbStands}
 use Rattle.sb_tree.specs.Steps.{tree_pages, tree_value}
 

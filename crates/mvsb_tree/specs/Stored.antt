@@ -1,7 +1,7 @@
 -- What is stored of a node that was changed, in its page or in those that take its part.
 use Rattle.std.specs.Prelude.{◌≡◌, ℕ, ◌+◌, ◌⊎◌, ◌<◌, ◌≤◌, ◌==◌, Bool, true, false, IsTrue, List, length, Option, Some, None}
 use Rattle.std.specs.List.{All, list_all}
-use Rattle.page_ports.specs.Pages.{PageMap, put_page}
+use Rattle.ports.specs.Pages.{PageMap, put_page}
 use Rattle.page_layout.specs.Spelled.{SpellsNone}
 use Rattle.page_layout.specs.MvNode.{IsMvNode, IsMvEntryTyped, IsTyped, before_fits, mv_node_page}
 use Rattle.page_layout.specs.declared.mv_node.MvNode.{MvNode}

@@ -2,9 +2,9 @@
 ghost use Rattle.std.specs.Prelude.{◌≡◌, ◌≢◌, ◌⊎◌, ◌+◌, ◌^◌, ◌<◌, ◌≤◌, ℕ, List, ◌∷◌, length, Err, None, IsTrue, IfOk, OnOk, OnErr};
 ghost use Rattle.std.specs.List.{All};
 ghost use Rattle.bw_types.specs.declared.point.Point.{Point};
-ghost use Rattle.page_ports.specs.Calls.{Grows};
-ghost use Rattle.page_ports.specs.Frame.{Replaces};
-ghost use Rattle.page_ports.specs.Pages.{PageMap};
+ghost use Rattle.ports.specs.Calls.{Grows};
+ghost use Rattle.ports.specs.Frame.{Replaces};
+ghost use Rattle.ports.specs.Pages.{PageMap};
 ghost use Rattle.page_layout.specs.TreeValue.{IsTreeTyped, tree_fits};
 ghost use Rattle.sb_tree.specs.Stored.{OthersStay};
 ghost use Rattle.mvsb_tree.specs.AddDamage.{ChangesRoot, IsDamagedForAdd, IsDamagedInNodes, IsWholeForAdd, KeepsDirectories, directory_pages, node_way};
@@ -19,7 +19,7 @@ use crate::lead::lead_to;
 use crate::root::add_at_root;
 use bw_types::Tree;
 use mv_pages::path_laws;
-use page_ports::{Stage, StageFault};
+use ports::{Stage, StageFault};
 use sb_tree::tree_laws;
 
 /// Adds a value, a residue modulo `2^128`, from a key and a version on. The version is to be at least

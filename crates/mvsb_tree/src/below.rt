@@ -1,7 +1,7 @@
 //! Additions to a node and below it.
 ghost use Rattle.std.specs.Prelude.{◌≡◌, ◌≢◌, ◌⊎◌, ◌+◌, ◌^◌, ◌<◌, ◌≤◌, ℕ, Bool, Err, IsTrue, IfOk, Some};
 ghost use Rattle.page_layout.specs.MvNode.{IsMvNode, IsTyped, mv_node_page};
-ghost use Rattle.page_ports.specs.Calls.{Grows};
+ghost use Rattle.ports.specs.Calls.{Grows};
 ghost use Rattle.mv_pages.specs.Alive.{IsChangeable};
 ghost use Rattle.sb_tree.specs.Stored.{OthersStay};
 ghost use Rattle.mvsb_tree.specs.AddDamage.{EndsOnWay, IsDamagedPastForAdd, IsMade, IsWholePast, KeepsDirectories};
@@ -20,7 +20,7 @@ use crate::step::step_from;
 use crate::store::store;
 use mv_pages::is_changeable;
 use page_layout::{MvNode, View, view_in_place};
-use page_ports::{Page, Stage, StageFault};
+use ports::{Page, Stage, StageFault};
 
 /// Adds a value from a key and a version on to the node of the page and below it. Where the node is
 /// closed, the result is what takes its part. The node is changed in place, and `bytes` is the buffer

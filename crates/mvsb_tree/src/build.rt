@@ -2,7 +2,7 @@
 ghost use Rattle.std.specs.Prelude.{◌≡◌, ◌+◌, ◌*◌, ◌^◌, ◌<◌, ◌≤◌, ℕ, Err, IsTrue, IfOk, length, take};
 ghost use Rattle.std.specs.List.{All};
 ghost use Rattle.std.specs.List.Sorted.{IsNonDecreasingBy};
-ghost use Rattle.page_ports.specs.Calls.{Grows};
+ghost use Rattle.ports.specs.Calls.{Grows};
 ghost use Rattle.page_layout.specs.MvNode.{IsMvNode, IsTyped};
 ghost use Rattle.page_layout.specs.TreeValue.{IsTreeTyped, tree_fits};
 ghost use Rattle.mv_pages.specs.Alive.{IsChangeable};
@@ -15,7 +15,7 @@ use crate::node::{no_node, put_node, read_node};
 use bw_types::{Point, Tree};
 use mv_pages::{is_changeable, later_laws, path_laws};
 use page_layout::{MvNode, View, view_page};
-use page_ports::{Stage, StageFault, blank_page};
+use ports::{Stage, StageFault, blank_page};
 use sb_tree::tree_laws;
 
 /// Builds a tree of points, none of which is later than one behind it: at most `2^31`, their versions below `2^32 - 1`. The

@@ -1,12 +1,12 @@
 //! The chain of places.
 ghost use Rattle.std.specs.Prelude.{◌≡◌, ◌≢◌, ◌⊎◌, ◌≤◌, ℕ, length, Err, IsTrue, IfOk};
-ghost use Rattle.page_ports.specs.Calls.{Grows};
+ghost use Rattle.ports.specs.Calls.{Grows};
 ghost use Rattle.mv_pages.specs.Alive.{AreEntriesOf};
 ghost use Rattle.mvsb_tree.specs.Stands.{ChainStands};
 ghost use Rattle.mvsb_tree.specs.Stored.{IsLastDamaged, IsNext};
 
 use page_layout::{MvNode, make_page, read_page};
-use page_ports::{Stage, StageFault};
+use ports::{Stage, StageFault};
 
 /// Makes a page for the node, at the place after that of the last page of the chain, which it then is.
 ///

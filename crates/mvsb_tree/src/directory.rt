@@ -1,13 +1,13 @@
 //! The directory of roots.
 ghost use Rattle.std.specs.Prelude.{◌≡◌, ◌≢◌, ◌<◌, ◌^◌, ℕ, List, Err, IsTrue, IfOk};
 ghost use Rattle.bw_types.specs.declared.point.Point.{Point};
-ghost use Rattle.page_ports.specs.Calls.{OnlyReads};
+ghost use Rattle.ports.specs.Calls.{OnlyReads};
 ghost use Rattle.sb_tree.specs.Stands.{SbStands};
 ghost use Rattle.mvsb_tree.specs.Damage.{IsDamagedToRoot, IsWholeToRoot};
 ghost use Rattle.mvsb_tree.specs.Steps.{directory as spec_directory, root_at as spec_root_at};
 
 use bw_types::Tree;
-use page_ports::{PageFault, Pages};
+use ports::{PageFault, Pages};
 use sb_tree::sb_value;
 
 /// The directory of a tree: a tree over versions, whose value at a version is the page of the root.

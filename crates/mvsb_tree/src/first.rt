@@ -1,13 +1,13 @@
 //! The first leaf of a tree.
 ghost use Rattle.std.specs.Prelude.{◌≡◌, ◌<◌, ◌≤◌, ◌==◌, false, ℕ, Some, None, Err, IsTrue, IfOk};
-ghost use Rattle.page_ports.specs.Calls.{Grows};
+ghost use Rattle.ports.specs.Calls.{Grows};
 ghost use Rattle.page_layout.specs.MvNode.{IsMvNode, mv_node_page};
 ghost use Rattle.mv_pages.specs.Edits.{new_entry};
 ghost use Rattle.mvsb_tree.specs.Tops.{first_node};
 
 use arrayvec::ArrayVec;
 use page_layout::{MvEntry, MvNode, make_page};
-use page_ports::{Stage, StageFault};
+use ports::{Stage, StageFault};
 
 /// Makes the page of a leaf of one addition, the first of a chain.
 ///

@@ -1,8 +1,8 @@
 //! Freeing a tree.
 ghost use Rattle.std.specs.Prelude.{◌≡◌, ◌≢◌, ℕ, List, [], Err, IsTrue, OnOk};
 ghost use Rattle.bw_types.specs.declared.point.Point.{Point};
-ghost use Rattle.page_ports.specs.Calls.{Changes};
-ghost use Rattle.page_ports.specs.Frame.{AreInMap, Replaces};
+ghost use Rattle.ports.specs.Calls.{Changes};
+ghost use Rattle.ports.specs.Frame.{AreInMap, Replaces};
 ghost use Rattle.mvsb_tree.specs.Damage.{IsDamagedForFree, IsDamagedInChain};
 ghost use Rattle.mvsb_tree.specs.Gone.{AreDropped, WasDamaged};
 ghost use Rattle.mvsb_tree.specs.Stands.{ChainStands, MvStands};
@@ -11,7 +11,7 @@ ghost use Rattle.mvsb_tree.specs.Steps.{chain_from, place_count, tree_pages};
 use crate::directory::directory;
 use bw_types::Tree;
 use page_layout::{MvNode, read_page};
-use page_ports::{Stage, StageFault};
+use ports::{Stage, StageFault};
 use sb_tree::sb_free;
 
 /// Frees the pages of the tree, those of the directory and those of the chain of nodes, and no other.

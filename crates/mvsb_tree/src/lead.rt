@@ -1,8 +1,8 @@
 //! Changes of the root in the directory.
 ghost use Rattle.std.specs.Prelude.{◌≡◌, ◌≢◌, ◌+◌, ◌%◌, ◌^◌, ◌<◌, ◌≤◌, false, ℕ, List, length, Err, IsSome, IsTrue, OnOk};
 ghost use Rattle.bw_types.specs.declared.point.Point.{Point};
-ghost use Rattle.page_ports.specs.Calls.{Grows};
-ghost use Rattle.page_ports.specs.Frame.{names_page};
+ghost use Rattle.ports.specs.Calls.{Grows};
+ghost use Rattle.ports.specs.Frame.{names_page};
 ghost use Rattle.sb_tree.specs.Damage.{IsDamagedForAdd};
 ghost use Rattle.sb_tree.specs.Stands.{IsBalanced, SbStands};
 ghost use Rattle.sb_tree.specs.Steps.{tree_pages};
@@ -10,7 +10,7 @@ ghost use Rattle.sb_tree.specs.Stored.{OthersStay};
 ghost use Rattle.mvsb_tree.specs.Led.{Led};
 
 use bw_types::Tree;
-use page_ports::{Stage, StageFault};
+use ports::{Stage, StageFault};
 use sb_tree::sb_add;
 
 /// Lets the directory lead to the page `top` from the version on, where it led to `root`. Where they

@@ -11,7 +11,7 @@ use crate::laws::mv_laws;
 use crate::value::mv_value;
 use bw_types::{Point, Tree};
 use dom_index::DomIndex;
-use page_ports::{PageFault, Pages, Stage, StageFault};
+use ports::{PageFault, Pages, Stage, StageFault};
 use std::alloc::Global;
 
 /// A multiversion tree as an index, over one dimension.

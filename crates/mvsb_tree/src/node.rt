@@ -1,12 +1,12 @@
 //! Nodes read out of their pages, and put back through a buffer.
 ghost use Rattle.std.specs.Prelude.{◌≡◌, ◌≢◌, ℕ, [], Err, IsTrue, IsSome, OnOk};
 ghost use Rattle.page_layout.specs.MvNode.{IsMvNode, mv_node_page};
-ghost use Rattle.page_ports.specs.Calls.{Grows};
-ghost use Rattle.page_ports.specs.Pages.{put_page};
+ghost use Rattle.ports.specs.Calls.{Grows};
+ghost use Rattle.ports.specs.Pages.{put_page};
 
 use arrayvec::ArrayVec;
 use page_layout::{MvNode, Spelled, View};
-use page_ports::{Page, Stage, StageFault};
+use ports::{Page, Stage, StageFault};
 
 /// A node without entries, which spells no page: room for one that is read.
 #[inline(always)]

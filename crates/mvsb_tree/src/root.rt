@@ -1,6 +1,6 @@
 //! Additions to a whole tree below its directory.
 ghost use Rattle.std.specs.Prelude.{◌≡◌, ◌≢◌, ◌⊎◌, ◌+◌, ◌^◌, ◌<◌, ◌≤◌, ℕ, Bool, Err, IsTrue, IfOk, None};
-ghost use Rattle.page_ports.specs.Calls.{Grows};
+ghost use Rattle.ports.specs.Calls.{Grows};
 ghost use Rattle.sb_tree.specs.Stored.{OthersStay};
 ghost use Rattle.mvsb_tree.specs.AddDamage.{IsDamagedAtRoot, IsRootClosed, IsWholeFromRoot, KeepsDirectories};
 ghost use Rattle.mvsb_tree.specs.Grown.{NodesHold};
@@ -15,7 +15,7 @@ use crate::place::root_place;
 use crate::top::top_of;
 use mv_pages::is_changeable;
 use page_layout::{MvNode, PlaceFor, View, view_page};
-use page_ports::{Stage, StageFault, blank_page};
+use ports::{Stage, StageFault, blank_page};
 
 /// Adds a value from a key and a version on to the nodes from the root down, and gives the page of the
 /// root from the version on.

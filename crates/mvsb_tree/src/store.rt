@@ -1,9 +1,9 @@
 //! Storing a node in its page, or in those that take its part.
 ghost use Rattle.std.specs.Prelude.{◌≡◌, ◌≢◌, ◌⊎◌, ◌<◌, ◌≤◌, true, ℕ, length, Err, IsTrue, IsSome, IfOk};
-ghost use Rattle.page_ports.specs.Calls.{Grows};
+ghost use Rattle.ports.specs.Calls.{Grows};
 ghost use Rattle.page_layout.specs.MvNode.{before_fits};
 ghost use Rattle.mv_pages.specs.Alive.{AreEntriesOf};
-ghost use Rattle.page_ports.specs.Frame.{names_page};
+ghost use Rattle.ports.specs.Frame.{names_page};
 ghost use Rattle.mvsb_tree.specs.AddDamage.{IsEndDamaged, IsPlacedAs};
 ghost use Rattle.mvsb_tree.specs.Becoming.{new_pages};
 ghost use Rattle.mvsb_tree.specs.Stands.{ChainStands};
@@ -15,7 +15,7 @@ use crate::node::put_node;
 use crate::replaced::Replaced;
 use mv_pages::{Copied, close_and_copy};
 use page_layout::{MvEntry, MvNode, put_page};
-use page_ports::{Page, Stage, StageFault};
+use ports::{Page, Stage, StageFault};
 
 /// Stores a node that was changed at the version in its page. Where it has more than 96 entries, one
 /// new page takes its part from the version on, or two do, and the page stays as it was for the past;

@@ -1,6 +1,6 @@
 //! The root above what an addition leaves of the one before.
 ghost use Rattle.std.specs.Prelude.{◌≡◌, ◌≢◌, ◌⊎◌, ◌+◌, ◌<◌, ◌≤◌, ◌^◌, ℕ, Err, IsTrue, IsSome, IfOk, Some, None};
-ghost use Rattle.page_ports.specs.Calls.{Grows};
+ghost use Rattle.ports.specs.Calls.{Grows};
 ghost use Rattle.mv_pages.specs.Alive.{AreEntriesOf};
 ghost use Rattle.mv_pages.specs.Edits.{new_entry};
 ghost use Rattle.mvsb_tree.specs.Changed.{ReplacedFits, cut_of};
@@ -12,7 +12,7 @@ use crate::chain::make_next;
 use crate::replaced::Replaced;
 use arrayvec::ArrayVec;
 use page_layout::{MvEntry, MvNode};
-use page_ports::{Stage, StageFault};
+use ports::{Stage, StageFault};
 
 /// The root from a version on, where these pages, if any, took the part of a root of the level: two
 /// pages get a new root above them.

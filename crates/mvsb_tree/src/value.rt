@@ -4,7 +4,7 @@ ghost use Rattle.bw_types.specs.Dominance.{dominance_sum};
 ghost use Rattle.bw_types.specs.Digits.{digit_count};
 ghost use Rattle.bw_types.specs.declared.point.Point.{Point};
 ghost use Rattle.page_layout.specs.Damage.{HoldsNoNode, IsDamagedBelow, NothingBeside};
-ghost use Rattle.page_ports.specs.Calls.{OnlyReads};
+ghost use Rattle.ports.specs.Calls.{OnlyReads};
 ghost use Rattle.mvsb_tree.specs.Damage.{FitsPlace, IsDamagedForValue, IsDamagedFromRoot, LeadsTo, root_place as spec_root_place};
 ghost use Rattle.mvsb_tree.specs.Stands.{IsBalanced, MvStands, RootStands};
 ghost use Rattle.mvsb_tree.specs.Telling.{ToldIn};
@@ -15,7 +15,7 @@ use crate::place::{Place, root_place};
 use crate::told::{Told, told_on};
 use bw_types::Tree;
 use page_layout::{MvNode, View, view_page};
-use page_ports::{Page, PageFault, Pages, blank_page};
+use ports::{Page, PageFault, Pages, blank_page};
 
 /// The value of the tree at a key and a version: the sum of what was added at or below that key and at
 /// or before that version, modulo `2^128`.

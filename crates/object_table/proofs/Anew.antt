@@ -5,8 +5,8 @@ use Rattle.std.proofs.lemmas.List.{append-nil, take_all}
 use Rattle.bw_types.specs.declared.dated.Dated.{Dated}
 use Rattle.bw_types.specs.declared.tree.Tree.{Tree}
 use Rattle.page_layout.specs.Footprint.{ApartBothWays}
-use Rattle.page_ports.specs.Pages.{PageMap}
-use Rattle.page_ports.specs.Frame.{ApartPagesStay, AreApart, ChangesCompose, ChangesStandBeside, Replaces}
+use Rattle.ports.specs.Pages.{PageMap}
+use Rattle.ports.specs.Frame.{ApartPagesStay, AreApart, ChangesCompose, ChangesStandBeside, Replaces}
 use Rattle.object_table.specs.declared.form.Form.TheVariants.{ByIds, ByLives}
 use Rattle.object_table.specs.Edits.{with_object}
 use Rattle.object_table.specs.Laws.{Ascend, EmptyTableStands, PagesAreThere, StandsByItsPages}

@@ -5,9 +5,9 @@ use Rattle.std.proofs.lemmas.List.{take-append-drop, append-nil, length-take-le}
 use Rattle.std.proofs.lemmas.List.Elements.{All-cons, All-nil}
 use Rattle.std.proofs.lemmas.List.Concat.{flat_map-append}
 use Rattle.bw_types.specs.declared.dated.Dated.{Dated}
-use Rattle.page_ports.specs.Pages.{PageMap}
-use Rattle.page_ports.specs.Frame.{AreApart, Replaces}
-use Rattle.page_ports.specs.FrameLaws.{Replaces-same, Replaces-beside, Replaces-agree, Replaces-apart}
+use Rattle.ports.specs.Pages.{PageMap}
+use Rattle.ports.specs.Frame.{AreApart, Replaces}
+use Rattle.ports.specs.FrameLaws.{Replaces-same, Replaces-beside, Replaces-agree, Replaces-apart}
 use Rattle.page_layout.specs.Footprint.{NamesNoneTwice}
 use Rattle.page_layout.specs.FootprintLaws.{apart_sym, once_left, once_right, once_apart, once_join, apart_append, apart_parts}
 use Rattle.page_layout.specs.LifeNode.{IsLifeEntryTyped}

@@ -6,9 +6,9 @@ use Rattle.std.specs.Option.{option_map_or}
 use Rattle.std.proofs.lemmas.Bool.{cases_Bool, or_cases, or_left, or_right, eq-eqb}
 use Rattle.std.proofs.lemmas.List.{take-append-drop, length-map, get_or_default}
 use Rattle.std.proofs.lemmas.List.Concat.{flat_map-append}
-use Rattle.page_ports.specs.Pages.{PageMap}
-use Rattle.page_ports.specs.Frame.{names_page, AgreeOn, AreInMap, Replaces}
-use Rattle.page_ports.specs.FrameLaws.{Replaces-beside, names_page-append}
+use Rattle.ports.specs.Pages.{PageMap}
+use Rattle.ports.specs.Frame.{names_page, AgreeOn, AreInMap, Replaces}
+use Rattle.ports.specs.FrameLaws.{Replaces-beside, names_page-append}
 use Rattle.page_layout.specs.Footprint.{IsNamedTwice, times_named}
 use Rattle.page_layout.specs.FootprintLaws.{flat_more, times_append, times_cons, named_once, not_twice}
 use Rattle.page_layout.specs.declared.life_node.LifeNode.{LifeNode}

@@ -1,10 +1,10 @@
 -- The error at the exit of a `?`.
 use Rattle.std.proofs.Common.{◌≡◌, ℕ, Result, Err}
-use Rattle.page_ports.specs.Faults.{HandsOn}
-use Rattle.page_ports.specs.declared.page.PageFault.{PageFault}
-use Rattle.page_ports.specs.declared.page.PageFault.TheVariants as page_fault
-use Rattle.page_ports.specs.declared.page.StageFault.{StageFault}
-use Rattle.page_ports.specs.declared.page.StageFault.TheVariants.{Damaged}
+use Rattle.ports.specs.Faults.{HandsOn}
+use Rattle.ports.specs.declared.page.PageFault.{PageFault}
+use Rattle.ports.specs.declared.page.PageFault.TheVariants as page_fault
+use Rattle.ports.specs.declared.page.StageFault.{StageFault}
+use Rattle.ports.specs.declared.page.StageFault.TheVariants.{Damaged}
 
 pub exit_error : {T E : Type 0} (r : Result T E) (told asked : E) → ((y : E) × (r ≡ Err y) × (y ≡ told)) → r ≡ Err asked → told ≡ asked
 exit_error r told asked p e =

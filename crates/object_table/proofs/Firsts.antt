@@ -3,7 +3,7 @@ use Rattle.std.proofs.Common.{◌≡◌, ◌≢◌, ℕ, zero, suc, ◌+◌, ◌
 use Rattle.std.specs.List.{All, flat_map}
 use Rattle.std.proofs.lemmas.List.{drop_all}
 use Rattle.bw_types.specs.declared.dated.Dated.{Dated}
-use Rattle.page_ports.specs.Pages.{PageMap}
+use Rattle.ports.specs.Pages.{PageMap}
 use Rattle.page_layout.specs.declared.life_node.LifeNode.{LifeNode}
 use Rattle.page_layout.specs.declared.life_node.LifeEntry.{LifeEntry}
 use Rattle.object_table.specs.declared.form.Form.{Form}

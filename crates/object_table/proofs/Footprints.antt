@@ -1,9 +1,9 @@
 -- Lists of pages that name none twice.
 use Rattle.std.proofs.Common.{◌≡◌, ℕ, ◌==◌, false, ◌||◌, Bool, true, inl, inr, List, [], ◌∷◌, ◌++◌, Option, None, Some, IsSome, refl, sym, ap, ◌∙◌, subst}
 use Rattle.std.proofs.lemmas.Bool.{or_left, or_cases, or_parts, or_from, eq-eqb, eqb-true, ne_eqb, cases_eq, cases_Bool}
-use Rattle.page_ports.specs.Frame.{names_page, AreApart, AreInMap, Replaces}
-use Rattle.page_ports.specs.Pages.{PageMap}
-use Rattle.page_ports.specs.FrameLaws.{names_page-append, Replaces-agree, Replaces-apart}
+use Rattle.ports.specs.Frame.{names_page, AreApart, AreInMap, Replaces}
+use Rattle.ports.specs.Pages.{PageMap}
+use Rattle.ports.specs.FrameLaws.{names_page-append, Replaces-agree, Replaces-apart}
 use Rattle.page_layout.specs.Footprint.{NamesNoneTwice}
 use Rattle.page_layout.specs.FootprintLaws.{named_by_neither, once_left, once_right, once_apart, once_join}
 

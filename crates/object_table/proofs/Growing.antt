@@ -7,9 +7,9 @@ use Rattle.std.proofs.lemmas.List.{append-nil}
 use Rattle.std.proofs.lemmas.List.Elements.{All-cons, All-nil}
 use Rattle.bw_types.specs.declared.dated.Dated.{Dated}
 use Rattle.bw_types.specs.declared.tree.Tree.{Tree}
-use Rattle.page_ports.specs.Pages.{PageMap}
-use Rattle.page_ports.specs.Frame.{names_page, AgreeOn, Replaces}
-use Rattle.page_ports.specs.FrameLaws.{Replaces-same}
+use Rattle.ports.specs.Pages.{PageMap}
+use Rattle.ports.specs.Frame.{names_page, AgreeOn, Replaces}
+use Rattle.ports.specs.FrameLaws.{Replaces-same}
 use Rattle.page_layout.specs.Dated.{by_life_fits, IsDatedTyped}
 use Rattle.page_layout.specs.Footprint.{NamesNoneTwice}
 use Rattle.page_layout.specs.LifeNode.{IsLifeEntryTyped, life_node_page}

@@ -6,7 +6,7 @@ use Rattle.std.proofs.lemmas.List.{get_or-take, get_or-drop, get_or_default, len
 use Rattle.std.proofs.lemmas.List.Elements.{All-take, All-drop}
 use Rattle.bw_types.specs.declared.dated.Dated.{Dated}
 use Rattle.arrayvec.specs.ArrayVec.{ArrayVec}
-use Rattle.page_ports.specs.Pages.{PageMap}
+use Rattle.ports.specs.Pages.{PageMap}
 use Rattle.page_layout.specs.Entries.{AreInOrder}
 use Rattle.page_layout.specs.LifeNode.{IsLifeLeaf, IsLifeIndex}
 use Rattle.page_layout.specs.declared.life_node.LifeNode.TheVariants.{Leaf, Index}

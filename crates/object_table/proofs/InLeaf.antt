@@ -3,9 +3,9 @@ use Rattle.std.proofs.Common.{◌≡◌, ℕ, ◌<◌, ◌≤◌, IsTrue, inr, L
 use Rattle.std.specs.List.{All}
 use Rattle.std.proofs.lemmas.List.{take-append-drop, length-take-le}
 use Rattle.bw_types.specs.declared.dated.Dated.{Dated}
-use Rattle.page_ports.specs.Pages.{PageMap}
-use Rattle.page_ports.specs.Frame.{Replaces}
-use Rattle.page_ports.specs.FrameLaws.{Replaces-same}
+use Rattle.ports.specs.Pages.{PageMap}
+use Rattle.ports.specs.Frame.{Replaces}
+use Rattle.ports.specs.FrameLaws.{Replaces-same}
 use Rattle.page_layout.specs.Dated.{by_life_fits, IsDatedTyped}
 use Rattle.page_layout.specs.LifeNode.{IsLifeLeaf}
 use Rattle.page_layout.specs.declared.life_node.LifeNode.{LifeNode}

@@ -5,9 +5,9 @@ use Rattle.std.proofs.lemmas.Bool.{ne_eqb, or_parts, false≢true}
 use Rattle.std.proofs.lemmas.List.Concat.{flat_map-append}
 use Rattle.bw_types.specs.declared.dated.Dated.{Dated}
 use Rattle.bw_types.specs.declared.tree.Tree.{Tree}
-use Rattle.page_ports.specs.Pages.{PageMap}
-use Rattle.page_ports.specs.Frame.{names_page, AreApart, Replaces}
-use Rattle.page_ports.specs.FrameLaws.{Replaces-same, Replaces-beside, Replaces-agree}
+use Rattle.ports.specs.Pages.{PageMap}
+use Rattle.ports.specs.Frame.{names_page, AreApart, Replaces}
+use Rattle.ports.specs.FrameLaws.{Replaces-same, Replaces-beside, Replaces-agree}
 use Rattle.page_layout.specs.Footprint.{NamesNoneTwice}
 use Rattle.page_layout.specs.FootprintLaws.{apart_sym, once_left, once_right, once_apart, apart_parts}
 use Rattle.page_layout.specs.LifeNode.{life_node_page}

@@ -8,7 +8,7 @@ use Rattle.std.proofs.lemmas.List.{length-map, get_or_default}
 use Rattle.std.proofs.lemmas.List.Elements.{All-nil}
 use Rattle.bw_types.specs.declared.dated.Dated.{Dated}
 use Rattle.arrayvec.specs.ArrayVec.{ArrayVec}
-use Rattle.page_ports.specs.Pages.{PageMap}
+use Rattle.ports.specs.Pages.{PageMap}
 use Rattle.page_layout.specs.Dated.{life_precedes}
 use Rattle.page_layout.specs.LifeNodeLaws.{life_node_in-page}
 use Rattle.page_layout.specs.TableNodeLaws.{table_node_in-page}

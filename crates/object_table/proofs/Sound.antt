@@ -3,7 +3,7 @@ use Rattle.std.proofs.Common.{◌≡◌, ℕ, zero, suc, ◌<◌, ◌≤◌, inl
 use Rattle.std.specs.List.{All}
 use Rattle.std.proofs.lemmas.List.Elements.{All-nil}
 use Rattle.bw_types.specs.declared.dated.Dated.{Dated}
-use Rattle.page_ports.specs.Pages.{PageMap}
+use Rattle.ports.specs.Pages.{PageMap}
 use Rattle.page_layout.specs.Damage.{IsDamagedBelow, NothingBeside}
 use Rattle.page_layout.specs.declared.life_node.LifeNode.{LifeNode}
 use Rattle.page_layout.specs.declared.life_node.LifeEntry.{LifeEntry}

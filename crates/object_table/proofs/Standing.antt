@@ -2,8 +2,8 @@
 use Rattle.std.proofs.Common.{◌≡◌, ℕ, zero, suc, ◌<◌, ◌≤◌, true, List, [], ◌∷◌, length, Some, refl, sym, ap, ◌∙◌, subst, arith, length-append}
 use Rattle.std.specs.List.{All, flat_map}
 use Rattle.bw_types.specs.declared.dated.Dated.{Dated}
-use Rattle.page_ports.specs.Pages.{PageMap}
-use Rattle.page_ports.specs.Frame.{names_page, AgreeOn, AreInMap}
+use Rattle.ports.specs.Pages.{PageMap}
+use Rattle.ports.specs.Frame.{names_page, AgreeOn, AreInMap}
 use Rattle.page_layout.specs.LifeNode.{life_node_page}
 use Rattle.page_layout.specs.declared.life_node.LifeNode.{LifeNode}
 use Rattle.page_layout.specs.declared.life_node.LifeEntry.{LifeEntry}

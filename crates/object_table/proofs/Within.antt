@@ -4,7 +4,7 @@ use Rattle.std.specs.List.{All, flat_map}
 use Rattle.std.proofs.lemmas.List.Elements.{All-nil}
 use Rattle.std.proofs.lemmas.List.Concat.{flat_map-append}
 use Rattle.bw_types.specs.declared.dated.Dated.{Dated}
-use Rattle.page_ports.specs.Pages.{PageMap}
+use Rattle.ports.specs.Pages.{PageMap}
 use Rattle.page_layout.specs.declared.life_node.LifeEntry.{LifeEntry}
 use Rattle.object_table.specs.declared.form.Form.{Form}
 use Rattle.object_table.specs.Keys.{key, low_key}

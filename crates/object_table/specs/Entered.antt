@@ -1,8 +1,8 @@
 -- What entering an object below a page leaves: the page, or the two pages into which it was split.
 use Rattle.std.specs.Prelude.{ℕ, ◌<◌, ◌≤◌, List, [], ◌∷◌, ◌++◌, Option, Some, None}
 use Rattle.bw_types.specs.declared.dated.Dated.{Dated}
-use Rattle.page_ports.specs.Pages.{PageMap}
-use Rattle.page_ports.specs.Frame.{Replaces}
+use Rattle.ports.specs.Pages.{PageMap}
+use Rattle.ports.specs.Frame.{Replaces}
 use Rattle.page_layout.specs.Footprint.{NamesNoneTwice}
 use Rattle.page_layout.specs.LifeNode.{IsLifeEntryTyped}
 use Rattle.page_layout.specs.declared.life_node.LifeEntry.{LifeEntry}

@@ -3,8 +3,8 @@ use Rattle.std.specs.Prelude.{◌≡◌, ◌≢◌, ℕ, ◌<◌, ◌≤◌, ◌
 use Rattle.std.specs.List.{All}
 use Rattle.bw_types.specs.declared.dated.Dated.{Dated}
 use Rattle.bw_types.specs.declared.tree.Tree.{Tree}
-use Rattle.page_ports.specs.Pages.{PageMap}
-use Rattle.page_ports.specs.Frame.{AgreeOn, AreInMap}
+use Rattle.ports.specs.Pages.{PageMap}
+use Rattle.ports.specs.Frame.{AgreeOn, AreInMap}
 use Rattle.object_table.specs.declared.form.Form.{Form}
 use Rattle.object_table.specs.declared.form.Form.TheVariants.{ByIds}
 use Rattle.object_table.specs.Edits.{IsNewLife, with_object, withdrawn_at, with_withdrawal}

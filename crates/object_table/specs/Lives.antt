@@ -3,7 +3,7 @@ use Rattle.std.specs.Prelude.{◌≡◌, ℕ, zero, suc, ◌==◌, nat_le, List,
 use Rattle.std.specs.List.{flat_map, filter, find}
 use Rattle.bw_types.specs.declared.dated.Dated.{Dated}
 use Rattle.bw_types.specs.declared.tree.Tree.{Tree}
-use Rattle.page_ports.specs.Pages.{PageMap}
+use Rattle.ports.specs.Pages.{PageMap}
 use Rattle.object_table.specs.declared.form.Form.{Form}
 use Rattle.object_table.specs.Keys.{key_of, key, greatest_key}
 use Rattle.object_table.specs.Nodes.{objects_on, entries_on}

@@ -1,7 +1,7 @@
 -- What marking a withdrawal below a page leaves.
 use Rattle.std.specs.Prelude.{◌≡◌, ℕ}
-use Rattle.page_ports.specs.Pages.{PageMap}
-use Rattle.page_ports.specs.Frame.{Replaces}
+use Rattle.ports.specs.Pages.{PageMap}
+use Rattle.ports.specs.Frame.{Replaces}
 use Rattle.object_table.specs.declared.form.Form.TheVariants.{ByLives}
 use Rattle.object_table.specs.Edits.{IsMarked}
 use Rattle.object_table.specs.Lives.{lives_below, pages_below}

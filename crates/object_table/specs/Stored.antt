@@ -2,8 +2,8 @@
 use Rattle.std.specs.Prelude.{◌≡◌, ℕ, ◌+◌, ◌<◌, ◌≤◌, ◌^◌, ◌==◌, false, Bool, IsTrue, List, ◌∷◌, length, take, drop, Option, Some, None, IsSome}
 use Rattle.bw_types.specs.declared.dated.Dated.{Dated}
 use Rattle.object_table.specs.Edits.{IsMarked, IsPutIn}
-use Rattle.page_ports.specs.Pages.{PageMap}
-use Rattle.page_ports.specs.Frame.{names_page}
+use Rattle.ports.specs.Pages.{PageMap}
+use Rattle.ports.specs.Frame.{names_page}
 use Rattle.page_layout.specs.LifeNode.{life_node_page}
 use Rattle.page_layout.specs.declared.life_node.LifeNode.{LifeNode}
 use Rattle.page_layout.specs.declared.life_node.LifeNode.TheVariants.{Leaf, Index}

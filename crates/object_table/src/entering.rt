@@ -2,8 +2,8 @@
 ghost use Rattle.std.specs.Prelude.{◌≡◌, ◌≢◌, ◌+◌, ◌<◌, ◌≤◌, ◌^◌, ◌==◌, ◌⊎◌, false, ℕ, List, [], ◌∷◌, ◌++◌, length, take, drop, Some, None, Err, IsTrue, IsSome, IfOk, OnOk, OnErr};
 ghost use Rattle.std.specs.List.{All};
 ghost use Rattle.bw_types.specs.declared.dated.Dated.{Dated};
-ghost use Rattle.page_ports.specs.Calls.{Grows};
-ghost use Rattle.page_ports.specs.Frame.{Replaces};
+ghost use Rattle.ports.specs.Calls.{Grows};
+ghost use Rattle.ports.specs.Frame.{Replaces};
 ghost use Rattle.page_layout.specs.Damage.{IsDamagedBelow, NothingBeside};
 ghost use Rattle.page_layout.specs.Dated.{IsDatedTyped, by_life_fits};
 ghost use Rattle.page_layout.specs.Footprint.{NamesNoneTwice};
@@ -29,7 +29,7 @@ use crate::taking::take_in;
 use arrayvec::ArrayVec;
 use bw_types::{Dated, Tree};
 use page_layout::{LifeEntry, LifeNode, make_page};
-use page_ports::{Stage, StageFault, blank_page};
+use ports::{Stage, StageFault, blank_page};
 
 /// Enters an object in a table by lives, at its place by id and life.
 ///

@@ -4,7 +4,7 @@ ghost use Rattle.std.specs.List.{All, find as list_find};
 ghost use Rattle.bw_types.specs.declared.dated.Dated.{Dated};
 ghost use Rattle.page_layout.specs.Damage.{IsDamagedBelow, NothingBeside};
 ghost use Rattle.page_layout.specs.Dated.{by_life_fits};
-ghost use Rattle.page_ports.specs.Calls.{OnlyReads};
+ghost use Rattle.ports.specs.Calls.{OnlyReads};
 ghost use Rattle.object_table.specs.declared.form.Form.TheVariants.{ByLives, ByIds};
 ghost use Rattle.object_table.specs.Damage.{FitsPlace, LeadsTo, IsDamagedOnPath};
 ghost use Rattle.object_table.specs.Keys.{greatest_key};
@@ -19,7 +19,7 @@ use crate::place::{Place, root_place};
 use crate::placed::view_node;
 use crate::view::NodeView;
 use bw_types::{Dated, Tree};
-use page_ports::{Page, PageFault, Pages, blank_page};
+use ports::{Page, PageFault, Pages, blank_page};
 
 /// The last life of the id in a table by lives, or `None` exactly where it has none. It gets at most as
 /// many pages as the table has levels.

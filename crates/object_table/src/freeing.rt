@@ -2,8 +2,8 @@
 ghost use Rattle.std.specs.Prelude.{◌≡◌, ◌≢◌, ◌⊎◌, ℕ, List, [], Err, IsTrue, OnOk};
 ghost use Rattle.bw_types.specs.declared.dated.Dated.{Dated};
 ghost use Rattle.page_layout.specs.Footprint.{IsNamedTwice};
-ghost use Rattle.page_ports.specs.Calls.{Changes};
-ghost use Rattle.page_ports.specs.Frame.{AreInMap, Replaces};
+ghost use Rattle.ports.specs.Calls.{Changes};
+ghost use Rattle.ports.specs.Frame.{AreInMap, Replaces};
 ghost use Rattle.object_table.specs.declared.form.Form.TheVariants.{ByIds};
 ghost use Rattle.object_table.specs.Damage.{IsDamagedForFree, IsDamagedFrom};
 ghost use Rattle.object_table.specs.Nodes.{entries_in};
@@ -14,7 +14,7 @@ use crate::form::Form;
 use crate::node::read_form;
 use bw_types::Tree;
 use page_layout::{LifeEntry, LifeNode};
-use page_ports::{Stage, StageFault};
+use ports::{Stage, StageFault};
 
 /// Frees the pages of a table by ids, and no other.
 ///

@@ -2,8 +2,8 @@
 ghost use Rattle.std.specs.Prelude.{◌≡◌, ◌≢◌, ◌↔◌, ◌≤◌, ◌<◌, ◌^◌, true, false, ℕ, List, length, Err, IsTrue, IsSome, IfOk, OnOk};
 ghost use Rattle.std.specs.List.{All, AllAdjacentBelow};
 ghost use Rattle.bw_types.specs.declared.dated.Dated.{Dated};
-ghost use Rattle.page_ports.specs.Calls.{Grows};
-ghost use Rattle.page_ports.specs.Frame.{Replaces};
+ghost use Rattle.ports.specs.Calls.{Grows};
+ghost use Rattle.ports.specs.Frame.{Replaces};
 ghost use Rattle.page_layout.specs.Damage.{IsDamagedBelow, NothingBeside};
 ghost use Rattle.page_layout.specs.Dated.{IsDatedTyped};
 ghost use Rattle.page_layout.specs.Footprint.{NamesNoneTwice};
@@ -26,7 +26,7 @@ use crate::taking::begun_objects;
 use arrayvec::ArrayVec;
 use bw_types::{Dated, Tree};
 use page_layout::{LifeNode, put_page};
-use page_ports::{Page, Stage, StageFault, blank_page};
+use ports::{Page, Stage, StageFault, blank_page};
 
 /// Marks the last life of the id as withdrawn in a version, by the event of this number.
 ///

@@ -1,6 +1,6 @@
 //! Reading the nodes of a table in either form.
 ghost use Rattle.std.specs.Prelude.{◌≡◌, ◌≤◌, ℕ, List, length, map, Some, Err, IsTrue, IfOk};
-ghost use Rattle.page_ports.specs.Calls.{OnlyReads};
+ghost use Rattle.ports.specs.Calls.{OnlyReads};
 ghost use Rattle.page_layout.specs.TableNode.{IsTableNode};
 ghost use Rattle.object_table.specs.Nodes.{FitsLevel, life_node as spec_life_node, life_entry as spec_life_entry};
 
@@ -8,7 +8,7 @@ use crate::form::Form;
 use arrayvec::ArrayVec;
 use bw_types::Dated;
 use page_layout::{LifeEntry, LifeNode, TableEntry, TableNode, read_level};
-use page_ports::{PageFault, Pages};
+use ports::{PageFault, Pages};
 
 /// The node of this level that the page spells.
 ///

@@ -3,7 +3,7 @@ ghost use Rattle.std.specs.Prelude.{◌≡◌, ◌≤◌, ◌<◌, ◌↔◌, �
 ghost use Rattle.std.specs.List.{All};
 ghost use Rattle.page_layout.specs.Damage.{HoldsNoNode};
 ghost use Rattle.page_layout.specs.Dated.{by_life_fits};
-ghost use Rattle.page_ports.specs.Calls.{OnlyReads};
+ghost use Rattle.ports.specs.Calls.{OnlyReads};
 ghost use Rattle.object_table.specs.Damage.{FitsPlace, IsInPlace};
 ghost use Rattle.object_table.specs.Keys.{key as spec_key, low_key as spec_low_key};
 ghost use Rattle.object_table.specs.Nodes.{objects_in, entries_in};
@@ -14,7 +14,7 @@ use crate::key::low_key;
 use crate::path::low_from;
 use crate::place::Place;
 use crate::view::{NodeView, view_form};
-use page_ports::{Page, PageFault, Pages};
+use ports::{Page, PageFault, Pages};
 
 /// The view of the node of this level that the page spells, where it keeps to the place by which it is
 /// reached: the page's bytes are put into these, and the node is read there.

@@ -2,8 +2,8 @@
 ghost use Rattle.std.specs.Prelude.{◌≡◌, ◌≢◌, ℕ, ◌+◌, ◌*◌, ◌^◌, ◌<◌, ◌≤◌, List, length, Err, IsTrue, IfOk};
 ghost use Rattle.bw_types.specs.declared.dated.Dated.{Dated};
 ghost use Rattle.page_layout.specs.TreeValue.{IsTreeTyped, plain_tree_fits};
-ghost use Rattle.page_ports.specs.Calls.{Changes};
-ghost use Rattle.page_ports.specs.Frame.{Replaces};
+ghost use Rattle.ports.specs.Calls.{Changes};
+ghost use Rattle.ports.specs.Frame.{Replaces};
 ghost use Rattle.object_table.specs.Lives.{table_pages};
 ghost use Rattle.object_table.specs.Stands.{TableStands};
 ghost use Rattle.object_table.specs.declared.form.Form.TheVariants.{ByIds, ByLives};
@@ -11,7 +11,7 @@ ghost use Rattle.object_table.specs.declared.form.Form.TheVariants.{ByIds, ByLiv
 use crate::{enter, free_old, table_laws, walk_old};
 use bw_types::Tree;
 use page_layout::footprint_laws;
-use page_ports::{Stage, StageFault, changes_compose};
+use ports::{Stage, StageFault, changes_compose};
 
 /// Writes a table of the earlier form anew by lives, with the same objects, and frees the pages that it had.
 ///

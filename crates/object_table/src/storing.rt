@@ -1,6 +1,6 @@
 //! Storing a node in its page, or in two.
 ghost use Rattle.std.specs.Prelude.{◌≡◌, ◌≤◌, ℕ, Err, IsTrue, IsSome, IfOk};
-ghost use Rattle.page_ports.specs.Calls.{Grows};
+ghost use Rattle.ports.specs.Calls.{Grows};
 ghost use Rattle.page_layout.specs.LifeNode.{IsLifeIndex, IsLifeLeaf, IsLifeNode};
 ghost use Rattle.object_table.specs.Stored.{AreHalves, IsSecondOf, IsStored, entry_name, index_of, leaf_of, object_name};
 
@@ -8,7 +8,7 @@ use crate::node::{copied_entries, copied_objects};
 use arrayvec::ArrayVec;
 use bw_types::Dated;
 use page_layout::{LifeEntry, LifeNode, make_page, put_page};
-use page_ports::{Stage, StageFault};
+use ports::{Stage, StageFault};
 
 /// Stores a leaf of these objects in its page. Where they are 15, the last 8 of them go to a new page,
 /// which is the result.

@@ -2,7 +2,7 @@
 ghost use Rattle.std.specs.Prelude.{◌≡◌, ◌≤◌, ◌<◌, ℕ, List, length, get_or, Some, Err, IsTrue, IfOk};
 ghost use Rattle.std.specs.List.{All};
 ghost use Rattle.bw_types.specs.declared.dated.Dated.{Dated};
-ghost use Rattle.page_ports.specs.Calls.{OnlyReads};
+ghost use Rattle.ports.specs.Calls.{OnlyReads};
 ghost use Rattle.page_layout.specs.Dated.{by_life_fits};
 ghost use Rattle.page_layout.specs.TreePage.{FitsLevel, HoldsNoLevel};
 ghost use Rattle.page_layout.specs.declared.life_node.LifeNode.{LifeNode};
@@ -17,7 +17,7 @@ use crate::node::as_life_entry;
 use arrayvec::ArrayVec;
 use bw_types::Dated;
 use page_layout::{LifeEntry, LifeNode, TableNode, TreePage, View, view_page};
-use page_ports::{Page, PageFault, Pages};
+use ports::{Page, PageFault, Pages};
 use std::marker::Model;
 
 /// A node that is read where its page stands.

@@ -4,7 +4,7 @@ ghost use Rattle.std.specs.List.{All};
 ghost use Rattle.bw_types.specs.declared.dated.Dated.{Dated};
 ghost use Rattle.page_layout.specs.Damage.{IsDamagedBelow, NothingBeside};
 ghost use Rattle.page_layout.specs.Dated.{by_life_fits};
-ghost use Rattle.page_ports.specs.Calls.{OnlyReads};
+ghost use Rattle.ports.specs.Calls.{OnlyReads};
 ghost use Rattle.object_table.specs.declared.form.Form.TheVariants.{ByLives, ByIds};
 ghost use Rattle.object_table.specs.Damage.{FitsPlace, LeadsTo, LeadsOn, IsDamagedOnWalk};
 ghost use Rattle.object_table.specs.Keys.{key as spec_key};
@@ -20,7 +20,7 @@ use crate::placed::view_node;
 use crate::view::NodeView;
 use arrayvec::ArrayVec;
 use bw_types::{Dated, Tree};
-use page_ports::{Page, PageFault, Pages, blank_page};
+use ports::{Page, PageFault, Pages, blank_page};
 
 /// The object after this id and life in a table by lives, or the first of all; `None` exactly where there
 /// is none. It gets at most twice as many pages as the table has levels, less one.

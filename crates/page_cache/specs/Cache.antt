@@ -2,10 +2,10 @@
 use Rattle.std.specs.Prelude.{◌≡◌, ◌⊎◌, ℕ, ◌<◌, ◌≤◌, ◌==◌, Bool, true, false, length, nat_eq, if◌then◌else◌, List, Some, IsSome, option_map}
 use Rattle.std.specs.Box.{box_value}
 use Rattle.std.specs.Map.{lookup}
-use Rattle.page_ports.specs.Frame.{names_page}
-use Rattle.page_ports.specs.Pages.{PageMap}
-use Rattle.page_ports.specs.declared.page.PageFault.{PageFault}
-use Rattle.page_ports.specs.declared.page.PageFault.TheVariants.{Disk, Damaged}
+use Rattle.ports.specs.Frame.{names_page}
+use Rattle.ports.specs.Pages.{PageMap}
+use Rattle.ports.specs.declared.page.PageFault.{PageFault}
+use Rattle.ports.specs.declared.page.PageFault.TheVariants.{Disk, Damaged}
 use Rattle.page_disk.specs.Image.{PageList, page_at}
 use Rattle.page_cache.specs.declared.cache.Cache.{Cache}
 

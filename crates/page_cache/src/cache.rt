@@ -7,7 +7,7 @@ ghost use Rattle.page_cache.specs.Cache.{Agrees, KeepsAtMost, KeepsNoOther, capa
 
 use lru::LruCache;
 use page_disk::{Area, Disk};
-use page_ports::{Page, PageFault};
+use ports::{Page, PageFault};
 use std::alloc::Global;
 use std::num::NonZeroUsize;
 

@@ -1,7 +1,7 @@
 -- What a check leaves as it found it.
 use Rattle.std.specs.Prelude.{◌≡◌, ◌≤◌, Result, Err}
-use Rattle.counts.specs.Count.{Rose}
-use Rattle.page_ports.specs.declared.pages.Pages.{Ghosts}
+use Rattle.ports.specs.Count.{Rose}
+use Rattle.ports.specs.declared.pages.Pages.{Ghosts}
 use Rattle.page_checks.specs.declared.fault.CheckFault.{CheckFault}
 use Rattle.page_checks.specs.declared.fault.CheckFault.TheVariants.{Disk}
 

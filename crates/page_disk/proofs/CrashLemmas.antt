@@ -4,7 +4,7 @@ use Rattle.std.specs.Prelude.{slice_set}
 use Rattle.std.proofs.lemmas.Bool.Decides.{nat_tests}
 use Rattle.std.proofs.lemmas.Grind.{elements}
 use Rattle.std.proofs.lemmas.List.{length-set, length-take}
-use Rattle.page_ports.specs.FrameLaws.{names_page-append}
+use Rattle.ports.specs.FrameLaws.{names_page-append}
 use Rattle.page_disk.specs.declared.entry.Entry.{Entry}
 use Rattle.page_disk.specs.declared.entry.Entry.TheVariants.{Still, Synced, Appended, Overwrote}
 use Rattle.page_disk.specs.declared.torn.Torn.{Torn}

@@ -1,7 +1,7 @@
 -- What calls on a disk leave as they found it, and what their failures tell.
 use Rattle.std.specs.Prelude.{◌≡◌, ℕ, ◌+◌, ◌≤◌, Bool, true, IsTrue, Result, Ok, Err}
 use Rattle.std.specs.Bool.{MatchBool}
-use Rattle.counts.specs.Count.{Rose}
+use Rattle.ports.specs.Count.{Rose}
 use Rattle.page_disk.specs.declared.disk.Disk.{Ghosts}
 
 -- Each error is one of the device.

@@ -3,8 +3,8 @@ use Rattle.std.specs.Prelude.{◌≡◌, ◌≢◌, ℕ, ◌+◌, ◌-◌, ◌<�
 use Rattle.std.proofs.Common.{sym, ◌∙◌, arith}
 use Rattle.std.proofs.lemmas.Bool.{or_parts, eqb-false}
 use Rattle.std.proofs.lemmas.List.{length-set, length-take, get_or-set_other, get_or-take}
-use Rattle.page_ports.specs.Frame.{names_page}
-use Rattle.page_ports.specs.FrameLaws.{names_page-append}
+use Rattle.ports.specs.Frame.{names_page}
+use Rattle.ports.specs.FrameLaws.{names_page-append}
 use Rattle.page_disk.specs.declared.entry.Entry.{Entry}
 use Rattle.page_disk.specs.declared.entry.Entry.TheVariants.{Still, Synced, Appended, Overwrote}
 use Rattle.page_disk.specs.Disk.{TellsImage}

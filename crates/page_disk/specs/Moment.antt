@@ -1,6 +1,6 @@
 -- What a crash may leave, at each moment so far.
 use Rattle.std.specs.Prelude.{◌≡◌, ◌⊎◌, ℕ, ◌+◌, ◌<◌, ◌≤◌, max, Bool, false, List, [], ◌∷◌, ◌++◌, length}
-use Rattle.page_ports.specs.Frame.{names_page}
+use Rattle.ports.specs.Frame.{names_page}
 use Rattle.page_disk.specs.declared.disk.Area.{Area}
 use Rattle.page_disk.specs.declared.disk.Area.TheVariants.{Pages, Journal}
 use Rattle.page_disk.specs.Image.{PageList, Image, page_at, AreWhole}

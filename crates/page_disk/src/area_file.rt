@@ -5,7 +5,7 @@ ghost use Rattle.page_disk.specs.Run.{HoldsPage, IsIn, IsSameRun};
 use crate::failure::{Failure, FileCall};
 use crate::file_pages::{page_count, read_page, write_pages};
 use crate::run::Run;
-use page_ports::Page;
+use ports::Page;
 use std::alloc::Global;
 use std::fs::{OpenFile, OpenOptions};
 use std::os::unix::fs::FileExt;

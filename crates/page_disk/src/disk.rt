@@ -1,11 +1,11 @@
 //! The disk as a journal sees it: what a read returns, and what a crash may leave.
 ghost use Rattle.std.specs.Prelude.{◌≡◌, ◌⊎◌, ◌+◌, ◌-◌, ◌^◌, ◌≤◌, ℕ, Bool, List, min, length, true, false, Ok, IsTrue, IsErr, IfOk, OnOk, OnErr};
-ghost use Rattle.counts.specs.Count.{CountsFault};
+ghost use Rattle.ports.specs.Count.{CountsFault};
 ghost use Rattle.page_disk.specs.Disk.{IsRead, TellsImage};
 ghost use Rattle.page_disk.specs.Image.{Image, ImagesDifferAt, area_of, with_area, written_at};
 ghost use Rattle.page_disk.specs.Moment.{Moment, counted_in, settled_moment, then_moment};
 
-use page_ports::Page;
+use ports::Page;
 
 /// The two areas of a disk.
 #[derive(Clone, Copy, Debug, PartialEq, Eq)]

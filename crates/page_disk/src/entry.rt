@@ -1,5 +1,5 @@
 //! What one moment did to an area.
-use page_ports::Page;
+use ports::Page;
 
 /// What one moment did to an area, with what is needed to undo it.
 #[derive(Drop)]

@@ -1,15 +1,14 @@
 //! A disk over two files of the operating system.
 ghost use Rattle.std.specs.Prelude.{◌≡◌, ◌≢◌, ◌≤◌, ◌+◌, ◌-◌, ◌^◌, [], min, false, Some, Ok, Err, codes};
 ghost use Rattle.std.specs.Prelude.{IsSome, IsErr, IsTrue, OnErr, is_err};
-ghost use Rattle.counts.specs.Count.{CountsFault};
+ghost use Rattle.ports.specs.Count.{CountsFault};
 ghost use Rattle.page_disk.specs.FileName.{is_file_name};
 ghost use Rattle.page_disk.specs.Image.{Image};
 
 use crate::area_file::AreaFile;
 use crate::failure::{Failure, FileCall};
 use crate::{Area, Disk, Failed};
-use counts::raised;
-use page_ports::Page;
+use ports::{Page, raised};
 use std::alloc::Global;
 use std::fs::{OpenFile, OpenOptions};
 use std::os::unix::fs::FileExt;

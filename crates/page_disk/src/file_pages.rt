@@ -1,5 +1,5 @@
 //! Pages in a file.
-use page_ports::Page;
+use ports::Page;
 use std::fs::OpenFile;
 use std::io;
 use std::os::unix::fs::FileExt;

@@ -9,7 +9,7 @@ ghost use Rattle.page_disk.specs.declared.entry.Entry.TheVariants.{Still};
 use crate::entry::Entry;
 use crate::pending::{fill, undo};
 use crate::{Failed, Torn};
-use page_ports::Page;
+use ports::Page;
 use std::alloc::Global;
 
 /// The pages of an area, and one entry for each moment of the disk but the first.

@@ -1,9 +1,9 @@
 //! A disk in memory that records its calls and tells everything.
 ghost use Rattle.std.specs.Prelude.{◌≡◌, ◌∷◌, ◌+◌, ◌-◌, ◌^◌, ◌≤◌, ◌==◌, ◌||◌, [], length, min, true, false, Ok, IfOk, IsErr, OnOk, OnErr, is_err};
-ghost use Rattle.counts.specs.Count.{Rose};
+ghost use Rattle.ports.specs.Count.{Rose};
 ghost use Rattle.page_disk.specs.Crash.{LeftBy};
 ghost use Rattle.page_disk.specs.CallPlan.{no_failures};
-ghost use Rattle.counts.specs.Count.{CountsFault};
+ghost use Rattle.ports.specs.Count.{CountsFault};
 ghost use Rattle.page_disk.specs.Disk.{IsRead};
 ghost use Rattle.page_disk.specs.History.{area_moments, side_by_side};
 ghost use Rattle.page_disk.specs.Image.{Image, area_of, with_area, written_at};
@@ -12,8 +12,7 @@ ghost use Rattle.page_disk.specs.Moment.{MayBeLeftNow, area_counted, counted_in,
 use crate::half::Half;
 use crate::plan::Plan;
 use crate::{Area, Disk, Failed, Torn};
-use counts::raised;
-use page_ports::Page;
+use ports::{Page, raised};
 use std::alloc::Global;
 
 /// A disk in memory, whose calls can be made to fail and which can crash.

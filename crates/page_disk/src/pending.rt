@@ -4,7 +4,7 @@ ghost use Rattle.page_disk.specs.Crash.{full_of};
 ghost use Rattle.page_disk.specs.History.{refilled, undone};
 
 use crate::entry::Entry;
-use page_ports::Page;
+use ports::Page;
 
 #[tactic(auto, unfolding(crate::specs::Crash::full_of))]
 fn full_page(byte: u8) -> Page

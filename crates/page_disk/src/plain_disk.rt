@@ -1,12 +1,11 @@
 //! A disk in memory that tells its image and its counts, and keeps no record.
 ghost use Rattle.std.specs.Prelude.{◌≡◌, ◌<◌, ◌≤◌, ◌+◌, ◌-◌, ◌^◌, ◌==◌, [], length, min, true, false, Ok, IfOk, IsOk, OnOk, OnErr, is_err};
-ghost use Rattle.counts.specs.Count.{CountsFault, Rose};
+ghost use Rattle.ports.specs.Count.{CountsFault, Rose};
 ghost use Rattle.page_disk.specs.Disk.{IsRead};
 ghost use Rattle.page_disk.specs.Image.{Image, area_of, with_area, written_at};
 
 use crate::{Area, Disk, Failed};
-use counts::raised;
-use page_ports::Page;
+use ports::{Page, raised};
 use std::alloc::Global;
 
 /// A disk in memory that cannot crash. A write that finds no memory counts as a fault.

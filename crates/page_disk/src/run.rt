@@ -4,7 +4,7 @@ ghost use Rattle.page_disk.specs.Image.{written_at};
 
 use crate::Failed;
 use crate::plain_disk::write_page;
-use page_ports::Page;
+use ports::Page;
 use std::alloc::Global;
 
 /// The most pages in a run, which are 256 KiB.

@@ -3,7 +3,7 @@ use Rattle.std.specs.Prelude.{◌≡◌, ◌≢◌, ◌==◌, false, ℕ, ◌-�
 use Rattle.std.specs.List.{flat_map, All}
 use Rattle.std.proofs.Common.{sym, ap, ◌∙◌, append_assoc, arith}
 use Rattle.std.proofs.lemmas.Bool.{false≢true}
-use Rattle.page_ports.specs.declared.page.TheConstants.{FREE_PAGE}
+use Rattle.ports.specs.declared.page.TheConstants.{FREE_PAGE}
 use Rattle.page_layout.specs.Numbers.{spelled, number_in, zeros, padded, number_in-spelled, past-spelled, past_more}
 use Rattle.page_layout.specs.Entries.{entries_at, entries_at-spelled}
 

@@ -6,7 +6,7 @@
 -- a call finds that a node names beside its children, such as a page of a tree of one
 -- dimension less, of which this definition tells again.
 use Rattle.std.specs.Prelude.{◌≡◌, ℕ, zero, suc, ◌⊎◌, List, Some}
-use Rattle.page_ports.specs.Pages.{PageMap}
+use Rattle.ports.specs.Pages.{PageMap}
 
 -- The page is missing, or its bytes fit no node of this level in this place.
 abbrev pub HoldsNoNode : {N P : Type 0} → (ℕ → P → N → List ℕ → Type 0) → PageMap → ℕ → P → ℕ → Type 0

@@ -1,7 +1,7 @@
 -- How a call tells which page is damaged, one level after another.
 use Rattle.std.specs.Prelude.{◌≡◌, ℕ, zero, suc, ◌-◌, ◌≤◌, List, Some}
 use Rattle.std.proofs.Common.{inl, inr, subst, arith}
-use Rattle.page_ports.specs.Pages.{PageMap}
+use Rattle.ports.specs.Pages.{PageMap}
 use Rattle.page_layout.specs.Damage.{HoldsNoNode, IsDamagedBelow}
 
 module _ {N P : Type 0} (fits : ℕ → P → N → List ℕ → Type 0) (leads : P → N → ℕ → P → Type 0) (beside : PageMap → P → N → ℕ → Type 0) (map : PageMap) where

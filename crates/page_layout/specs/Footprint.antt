@@ -1,7 +1,7 @@
 -- The pages of a tree.
 use Rattle.std.specs.Prelude.{◌≡◌, ℕ, ◌+◌, ◌≤◌, ◌==◌, ◌||◌, ◌↔◌, false, List, [], ◌∷◌, ◌++◌, IsPermutation}
 use Rattle.std.specs.List.{count_by}
-use Rattle.page_ports.specs.Frame.{names_page, AreApart}
+use Rattle.ports.specs.Frame.{names_page, AreApart}
 
 -- No page is named twice.
 abbrev pub NamesNoneTwice : List ℕ → Type 0

@@ -9,8 +9,8 @@ use Rattle.std.proofs.lemmas.List.{take_more, append-nil}
 use Rattle.std.proofs.lemmas.List.Concat.{flat_map-append}
 use Rattle.std.proofs.lemmas.List.Sums.{sum_by-append, sum_by-cons}
 use Rattle.std.proofs.lemmas.List.Sorted.{sum_by-IsPermutation}
-use Rattle.page_ports.specs.Frame.{names_page, AreApart}
-use Rattle.page_ports.specs.FrameLaws.{names_page-append}
+use Rattle.ports.specs.Frame.{names_page, AreApart}
+use Rattle.ports.specs.FrameLaws.{names_page-append}
 use Rattle.page_layout.specs.Footprint.{NamesNoneTwice, times_named}
 
 pub apart_sym : (xs ys : List ℕ) → AreApart xs ys → AreApart ys xs

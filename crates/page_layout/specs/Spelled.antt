@@ -1,6 +1,6 @@
 -- What a page spells, for any type of which pages spell values.
 use Rattle.std.specs.Prelude.{◌≡◌, ℕ, List, Some}
-use Rattle.page_ports.specs.Pages.{PageMap}
+use Rattle.ports.specs.Pages.{PageMap}
 use Rattle.page_layout.specs.declared.spelled.Spelled.{Ghosts}
 
 -- The bytes are the spelling of the value, which keeps the rules, and whose numbers are those of their types.

@@ -1,6 +1,6 @@
 -- The node that a page of a node spells.
 use Rattle.std.proofs.Common.{◌≡◌, ℕ, ◌≤◌, List, Bool, false, length, ap, ◌∙◌, arith}
-use Rattle.page_ports.specs.declared.page.TheConstants.{FREE_PAGE}
+use Rattle.ports.specs.declared.page.TheConstants.{FREE_PAGE}
 use Rattle.std.specs.Prelude.{refl, slice_index, ◌≢◌, ◌==◌, if◌then◌else◌, IsTrue}
 use Rattle.std.specs.List.{All}
 use Rattle.std.proofs.lemmas.Bool.{ne_eqb}

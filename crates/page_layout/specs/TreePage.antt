@@ -1,6 +1,6 @@
 -- Pages of trees.
 use Rattle.std.specs.Prelude.{◌≡◌, ℕ, List, Some}
-use Rattle.page_ports.specs.Pages.{PageMap}
+use Rattle.ports.specs.Pages.{PageMap}
 use Rattle.page_layout.specs.declared.spelled.Spelled.{Ghosts}
 
 -- The bytes spell a value of this level.

@@ -11,7 +11,7 @@ use crate::front::{finish, put_u8, put_u16, put_u32, put_u64};
 use crate::number::{after, bytes_of, number_u16, number_u32, number_u64};
 use crate::zero_bytes::are_zeros;
 use arrayvec::ArrayVec;
-use page_ports::Page;
+use ports::Page;
 
 /// Writes the common front of 16 bytes: what bytes 0, 1, 2 to 3, 4 to 7 and 8 to 15 spell.
 pub(crate) fn start(page: &mut Page, kind: u8, level: u8, count: u16, word: u32, double: u64)

@@ -18,7 +18,7 @@ use crate::tree_value::tree_fits;
 use crate::zero_bytes::are_zeros;
 use arrayvec::ArrayVec;
 use bw_types::Tree;
-use page_ports::Page;
+use ports::Page;
 
 const KIND: u8 = 11;
 

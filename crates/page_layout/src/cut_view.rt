@@ -8,7 +8,7 @@ use crate::cut_page::{CutPage, border_at, count_in};
 use crate::number::{after, number_u32, number_u64, skip};
 use crate::view::View;
 use bw_types::Tree;
-use page_ports::Page;
+use ports::Page;
 
 const ENTRY: u8 = 0;
 

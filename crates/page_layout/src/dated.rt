@@ -14,7 +14,7 @@ use crate::signed::number_i64;
 use crate::three::{put_three_u32, three_u32};
 use arrayvec::ArrayVec;
 use bw_types::{Dated, Object};
-use page_ports::Page;
+use ports::Page;
 
 const GREATEST_END: u32 = 4294967294;
 

@@ -8,7 +8,7 @@ ghost use Rattle.page_layout.specs.Entries.{entries_at, AreInOrder};
 use crate::front::put_u64;
 use crate::number::{number_u64, skip};
 use arrayvec::ArrayVec;
-use page_ports::Page;
+use ports::Page;
 
 /// The form of entries that are spelled in one way alone.
 pub(crate) struct Own;

@@ -8,7 +8,7 @@ use crate::entry::Own;
 use crate::front::finish;
 use crate::number::bytes_of;
 use crate::spelled::Spelled;
-use page_ports::{FREE_PAGE, Page};
+use ports::{FREE_PAGE, Page};
 
 /// A page that is not in use: the number of the next free page, or 0 where it is the last.
 #[derive(Clone, Copy, Debug, PartialEq, Eq)]

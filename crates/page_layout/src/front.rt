@@ -3,7 +3,7 @@ ghost use Rattle.std.specs.Prelude.{◌≡◌, ◌+◌, ◌≤◌, ◌++◌, ◌
 ghost use Rattle.page_layout.specs.Numbers.{spelled, padded};
 
 use byteorder::{BigEndian, ByteOrder};
-use page_ports::Page;
+use ports::Page;
 
 /// Writes these bytes at a place. What stands before it stays.
 pub(crate) fn put(page: &mut Page, place: usize, bytes: &[u8])

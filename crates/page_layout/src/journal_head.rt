@@ -7,7 +7,7 @@ use crate::entry::{Own, are_in_order};
 use crate::number::bytes_of;
 use crate::spelled::Spelled;
 use arrayvec::ArrayVec;
-use page_ports::Page;
+use ports::Page;
 
 const KIND: u8 = 8;
 

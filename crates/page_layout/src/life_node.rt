@@ -13,7 +13,7 @@ use crate::number::{bytes_of, number_u32, number_u64, skip};
 use crate::spelled::{Spelled, TreePage};
 use arrayvec::ArrayVec;
 use bw_types::Dated;
-use page_ports::Page;
+use ports::Page;
 
 const KIND: u8 = 10;
 

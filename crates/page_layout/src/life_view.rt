@@ -11,7 +11,7 @@ use crate::life_node::{LifeEntry, LifeNode};
 use crate::number::{after, number_u32, number_u64};
 use crate::view::View;
 use bw_types::Dated;
-use page_ports::Page;
+use ports::Page;
 
 const KIND: u8 = 10;
 

@@ -13,7 +13,7 @@ use crate::number::{bytes_of, number_u32, number_u64, number_u128, skip};
 use crate::spelled::{Spelled, TreePage};
 use crate::summed::Summed;
 use arrayvec::ArrayVec;
-use page_ports::Page;
+use ports::Page;
 
 const KIND: u8 = 3;
 

@@ -7,7 +7,7 @@ use crate::counted::{entry_in, is_counted, read_body, read_count, read_double, r
 use crate::entry::{Own, stand_in_order};
 use crate::mv_node::{MvEntry, MvNode, before_fits};
 use crate::view::View;
-use page_ports::Page;
+use ports::Page;
 
 const KIND: u8 = 3;
 

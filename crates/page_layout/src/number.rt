@@ -4,7 +4,7 @@ ghost use Rattle.page_layout.specs.Numbers.{number_in};
 ghost use Rattle.page_layout.specs.Bytes.{AreBytes};
 
 use byteorder::{BigEndian, ByteOrder};
-use page_ports::Page;
+use ports::Page;
 
 /// The bytes after the first `count`.
 pub(crate) fn skip(bytes: &[u8], count: usize) -> &[u8]

@@ -13,7 +13,7 @@ use crate::spelled::{Spelled, TreePage};
 use crate::three::{put_three_u64, three_u64};
 use arrayvec::ArrayVec;
 use bw_types::Point;
-use page_ports::Page;
+use ports::Page;
 
 const KIND: u8 = 5;
 

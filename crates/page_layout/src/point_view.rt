@@ -8,7 +8,7 @@ use crate::entry::Own;
 use crate::point_leaf::PointLeaf;
 use crate::view::View;
 use bw_types::Point;
-use page_ports::Page;
+use ports::Page;
 
 const KIND: u8 = 5;
 

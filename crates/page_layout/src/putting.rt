@@ -1,11 +1,11 @@
 //! Putting a value into a page.
 ghost use Rattle.std.specs.Prelude.{◌≡◌, ◌≢◌, ◌==◌, ◌≤◌, ◌⊎◌, false, ℕ, Some, None, Err, IsTrue, IsSome, IfOk, OnOk, OnErr};
-ghost use Rattle.page_ports.specs.Calls.{Grows};
-ghost use Rattle.page_ports.specs.Chain.{TakesFirst};
-ghost use Rattle.page_ports.specs.Pages.{blank_bytes, put_page};
+ghost use Rattle.ports.specs.Calls.{Grows};
+ghost use Rattle.ports.specs.Chain.{TakesFirst};
+ghost use Rattle.ports.specs.Pages.{blank_bytes, put_page};
 
 use crate::TreePage;
-use page_ports::{Stage, StageFault, blank_page};
+use ports::{Stage, StageFault, blank_page};
 
 /// Overwrites the page with the value.
 ///

@@ -1,13 +1,13 @@
 //! Reading the value that a page spells. The page is tested where it stands, so that a value as large as a page is made once.
 ghost use Rattle.std.specs.Prelude.{◌≡◌, ℕ, List, Some, Err, IsTrue, IfOk};
-ghost use Rattle.page_ports.specs.Calls.{OnlyReads};
+ghost use Rattle.ports.specs.Calls.{OnlyReads};
 ghost use Rattle.page_layout.specs.Damage.{HoldsNoNode};
 ghost use Rattle.page_layout.specs.Spelled.{Spells, SpellsNone};
 ghost use Rattle.page_layout.specs.TreePage.{FitsLevel, FitsPlace, HoldsNoLevel};
 
 use crate::place::PlaceFor;
 use crate::{Spelled, TreePage, View};
-use page_ports::{Page, PageFault, Pages, blank_page};
+use ports::{Page, PageFault, Pages, blank_page};
 
 /// The value that the page spells.
 ///

@@ -14,7 +14,7 @@ use crate::sb_view::is_node;
 use crate::spelled::{Spelled, TreePage};
 use crate::summed::Summed;
 use arrayvec::ArrayVec;
-use page_ports::Page;
+use ports::Page;
 
 const KIND: u8 = 2;
 

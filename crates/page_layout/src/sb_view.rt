@@ -7,7 +7,7 @@ use crate::counted::{entry_in, read_count, spells_row};
 use crate::entry::Own;
 use crate::sb_node::{SbEntry, SbNode};
 use crate::view::View;
-use page_ports::Page;
+use ports::Page;
 
 const KIND: u8 = 2;
 

@@ -7,7 +7,7 @@ ghost use Rattle.page_layout.specs.Signed.{signed_bytes, signed_at, length-signe
 use crate::entry::{Entry, Own};
 use crate::front::put_u64;
 use crate::number::number_u64;
-use page_ports::Page;
+use ports::Page;
 
 /// The signed number in the first eight bytes.
 pub(crate) fn number_i64(bytes: &[u8]) -> i64

@@ -1,8 +1,8 @@
 //! Values that pages spell.
 ghost use Rattle.std.specs.Prelude.{◌≡◌, ◌≢◌, ◌↔◌, ℕ, List, Some, IfSome, IsTrue, slice_index};
-ghost use Rattle.page_ports.specs.declared.page.TheConstants.{FREE_PAGE};
+ghost use Rattle.ports.specs.declared.page.TheConstants.{FREE_PAGE};
 
-use page_ports::Page;
+use ports::Page;
 
 /// A value that one page spells.
 pub trait Spelled: Drop {

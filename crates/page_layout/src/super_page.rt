@@ -9,7 +9,7 @@ use crate::number::{after, bytes_of, number_u32, number_u64};
 use crate::spelled::Spelled;
 use crate::zero_bytes::are_zeros;
 use bw_types::Params;
-use page_ports::Page;
+use ports::Page;
 
 const MAGIC: &[u8; 8] = b"BOXSUMWH";
 

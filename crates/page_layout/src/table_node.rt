@@ -12,7 +12,7 @@ use crate::spelled::{Spelled, TreePage};
 use crate::table_view::is_node;
 use arrayvec::ArrayVec;
 use bw_types::Dated;
-use page_ports::Page;
+use ports::Page;
 
 const KIND: u8 = 6;
 

@@ -11,7 +11,7 @@ use crate::number::{after, number_u64};
 use crate::table_node::{TableEntry, TableNode};
 use crate::view::View;
 use bw_types::Dated;
-use page_ports::Page;
+use ports::Page;
 
 const KIND: u8 = 6;
 

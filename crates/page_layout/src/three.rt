@@ -4,7 +4,7 @@ ghost use Rattle.page_layout.specs.Three.{three_bytes, three_in};
 
 use crate::front::{put_u32, put_u64};
 use crate::number::{number_u32, number_u64, skip};
-use page_ports::Page;
+use ports::Page;
 
 /// Writes three numbers of four bytes each.
 pub(crate) fn put_three_u32(page: &mut Page, place: usize, numbers: &[u32; 3])

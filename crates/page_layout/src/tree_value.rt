@@ -6,7 +6,7 @@ use crate::entry::{Entry, Own};
 use crate::front::{put, put_u8, put_u32, put_u64};
 use crate::number::{number_u32, number_u64, skip};
 use bw_types::Tree;
-use page_ports::Page;
+use ports::Page;
 
 fn is_all_zero(tree: &Tree) -> bool
     ensures { result ≡ is_all_zero tree.now }

@@ -2,7 +2,7 @@
 ghost use Rattle.std.specs.Prelude.{◌≡◌, IfSome, Some};
 
 use crate::spelled::{Spelled, TreePage};
-use page_ports::Page;
+use ports::Page;
 use std::marker::{Model, PhantomData};
 
 /// A page that spells a value, whose fields are read where they stand.

@@ -4,7 +4,7 @@ use Rattle.std.specs.List.{range_with_len}
 use Rattle.std.proofs.lemmas.List.FromFn.{length-map-range_with_len, get_or-map-range_with_len}
 use Rattle.bw_types.specs.declared.params.Params.{Params}
 use Rattle.bw_types.specs.Fits.{IsInRange}
-use Rattle.page_ports.specs.Pages.{PageMap}
+use Rattle.ports.specs.Pages.{PageMap}
 use Rattle.page_disk.specs.Image.{PageList, page_at}
 use Rattle.page_layout.specs.declared.meta.Meta.{Meta}
 use Rattle.redo_journal.specs.Placing.{ArePlaced, placed_at}

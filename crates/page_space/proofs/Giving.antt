@@ -2,9 +2,9 @@
 use Rattle.std.proofs.Common.{◌≡◌, ◌≢◌, ◌⊎◌, ℕ, ◌+◌, ◌<◌, ◌≤◌, List, IsSome, IsTrue, true, false, inl, inr, arith}
 use Rattle.std.specs.Prelude.{Result, Ok, Err, OnOk, OnErr, IfOk, is_err}
 use Rattle.std.proofs.lemmas.Bool.Decides.{nat_tests}
-use Rattle.page_ports.specs.Calls.{Changes, IsForgotten, WentOn}
-use Rattle.page_ports.specs.Pages.{PageMap, empty_map, put_page}
-use Rattle.page_ports.specs.declared.pages.Pages.{Ghosts}
+use Rattle.ports.specs.Calls.{Changes, IsForgotten, WentOn}
+use Rattle.ports.specs.Pages.{PageMap, empty_map, put_page}
+use Rattle.ports.specs.declared.pages.Pages.{Ghosts}
 
 -- What an Ok promises holds where the answer is no error.
 pub on_ok : {T E : Type 0} (r : Result T E) (P : Type 0) → is_err r ≡ false → OnOk r P → P

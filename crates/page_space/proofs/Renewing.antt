@@ -1,7 +1,7 @@
 -- A cache after its pages are renewed one by one.
 use Rattle.std.proofs.Common.{◌≡◌, ℕ, List, ◌∷◌, None, arith}
 use Rattle.std.proofs.lemmas.Bool.Decides.{nat_tests}
-use Rattle.page_ports.specs.Pages.{PageMap, empty_map}
+use Rattle.ports.specs.Pages.{PageMap, empty_map}
 use Rattle.page_disk.specs.Image.{PageList}
 use Rattle.page_cache.specs.Cache.{Agrees, renewed}
 use Rattle.redo_journal.specs.Placing.{ArePlaced, ImageList, map_of}

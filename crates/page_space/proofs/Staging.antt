@@ -3,8 +3,8 @@ use Rattle.std.proofs.Common.{◌≡◌, ◌≢◌, ℕ, ◌<◌, ◌≤◌, ◌
 use Rattle.std.specs.Prelude.{slice_index}
 use Rattle.std.proofs.Math.Path.{fun_ext}
 use Rattle.std.proofs.lemmas.Bool.Decides.{nat_tests}
-use Rattle.page_ports.specs.Chain.{TakesFirst}
-use Rattle.page_ports.specs.Pages.{PageMap, empty_map, put_page, remove_page, blank_bytes}
+use Rattle.ports.specs.Chain.{TakesFirst}
+use Rattle.ports.specs.Pages.{PageMap, empty_map, put_page, remove_page, blank_bytes}
 use Rattle.page_disk.specs.Image.{PageList, page_at}
 use Rattle.page_layout.specs.FreePage.{IsTyped, free_page_page, next_fits}
 use Rattle.page_layout.specs.declared.free_page.FreePage.{FreePage}

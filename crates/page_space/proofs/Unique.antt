@@ -2,7 +2,7 @@
 use Rattle.std.proofs.Common.{◌≡◌, ℕ, sym, ◌∙◌, ap, inl, inr, arith}
 use Rattle.std.proofs.lemmas.Bool.Decides.{nat_tests}
 use Rattle.bw_types.specs.declared.params.Params.{Params}
-use Rattle.page_ports.specs.Pages.{PageMap}
+use Rattle.ports.specs.Pages.{PageMap}
 use Rattle.page_disk.specs.Image.{PageList}
 use Rattle.page_layout.specs.Super.{IsSuper, super_page}
 use Rattle.page_layout.specs.Super as superblock

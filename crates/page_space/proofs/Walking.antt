@@ -6,11 +6,11 @@ use Rattle.std.proofs.Math.Path.{fun_ext}
 use Rattle.std.proofs.lemmas.Bool.{false_from_ne_true}
 use Rattle.std.proofs.lemmas.Bool.Decides.{nat_tests}
 use Rattle.std.proofs.lemmas.Map.Steps.{length-le_from_distinct_below}
-use Rattle.page_ports.specs.Calls.{IsForgotten}
-use Rattle.page_ports.specs.Chain.{TakesFirst}
-use Rattle.page_ports.specs.Frame.{names_page}
-use Rattle.page_ports.specs.Pages.{PageMap, put_page, remove_page}
-use Rattle.page_ports.specs.declared.pages.Pages.{Ghosts}
+use Rattle.ports.specs.Calls.{IsForgotten}
+use Rattle.ports.specs.Chain.{TakesFirst}
+use Rattle.ports.specs.Frame.{names_page}
+use Rattle.ports.specs.Pages.{PageMap, put_page, remove_page}
+use Rattle.ports.specs.declared.pages.Pages.{Ghosts}
 use Rattle.page_layout.specs.FreePage.{free_page_in}
 use Rattle.page_layout.specs.FreePageLaws.{free_page_in-page}
 use Rattle.page_layout.specs.Footprint.{NamesNoneTwice}

@@ -1,6 +1,6 @@
 -- The pages in use.
 use Rattle.std.specs.Prelude.{ℕ, nat_le, nat_lt, ◌==◌, ◌&&◌, not, Bool, if◌then◌else◌, List, Some, None, slice_index}
-use Rattle.page_ports.specs.Pages.{PageMap}
+use Rattle.ports.specs.Pages.{PageMap}
 use Rattle.page_space.specs.Bytes.{PageBytes}
 
 -- whether the page was ever given out, of which the pages below 3 are none

@@ -4,7 +4,7 @@ use Rattle.std.proofs.Common.{sym, ◌∙◌, ap, subst, inl, inr, arith}
 use Rattle.std.proofs.Math.Path.{fun_ext}
 use Rattle.std.proofs.lemmas.Bool.{cases_Bool, cases_eq, both_ways, and_parts, and_from, not-true, not_from_false, ltb-true, leb-true, lt-ltb, le-leb, eqb-false, eq-eqb, ne_eqb, cond-true, cond-false}
 use Rattle.std.proofs.lemmas.Option.{cond_some}
-use Rattle.page_ports.specs.Pages.{put_page, remove_page}
+use Rattle.ports.specs.Pages.{put_page, remove_page}
 use Rattle.page_space.specs.Bytes.{PageBytes, bytes_with}
 use Rattle.page_space.specs.InUse.{is_given_out, is_free_kind, is_in_use, pages_in_use}
 

@@ -2,13 +2,13 @@
 use Rattle.std.specs.Prelude.{◌≡◌, ℕ, ◌<◌, ◌≤◌, false, true, None}
 use Rattle.bw_types.specs.declared.params.Params.{Params}
 use Rattle.bw_types.specs.Fits.{IsInRange}
-use Rattle.page_ports.specs.Pages.{PageMap, empty_map}
+use Rattle.ports.specs.Pages.{PageMap, empty_map}
 use Rattle.page_disk.specs.Image.{PageList, Image, page_at}
 use Rattle.page_layout.specs.Meta.{IsMeta, IsTyped, meta_page}
 use Rattle.page_layout.specs.declared.meta.Meta.{Meta}
 use Rattle.redo_journal.specs.Gates.{IsCreated, is_empty}
 use Rattle.redo_journal.specs.Settled.{SettlesTo}
-use Rattle.page_ports.specs.Frame.{names_page}
+use Rattle.ports.specs.Frame.{names_page}
 use Rattle.page_layout.specs.Footprint.{NamesNoneTwice}
 use Rattle.page_space.specs.Bytes.{PageBytes}
 use Rattle.page_space.specs.InUse.{pages_in_use}

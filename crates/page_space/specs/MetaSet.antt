@@ -1,7 +1,7 @@
 -- The meta page of a stage.
 use Rattle.std.specs.Prelude.{◌≡◌, ◌≤◌, Some, IsTrue, length}
 use Rattle.std.specs.List.{All}
-use Rattle.page_ports.specs.Pages.{PageMap}
+use Rattle.ports.specs.Pages.{PageMap}
 use Rattle.page_layout.specs.Meta.{IsMeta, IsTyped, meta_page}
 use Rattle.page_layout.specs.TreeValue.{tree_fits, plain_tree_fits}
 use Rattle.page_layout.specs.declared.meta.Meta.{Meta}

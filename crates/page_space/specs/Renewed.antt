@@ -1,6 +1,6 @@
 -- A cache whose pages are renewed.
 use Rattle.std.specs.Prelude.{unwrap_or, option_map}
-use Rattle.page_ports.specs.Pages.{PageMap}
+use Rattle.ports.specs.Pages.{PageMap}
 
 -- the pages that are kept, each with the bytes of its image where it has one
 abbrev pub renewed_by : PageMap → PageMap → PageMap

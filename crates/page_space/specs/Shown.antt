@@ -1,7 +1,7 @@
 -- What a space and a stage show.
 use Rattle.std.specs.Prelude.{ℕ, List, length, Result, Ok, Err}
 use Rattle.bw_types.specs.declared.params.Params.{Params}
-use Rattle.page_ports.specs.Pages.{PageMap}
+use Rattle.ports.specs.Pages.{PageMap}
 use Rattle.page_disk.specs.declared.disk.Disk.{Ghosts}
 use Rattle.page_cache.specs.Cache.{kept_pages}
 use Rattle.page_layout.specs.declared.meta.Meta.{Meta}

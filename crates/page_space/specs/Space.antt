@@ -2,7 +2,7 @@
 use Rattle.std.specs.Prelude.{◌≡◌, ℕ, ◌≤◌, List, length}
 use Rattle.bw_types.specs.declared.params.Params.{Params}
 use Rattle.bw_types.specs.Fits.{IsInRange}
-use Rattle.page_ports.specs.Pages.{PageMap}
+use Rattle.ports.specs.Pages.{PageMap}
 use Rattle.page_disk.specs.Image.{PageList, Image, page_at}
 use Rattle.page_layout.specs.Super.{super_page}
 use Rattle.page_layout.specs.Meta.{IsMeta, IsTyped, meta_page}

@@ -1,11 +1,11 @@
 //! The pages of a stage that are given out and freed.
 ghost use Rattle.std.specs.Prelude.{◌≡◌, ◌≢◌, ◌⊎◌, ◌+◌, ◌≤◌, ◌<◌, ℕ, List, ◌∷◌, Some, None, Ok, Err, IsTrue, IsSome, OnOk, OnErr, IfOk, slice_index};
-ghost use Rattle.page_ports.specs.Calls.{Changes, OnlyReads};
-ghost use Rattle.page_ports.specs.Chain.{TakesFirst};
-ghost use Rattle.page_ports.specs.Pages.{put_page, remove_page, blank_bytes};
+ghost use Rattle.ports.specs.Calls.{Changes, OnlyReads};
+ghost use Rattle.ports.specs.Chain.{TakesFirst};
+ghost use Rattle.ports.specs.Pages.{put_page, remove_page, blank_bytes};
 ghost use Rattle.page_layout.specs.FreePage.{IsTyped, free_page_page, next_fits};
 ghost use Rattle.page_layout.specs.declared.free_page.FreePage.{FreePage};
-ghost use Rattle.page_ports.specs.declared.page.TheConstants.{FREE_PAGE};
+ghost use Rattle.ports.specs.declared.page.TheConstants.{FREE_PAGE};
 ghost use Rattle.page_space.specs.Bytes.{bytes_with};
 ghost use Rattle.page_space.specs.Calls.{KeepsChanges};
 ghost use Rattle.page_space.specs.Chain.{LeadsOn, FreeInOrder, chain_from};
@@ -13,7 +13,7 @@ ghost use Rattle.page_space.specs.Chain.{LeadsOn, FreeInOrder, chain_from};
 use crate::Staged;
 use page_disk::Disk;
 use page_layout::{FreePage, Spelled};
-use page_ports::{Page, PageFault, Pages, StageFault, blank_page};
+use ports::{Page, PageFault, Pages, StageFault, blank_page};
 
 // A page that can be given out, and what the stage keeps when it is: the first free page then and the
 // number of pages given out.

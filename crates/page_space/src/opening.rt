@@ -21,7 +21,7 @@ use bw_types::Params;
 use page_cache::Cache;
 use page_disk::{Area, Disk};
 use page_layout::{Meta, Spelled, Super};
-use page_ports::{Page, blank_page};
+use ports::{Page, blank_page};
 use redo_journal::settling_laws;
 use std::alloc::Global;
 

@@ -1,7 +1,7 @@
 //! The committed pages of a disk.
 ghost use Rattle.std.specs.Prelude.{◌≡◌, ◌⊎◌, ◌+◌, ◌≤◌, ◌<◌, ℕ, List, length, Some, None, Ok, Err, IsTrue, OnOk};
 ghost use Rattle.bw_types.specs.Fits.{IsInRange};
-ghost use Rattle.page_ports.specs.Calls.{OnlyReads};
+ghost use Rattle.ports.specs.Calls.{OnlyReads};
 ghost use Rattle.page_disk.specs.Image.{Image, page_at};
 ghost use Rattle.page_disk.specs.Since.{LeavesNow};
 ghost use Rattle.page_cache.specs.Cache.{Agrees, KeepsAtMost, capacity, kept_pages};
@@ -16,7 +16,7 @@ use bw_types::Params;
 use page_cache::Cache;
 use page_disk::Disk;
 use page_layout::Meta;
-use page_ports::{FREE_PAGE, Page, PageFault, Pages};
+use ports::{FREE_PAGE, Page, PageFault, Pages};
 use std::alloc::Global;
 
 /// The committed pages of a disk, read through a cache of 8192 pages.

@@ -1,12 +1,12 @@
 //! A stage on a space as a stage of pages.
 ghost use Rattle.std.specs.Prelude.{◌≡◌, ◌≢◌, ◌⊎◌, ◌+◌, ◌≤◌, ◌<◌, ℕ, List, Some, None, Ok, Err, IsTrue, IsSome, OnOk, OnErr, IfOk};
-ghost use Rattle.page_ports.specs.Calls.{OnlyReads};
-ghost use Rattle.page_ports.specs.Pages.{put_page, remove_page, blank_bytes};
+ghost use Rattle.ports.specs.Calls.{OnlyReads};
+ghost use Rattle.ports.specs.Pages.{put_page, remove_page, blank_bytes};
 ghost use Rattle.page_space.specs.Begun.{Begun};
 
 use crate::Staged;
 use page_disk::Disk;
-use page_ports::{Page, PageFault, Pages, Stage, StageFault};
+use ports::{Page, PageFault, Pages, Stage, StageFault};
 
 impl<D: Disk> Pages for Staged<D> {
     ghost use Rattle.page_space.specs.Calls.{KeepsChanges};

@@ -1,7 +1,7 @@
 //! A stage of changes on a space.
 ghost use Rattle.std.specs.Prelude.{◌≡◌, ◌⊎◌, ◌+◌, ◌≤◌, ◌<◌, ℕ, List, length, Some, None, Ok, Err, IsTrue, IsSome, OnOk, OnErr, IfOk};
-ghost use Rattle.page_ports.specs.Calls.{OnlyReads, WentOn};
-ghost use Rattle.page_ports.specs.Pages.{PageMap, put_page};
+ghost use Rattle.ports.specs.Calls.{OnlyReads, WentOn};
+ghost use Rattle.ports.specs.Pages.{PageMap, put_page};
 ghost use Rattle.page_layout.specs.FreePage.{next_fits};
 ghost use Rattle.redo_journal.specs.Images.{image_map};
 ghost use Rattle.page_space.specs.Bytes.{bytes_with};
@@ -13,7 +13,7 @@ use crate::copying::copied;
 use crate::opening::META_PAGE;
 use page_disk::Disk;
 use page_layout::{Meta, Spelled};
-use page_ports::{FREE_PAGE, Page, PageFault, Pages, blank_page};
+use ports::{FREE_PAGE, Page, PageFault, Pages, blank_page};
 use redo_journal::{Images, NoMemory};
 
 /// Changes on a space that are not committed yet: the images of the pages that are changed, and the

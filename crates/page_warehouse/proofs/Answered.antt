@@ -6,7 +6,7 @@ use Rattle.bw_types.specs.Fits.{IsInRange}
 use Rattle.bw_types.specs.History.{History}
 use Rattle.bw_types.specs.declared.params.Params.{Params}
 use Rattle.bw_types.specs.declared.query.Query.{Query}
-use Rattle.poly_moments.specs.PlaneSums.{integral_at as entered_integral_at}
+use Rattle.corner_weights.specs.PlaneSums.{integral_at as entered_integral_at}
 use Rattle.history_laws.specs.Bounds.{HasRoom, IntegralsAreBounded}
 use Rattle.history_laws.specs.Entries.{history_entries}
 use Rattle.history_laws.specs.Answers.{IntegralByEntries}

@@ -4,7 +4,7 @@ use Rattle.bw_types.specs.History.{History}
 use Rattle.bw_types.specs.declared.params.Params.{Params}
 use Rattle.page_disk.specs.Image.{Image, PageList}
 use Rattle.page_layout.specs.declared.meta.Meta.{Meta}
-use Rattle.page_ports.specs.Pages.{PageMap}
+use Rattle.ports.specs.Pages.{PageMap}
 use Rattle.redo_journal.specs.Settled.{SettlesTo, SettlesToOne}
 use Rattle.page_space.specs.Space.{HoldsSpace}
 use Rattle.dom_index.specs.declared.index.DomIndex.{Ghosts}

@@ -20,7 +20,7 @@ use Rattle.page_layout.specs.Footprint.{NamesNoneTwice}
 use Rattle.page_layout.specs.Meta.{meta_in, meta_page}
 use Rattle.page_layout.specs.MetaLaws.{meta_in-page}
 use Rattle.page_layout.specs.declared.meta.Meta.{Meta}
-use Rattle.page_ports.specs.Pages.{PageMap}
+use Rattle.ports.specs.Pages.{PageMap}
 use Rattle.redo_journal.specs.Settled.{SettlesTo, SettlesToOne}
 use Rattle.page_space.specs.Space.{HoldsSpace}
 use Rattle.object_table.specs.Lives.{table_pages}
@@ -31,7 +31,7 @@ use Rattle.dom_index.specs.declared.index.DomIndex.{Ghosts}
 use Rattle.corner_forest.specs.Stands.{AreBalanced, ForestStands, forest_pages}
 use Rattle.history_laws.specs.Entries.{history_entries}
 use Rattle.history_laws.specs.Bounds.{HasSmallWeight}
-use Rattle.change_laws.specs.Begun.{with_changes}
+use Rattle.page_warehouse.specs.Begun.{with_changes}
 use Rattle.page_warehouse.specs.Entering.{FormKeeps, PagesKeep}
 use Rattle.page_warehouse.specs.Holds.{Holds, TellsOf, table_form}
 use Rattle.page_warehouse.specs.Needs.{meta_charge, old_objects}

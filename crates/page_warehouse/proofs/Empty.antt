@@ -11,7 +11,7 @@ use Rattle.bw_types.specs.declared.params.Params.{Params}
 use Rattle.bw_types.specs.declared.tree.Tree.{Tree}
 use Rattle.bw_types.specs.declared.point.Point.{Point}
 use Rattle.bw_types.specs.declared.dated.Dated.{Dated}
-use Rattle.page_ports.specs.Pages.{PageMap, empty_map}
+use Rattle.ports.specs.Pages.{PageMap, empty_map}
 use Rattle.page_disk.specs.Image.{Image}
 use Rattle.page_layout.specs.Footprint.{NamesNoneTwice}
 use Rattle.page_layout.specs.Meta.{IsMeta, IsTyped}
@@ -19,7 +19,7 @@ use Rattle.page_layout.specs.TreeValue.{IsTreeTyped, tree_fits}
 use Rattle.page_space.specs.Laws.{CreatedHolds}
 use Rattle.object_table.specs.Laws.{EmptyTableStands}
 use Rattle.object_table.specs.declared.form.Form.TheVariants.{ByLives}
-use Rattle.poly_moments.specs.Planes.{plane_count}
+use Rattle.corner_weights.specs.Planes.{plane_count}
 use Rattle.dom_index.specs.declared.index.DomIndex.{Ghosts}
 use Rattle.corner_forest.specs.Entries.{corner_count, root_count, root_points}
 use Rattle.corner_forest.specs.Trees.{EachStands}

@@ -9,7 +9,7 @@ use Rattle.bw_types.specs.declared.tree.Tree.{Tree}
 use Rattle.page_disk.specs.Image.{Image}
 use Rattle.page_layout.specs.Footprint.{NamesNoneTwice}
 use Rattle.page_layout.specs.declared.meta.Meta.{Meta}
-use Rattle.page_ports.specs.Pages.{PageMap}
+use Rattle.ports.specs.Pages.{PageMap}
 use Rattle.page_space.specs.Laws.{HoldsOne}
 use Rattle.page_space.specs.Space.{HoldsSpace}
 use Rattle.object_table.specs.Lives.{last_life, table_lives, table_pages}
@@ -18,7 +18,7 @@ use Rattle.object_table.specs.declared.form.Form.{Form}
 use Rattle.dom_index.specs.declared.index.DomIndex.{Ghosts}
 use Rattle.corner_forest.specs.Stands.{forest_pages}
 use Rattle.history_laws.specs.Bounds.{HasSmallWeight}
-use Rattle.change_laws.specs.Ids.{TableTellsIds, life_told}
+use Rattle.page_warehouse.specs.Ids.{TableTellsIds, life_told}
 use Rattle.session_book.specs.Told.{IsToldOf}
 use Rattle.page_warehouse.specs.Holds.{Holds, TableKeeps, TellsOf, TreesStand, table_form}
 use Rattle.page_warehouse.proofs.Opened.{unordered}

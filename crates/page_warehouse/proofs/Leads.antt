@@ -6,15 +6,15 @@ use Rattle.std.proofs.lemmas.List.Elements.{All-append}
 use Rattle.std.proofs.lemmas.List.Sorted.{All-permutation, IsPermutation-cons, IsPermutation-middle, IsPermutation-refl, IsPermutation-trans, length_permutation}
 use Rattle.bw_types.specs.declared.params.Params.{Params}
 use Rattle.bw_types.specs.declared.tree.Tree.{Tree}
-use Rattle.page_ports.specs.Pages.{PageMap}
-use Rattle.poly_moments.specs.PlaneSums.{Entered}
+use Rattle.ports.specs.Pages.{PageMap}
+use Rattle.corner_weights.specs.PlaneSums.{Entered}
 use Rattle.dom_index.specs.declared.index.DomIndex.{Ghosts}
 use Rattle.corner_forest.specs.Enters.{batch_growth}
 use Rattle.corner_forest.specs.Entries.{AreNextEntries, IsNextEntry, corner_count, with_entries}
 use Rattle.corner_forest.specs.Laws.{EntryStandsAnywhere}
 use Rattle.corner_forest.specs.Stands.{ForestStands}
 use Rattle.corner_forest.specs.declared.entry.Entry.{Entry as Waiting}
-use Rattle.change_laws.specs.Growth.{GrowthIsBounded, most_growth}
+use Rattle.page_warehouse.specs.Growth.{GrowthIsBounded, most_growth}
 use Rattle.page_warehouse.specs.Waiting.{CanWait, HasOneMore, LeadTo, entered_at}
 
 more_length : (before after : List Entered) (e : Entered) → HasOneMore before after e → length after ≡ length before + 1

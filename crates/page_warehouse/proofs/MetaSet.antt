@@ -1,9 +1,9 @@
 -- The setting of a meta page, as a call on a stage.
 use Rattle.std.proofs.Common.{◌≡◌, ℕ, List, sym, ◌∙◌, ap, arith}
-use Rattle.page_ports.specs.Calls.{WentOn}
-use Rattle.page_ports.specs.Frame.{names_page}
-use Rattle.page_ports.specs.Pages.{PageMap}
-use Rattle.page_ports.specs.declared.pages.Pages.{Ghosts}
+use Rattle.ports.specs.Calls.{WentOn}
+use Rattle.ports.specs.Frame.{names_page}
+use Rattle.ports.specs.Pages.{PageMap}
+use Rattle.ports.specs.declared.pages.Pages.{Ghosts}
 
 -- Nothing changed that a stage shows.
 pub unmoved : {P : Type 0} (s : Ghosts P) (old new : P) → s.tells new ≡ s.tells old → s.base new ≡ s.base old → s.limit new ≡ s.limit old → (s.free_in_order old → s.free_in_order new)

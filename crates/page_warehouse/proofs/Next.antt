@@ -17,15 +17,15 @@ use Rattle.object_table.specs.Laws.{LastInAnyOrder}
 use Rattle.object_table.specs.Lives.{last_life}
 use Rattle.object_table.specs.Stands.{TableStands}
 use Rattle.object_table.specs.declared.form.Form.TheVariants.{ByLives}
-use Rattle.page_ports.specs.Pages.{PageMap}
+use Rattle.ports.specs.Pages.{PageMap}
 use Rattle.corner_forest.specs.Enters.{entry_of}
 use Rattle.corner_forest.specs.Entries.{IsNextEntry}
-use Rattle.poly_moments.specs.PlaneSums.{Entered}
-use Rattle.change_laws.specs.Begun.{begun_life, next_event, next_version, with_changes}
-use Rattle.change_laws.specs.Next.{FrontsAreLawful}
+use Rattle.corner_weights.specs.PlaneSums.{Entered}
+use Rattle.page_warehouse.specs.Begun.{begun_life, next_event, next_version, with_changes}
+use Rattle.page_warehouse.specs.Next.{FrontsAreLawful}
 use Rattle.history_laws.specs.Entries.{history_entries}
 use Rattle.history_laws.specs.Entering.{EntriesAreChanges}
-use Rattle.change_laws.specs.Ids.{LivesEndWithTheGreatest}
+use Rattle.page_warehouse.specs.Ids.{LivesEndWithTheGreatest}
 
 -- how many changes there are with the batch so far
 pub changes_so_far : (h : History) (done : List Change) → length (changes (with_changes h done)) ≡ length (changes h) + length done

@@ -7,13 +7,13 @@ use Rattle.bw_types.specs.declared.dated.Dated.{Dated}
 use Rattle.bw_types.specs.declared.params.Params.{Params}
 use Rattle.bw_types.specs.declared.tree.Tree.{Tree}
 use Rattle.page_layout.specs.Footprint.{ApartBothWays, NamesNoneTwice, NoneTwiceByParts}
-use Rattle.page_ports.specs.Frame.{ApartPagesStay, AreApart, Replaces}
-use Rattle.page_ports.specs.Pages.{PageMap}
+use Rattle.ports.specs.Frame.{ApartPagesStay, AreApart, Replaces}
+use Rattle.ports.specs.Pages.{PageMap}
 use Rattle.object_table.specs.Laws.{PagesAreThere, StandsByItsPages}
 use Rattle.object_table.specs.Lives.{table_pages}
 use Rattle.object_table.specs.Stands.{TableStands}
 use Rattle.object_table.specs.declared.form.Form.TheVariants.{ByLives}
-use Rattle.poly_moments.specs.PlaneSums.{Entered}
+use Rattle.corner_weights.specs.PlaneSums.{Entered}
 use Rattle.dom_index.specs.declared.index.DomIndex.{Ghosts}
 use Rattle.corner_forest.specs.Enters.{ForestEnters, MayEnter}
 use Rattle.corner_forest.specs.Entries.{AreNextEntries}

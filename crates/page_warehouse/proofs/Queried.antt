@@ -8,15 +8,15 @@ use Rattle.bw_types.specs.declared.params.Params.{Params}
 use Rattle.bw_types.specs.declared.query.Kind.{Kind}
 use Rattle.bw_types.specs.declared.query.Query.{Query}
 use Rattle.bw_types.specs.declared.tree.Tree.{Tree}
-use Rattle.page_ports.specs.Pages.{PageMap}
+use Rattle.ports.specs.Pages.{PageMap}
 use Rattle.dom_index.specs.declared.index.DomIndex.{Ghosts}
 use Rattle.corner_forest.specs.Entries.{corner_count}
 use Rattle.corner_forest.specs.Stands.{AreBalanced, ForestStands}
 use Rattle.corner_forest.specs.declared.forest.Forest.{Forest}
 use Rattle.history_laws.specs.Answers.{EntriesCountLive}
 use Rattle.history_laws.specs.Entries.{history_entries}
-use Rattle.poly_moments.specs.Planes.{plane_count}
-use Rattle.poly_moments.specs.PlaneSums.{entered_below}
+use Rattle.corner_weights.specs.Planes.{plane_count}
+use Rattle.corner_weights.specs.PlaneSums.{entered_below}
 use Rattle.page_disk.specs.declared.disk.Disk.{Ghosts as DiskGhosts}
 use Rattle.page_warehouse.specs.Costs.{below_cost, kind_cost, query_cost}
 use Rattle.page_warehouse.specs.Holds.{Holds, HoldsTrees, TreesStand}

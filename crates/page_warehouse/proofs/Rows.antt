@@ -11,10 +11,10 @@ use Rattle.bw_types.specs.declared.change.Change.{Change}
 use Rattle.bw_types.specs.declared.params.Params.{Params}
 use Rattle.bw_types.specs.declared.row.Row.{Row}
 use Rattle.bw_types.specs.declared.row.Row.TheVariants as row
-use Rattle.page_ports.specs.Calls.{WentOn}
-use Rattle.page_ports.specs.declared.pages.Pages.{Ghosts as PageGhosts}
+use Rattle.ports.specs.Calls.{WentOn}
+use Rattle.ports.specs.declared.pages.Pages.{Ghosts as PageGhosts}
 use Rattle.dom_index.specs.declared.index.DomIndex.{Ghosts}
-use Rattle.change_laws.specs.Begun.{with_changes}
+use Rattle.page_warehouse.specs.Begun.{with_changes}
 use Rattle.page_warehouse.specs.Entering.{PagesWait}
 use Rattle.page_warehouse.specs.declared.roots.Roots.{Roots}
 use Rattle.corner_forest.specs.declared.entry.Entry.{Entry as Waiting}

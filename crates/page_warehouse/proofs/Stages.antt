@@ -1,11 +1,11 @@
 -- Calls on a stage, one after another.
 use Rattle.std.proofs.Common.{◌≡◌, ℕ, ◌+◌, ◌≤◌, IsTrue, Result, Ok, Err, OnErr, OnOk, sym, ◌∙◌, ap, subst, arith}
-use Rattle.counts.specs.Count.{Rose}
-use Rattle.page_ports.specs.Calls.{Changes, Grows, WasRead, WentOn}
-use Rattle.page_ports.specs.Frame.{names_page}
-use Rattle.page_ports.specs.declared.page.StageFault.{StageFault}
-use Rattle.page_ports.specs.declared.page.StageFault.TheVariants.{Damaged, Disk, NoMemory, PageLimit}
-use Rattle.page_ports.specs.declared.pages.Pages.{Ghosts}
+use Rattle.ports.specs.Count.{Rose}
+use Rattle.ports.specs.Calls.{Changes, Grows, WasRead, WentOn}
+use Rattle.ports.specs.Frame.{names_page}
+use Rattle.ports.specs.declared.page.StageFault.{StageFault}
+use Rattle.ports.specs.declared.page.StageFault.TheVariants.{Damaged, Disk, NoMemory, PageLimit}
+use Rattle.ports.specs.declared.pages.Pages.{Ghosts}
 use Rattle.page_warehouse.proofs.Exits.{exit_error}
 
 -- what follows from a call that is Ok

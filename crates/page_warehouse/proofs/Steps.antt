@@ -4,13 +4,13 @@ use Rattle.bw_types.specs.History.{History}
 use Rattle.bw_types.specs.Lawful.{IsLawfulBatch}
 use Rattle.bw_types.specs.declared.change.Change.{Change}
 use Rattle.bw_types.specs.declared.params.Params.{Params}
-use Rattle.page_ports.specs.Calls.{Changes, WentOn}
-use Rattle.page_ports.specs.Pages.{PageMap}
-use Rattle.page_ports.specs.declared.page.StageFault.{StageFault}
-use Rattle.page_ports.specs.declared.page.StageFault.TheVariants.{Damaged}
-use Rattle.page_ports.specs.declared.pages.Pages.{Ghosts as PageGhosts}
+use Rattle.ports.specs.Calls.{Changes, WentOn}
+use Rattle.ports.specs.Pages.{PageMap}
+use Rattle.ports.specs.declared.page.StageFault.{StageFault}
+use Rattle.ports.specs.declared.page.StageFault.TheVariants.{Damaged}
+use Rattle.ports.specs.declared.pages.Pages.{Ghosts as PageGhosts}
 use Rattle.dom_index.specs.declared.index.DomIndex.{Ghosts}
-use Rattle.change_laws.specs.Begun.{next_event, with_changes}
+use Rattle.page_warehouse.specs.Begun.{next_event, with_changes}
 use Rattle.page_warehouse.specs.Entering.{KeepsOn, PagesWait}
 use Rattle.page_warehouse.specs.declared.roots.Roots.{Roots}
 use Rattle.corner_forest.specs.declared.entry.Entry.{Entry as Waiting}

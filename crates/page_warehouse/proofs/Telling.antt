@@ -2,7 +2,7 @@
 use Rattle.std.proofs.Common.{ℕ, List, sym, ◌∙◌, ap₂}
 use Rattle.bw_types.specs.declared.dated.Dated.{Dated}
 use Rattle.page_layout.specs.declared.meta.Meta.{Meta}
-use Rattle.page_ports.specs.Pages.{PageMap}
+use Rattle.ports.specs.Pages.{PageMap}
 use Rattle.page_space.specs.Laws.{HoldsOne}
 use Rattle.dom_index.specs.declared.index.DomIndex.{Ghosts}
 use Rattle.history_laws.specs.Telling.{TableTellsHistory}

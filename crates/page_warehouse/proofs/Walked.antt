@@ -8,7 +8,7 @@ use Rattle.bw_types.specs.declared.dated.Dated.{Dated}
 use Rattle.bw_types.specs.declared.params.Params.{Params}
 use Rattle.page_disk.specs.Image.{Image}
 use Rattle.page_layout.specs.declared.meta.Meta.{Meta}
-use Rattle.page_ports.specs.Pages.{PageMap}
+use Rattle.ports.specs.Pages.{PageMap}
 use Rattle.page_space.specs.Laws.{HoldsOne}
 use Rattle.page_space.specs.Space.{HoldsSpace}
 use Rattle.object_table.specs.Keys.{key}

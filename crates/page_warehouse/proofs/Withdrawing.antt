@@ -14,15 +14,15 @@ use Rattle.object_table.specs.Laws.{WithdrawnInAnyOrder}
 use Rattle.object_table.specs.Lives.{last_life, table_pages}
 use Rattle.object_table.specs.Stands.{TableStands}
 use Rattle.object_table.specs.declared.form.Form.TheVariants.{ByLives}
-use Rattle.page_ports.specs.Frame.{Replaces}
-use Rattle.page_ports.specs.Pages.{PageMap}
-use Rattle.poly_moments.specs.PlaneSums.{Entered}
+use Rattle.ports.specs.Frame.{Replaces}
+use Rattle.ports.specs.Pages.{PageMap}
+use Rattle.corner_weights.specs.PlaneSums.{Entered}
 use Rattle.dom_index.specs.declared.index.DomIndex.{Ghosts}
 use Rattle.corner_forest.specs.Enters.{entry_of}
 use Rattle.corner_forest.specs.Entries.{IsNextEntry}
 use Rattle.history_laws.specs.Entries.{history_entries}
-use Rattle.change_laws.specs.Begun.{next_event, next_version, with_changes}
-use Rattle.change_laws.specs.Next.{WithdrawalGoesOn, WithdrawalsGoOn}
+use Rattle.page_warehouse.specs.Begun.{next_event, next_version, with_changes}
+use Rattle.page_warehouse.specs.Next.{WithdrawalGoesOn, WithdrawalsGoOn}
 use Rattle.page_warehouse.specs.Entering.{PagesTell}
 use Rattle.page_warehouse.specs.Waiting.{HasOneMore}
 use Rattle.page_warehouse.specs.declared.roots.Roots.{Roots}

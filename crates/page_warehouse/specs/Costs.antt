@@ -6,7 +6,7 @@ use Rattle.bw_types.specs.declared.query.Kind.{Kind}
 use Rattle.bw_types.specs.declared.query.Kind.TheVariants.{Sum, Count, Integral}
 use Rattle.bw_types.specs.declared.query.Query.{Query}
 use Rattle.corner_forest.specs.Entries.{corner_count}
-use Rattle.poly_moments.specs.Planes.{plane_count}
+use Rattle.corner_weights.specs.Planes.{plane_count}
 
 -- One sum a corner, or for an integral one sum a corner and plane, over trees of so many entries. A plane has a point for each
 -- corner of an entry.

@@ -5,7 +5,7 @@ use Rattle.bw_types.specs.History.{History}
 use Rattle.bw_types.specs.declared.params.Params.{Params}
 use Rattle.page_disk.specs.Image.{Image, PageList}
 use Rattle.page_layout.specs.declared.meta.Meta.{Meta}
-use Rattle.page_ports.specs.Pages.{PageMap}
+use Rattle.ports.specs.Pages.{PageMap}
 use Rattle.redo_journal.specs.Settled.{SettlesTo}
 use Rattle.object_table.specs.Lives.{table_lives}
 use Rattle.history_laws.specs.Told.{told}

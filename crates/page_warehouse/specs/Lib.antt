@@ -9,3 +9,12 @@ pub mod Opened
 pub mod Shown
 pub mod Waiting
 pub mod Table
+pub mod Begun
+pub mod Growth
+pub mod Ids
+pub mod Next
+pub mod Events
+pub mod Batches
+pub mod Faults
+pub mod Numbering
+pub mod Told

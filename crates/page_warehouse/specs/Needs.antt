@@ -10,7 +10,7 @@ use Rattle.page_layout.specs.Meta.{meta_in}
 use Rattle.page_layout.specs.declared.meta.Meta.{Meta}
 use Rattle.redo_journal.specs.Settled.{SettlesTo}
 use Rattle.corner_forest.specs.Entries.{point_count, root_count}
-use Rattle.change_laws.specs.Growth.{most_growth}
+use Rattle.page_warehouse.specs.Growth.{most_growth}
 
 -- the objects of a table of the earlier form, which the next commit writes anew
 abbrev pub old_objects : Meta → ℕ

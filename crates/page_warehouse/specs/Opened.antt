@@ -12,7 +12,7 @@ use Rattle.page_space.specs.Faults.{AtBadJournal, AtDamaged, AtEmpty}
 use Rattle.page_space.specs.Opening.{StandsAlike, StandsDamagedAt}
 use Rattle.page_space.specs.Settling.{IsBadAt}
 use Rattle.page_space.specs.Space.{HoldsSpace}
-use Rattle.page_ports.specs.Pages.{PageMap}
+use Rattle.ports.specs.Pages.{PageMap}
 use Rattle.page_space.specs.declared.refusal.OpenFault.{OpenFault}
 use Rattle.page_space.specs.declared.refusal.OpenFault.TheVariants.{Disk, NoMemory}
 use Rattle.page_space.specs.declared.refusal.OpenRefused.{OpenRefused}

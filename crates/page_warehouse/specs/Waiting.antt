@@ -2,7 +2,7 @@
 use Rattle.std.specs.Prelude.{◌≡◌, ℕ, ◌^◌, ◌<◌, IsTrue, List, [], ◌∷◌, ◌++◌}
 use Rattle.bw_types.specs.Fits.{object_fits}
 use Rattle.bw_types.specs.declared.params.Params.{Params}
-use Rattle.poly_moments.specs.PlaneSums.{Entered}
+use Rattle.corner_weights.specs.PlaneSums.{Entered}
 use Rattle.corner_forest.specs.Enters.{entry_of}
 use Rattle.corner_forest.specs.Entries.{IsNextEntry}
 use Rattle.corner_forest.specs.declared.entry.Entry.{Entry as Waiting}

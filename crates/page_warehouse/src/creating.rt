@@ -1,7 +1,7 @@
 //! The making of a warehouse on an empty disk.
 ghost use Rattle.std.specs.Prelude.{◌≡◌, ◌+◌, ◌≤◌, true, false, IsTrue};
 ghost use Rattle.bw_types.specs.Fits.{IsInRange};
-ghost use Rattle.counts.specs.Count.{Rose};
+ghost use Rattle.ports.specs.Count.{Rose};
 ghost use Rattle.page_disk.specs.Since.{LeavesNow, LeavesOnly};
 ghost use Rattle.redo_journal.specs.Gates.{is_empty};
 ghost use Rattle.page_warehouse.specs.Created.{IfFailed, IfMade, IfThere, IsEmptyOrNew, IsNew, created_disk, new_meta};
@@ -10,7 +10,7 @@ use bw_types::{Params, Tree};
 use corner_forest::Forest;
 use page_disk::Disk;
 use page_layout::{Meta, Spelled, Super};
-use page_ports::blank_page;
+use ports::blank_page;
 use redo_journal::{Gate, ready};
 
 /// What became of a disk on which a warehouse was to be made.

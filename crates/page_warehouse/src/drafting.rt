@@ -5,13 +5,13 @@ ghost use Rattle.bw_types.specs.Fits.{row_fits};
 ghost use Rattle.bw_types.specs.History.{History, changes, flat, last_version};
 ghost use Rattle.bw_types.specs.Lawful.{IsLawful, IsLawfulBatch};
 ghost use Rattle.bw_types.specs.Refusals.{total_mass};
-ghost use Rattle.counts.specs.Count.{Rose};
+ghost use Rattle.ports.specs.Count.{Rose};
 ghost use Rattle.history_laws.specs.Bounds.{HasSmallWeight};
-ghost use Rattle.page_ports.specs.Calls.{Changes};
+ghost use Rattle.ports.specs.Calls.{Changes};
 ghost use Rattle.page_space.specs.MetaSet.{FitsBesideCounts, with_counts_of};
 ghost use Rattle.page_space.specs.Shown.{IsMetaSet, base_of, disk_under, staged_map, staged_meta};
 ghost use Rattle.corner_forest.specs.Enters.{first_pages};
-ghost use Rattle.change_laws.specs.Begun.{with_changes};
+ghost use Rattle.page_warehouse.specs.Begun.{with_changes};
 ghost use Rattle.page_warehouse.specs.Entering.{FormKeeps, KeepsOn, PagesKeep, RootsFit, StayRoots};
 ghost use Rattle.page_warehouse.specs.Needs.{StayOnePage, changes_need};
 ghost use Rattle.page_warehouse.specs.NextMeta.{IsNextMeta};
@@ -24,8 +24,8 @@ use bw_types::Row;
 use dom_index::DomIndex;
 use page_disk::Disk;
 use page_layout::Meta;
-use page_ports::{Pages, StageFault};
 use page_space::Staged;
+use ports::{Pages, StageFault};
 use std::alloc::Global;
 
 /// What the meta page counts of a history: its versions, events, adds and withdrawals, and its mass.

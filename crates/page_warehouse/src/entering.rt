@@ -7,20 +7,20 @@ ghost use Rattle.std.specs.List.{list_all};
 ghost use Rattle.bw_types.specs.Fits.{row_fits};
 ghost use Rattle.bw_types.specs.History.{History, changes, flat};
 ghost use Rattle.bw_types.specs.Lawful.{IsLawful, IsLawfulBatch};
-ghost use Rattle.page_ports.specs.Calls.{Changes};
+ghost use Rattle.ports.specs.Calls.{Changes};
 ghost use Rattle.corner_forest.specs.Enters.{first_pages};
-ghost use Rattle.change_laws.specs.Begun.{next_version, with_changes};
+ghost use Rattle.page_warehouse.specs.Begun.{next_version, with_changes};
 ghost use Rattle.page_warehouse.specs.Entering.{KeepsOn, PagesKeep, RootsFit, StayRoots};
 ghost use Rattle.page_warehouse.specs.Needs.{StayOnePage, changes_need};
 
 use crate::in_table::enter_table;
 use crate::in_trees::enter_trees;
+use crate::next_change::changes_go_on;
 use crate::roots::Roots;
 use bw_types::Row;
-use change_laws::changes_go_on;
 use dom_index::DomIndex;
 use history_laws::entries_are_changes;
-use page_ports::{Stage, StageFault};
+use ports::{Stage, StageFault};
 use std::alloc::Global;
 
 /// Enters the rows of a batch, the first change of which has this event number; answers the number after the last.

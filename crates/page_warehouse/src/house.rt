@@ -1,7 +1,7 @@
 //! The warehouse as the machine of rows and replies sees it.
 
-use crate::Warehouse;
 use crate::committing::Judged;
+use crate::state::Warehouse;
 use bw_types::{Params, Query, Row};
 use dom_index::DomIndex;
 use history_laws::accepted_batches_are_lawful;

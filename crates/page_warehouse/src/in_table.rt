@@ -10,20 +10,21 @@ ghost use Rattle.bw_types.specs.Lawful.{IsLawful, IsLawfulBatch};
 ghost use Rattle.bw_types.specs.declared.change.Change.{Change};
 ghost use Rattle.bw_types.specs.declared.change.Change.TheVariants as change;
 ghost use Rattle.bw_types.specs.declared.row.Row.{Row};
-ghost use Rattle.page_ports.specs.Calls.{Changes};
-ghost use Rattle.change_laws.specs.Begun.{next_event, next_version, with_changes};
+ghost use Rattle.ports.specs.Calls.{Changes};
+ghost use Rattle.page_warehouse.specs.Begun.{next_event, next_version, with_changes};
 ghost use Rattle.page_warehouse.specs.Entering.{KeepsOn, PagesKeep, PagesWait, RootsFit, StayRoots};
 ghost use Rattle.page_warehouse.specs.Waiting.{CanWait};
 
+use crate::ids::table_tells_ids;
+use crate::next_change::{batches_begin_alike, changes_go_on};
 use crate::roots::Roots;
 use crate::waiting::{Waiting, wait};
 use bw_types::{Dated, Object, Params, Row, object_fits};
-use change_laws::{batches_begin_alike, changes_go_on, table_tells_ids};
 use corner_forest::laws::forest_laws;
 use dom_index::DomIndex;
 use object_table::{enter, find, last_life_laws, mark_withdrawn, table_laws};
 use page_layout::footprint_laws;
-use page_ports::{Stage, StageFault, changes_compose};
+use ports::{Stage, StageFault, changes_compose};
 
 // The number of the life that comes after the last one of an id; `None` where there are no more numbers.
 fn life_after(last: Option<Dated>) -> Option<u32>

@@ -2,23 +2,23 @@
 ghost use Rattle.std.specs.Prelude.{ℕ, ◌+◌, ◌-◌, ◌*◌, ◌^◌, ◌<◌, ◌≤◌, length, IsTrue};
 ghost use Rattle.std.specs.List.{All};
 ghost use Rattle.bw_types.specs.History.{History};
-ghost use Rattle.page_ports.specs.Calls.{Changes};
+ghost use Rattle.ports.specs.Calls.{Changes};
 ghost use Rattle.corner_forest.specs.Enters.{first_pages};
 ghost use Rattle.history_laws.specs.Entries.{history_entries};
-ghost use Rattle.change_laws.specs.Growth.{most_growth};
+ghost use Rattle.page_warehouse.specs.Growth.{most_growth};
 ghost use Rattle.page_warehouse.specs.Entering.{KeepsOn, PagesKeep, PagesWait, RootsFit, StayRoots};
 ghost use Rattle.page_warehouse.specs.Needs.{StayOnePage};
 ghost use Rattle.page_warehouse.specs.Waiting.{CanWait};
 
+use crate::next_change::growth_is_bounded;
 use crate::roots::Roots;
 use crate::waiting::Waiting;
-use change_laws::growth_is_bounded;
 use corner_forest::enter as enter_forest;
 use corner_forest::laws::forest_laws;
 use dom_index::DomIndex;
 use object_table::table_laws;
 use page_layout::footprint_laws;
-use page_ports::{Stage, StageFault, changes_compose};
+use ports::{Stage, StageFault, changes_compose};
 use std::alloc::Global;
 
 /// Enters what waits, in its order.

@@ -8,7 +8,7 @@ ghost use Rattle.bw_types.specs.Refusals.{total_mass};
 ghost use Rattle.history_laws.specs.Bounds.{HasSmallWeight};
 
 use bw_types::{Object, Params, Row};
-use poly_moments::mass;
+use corner_weights::mass;
 
 /// This mass and the masses of the objects that the rows add; their weights have 64 bits.
 pub(crate) fn mass_with(params: &Params, rows: &[Row], before: u128) -> u128

@@ -14,7 +14,7 @@ ghost use Rattle.corner_forest.specs.Entries.{root_count};
 ghost use Rattle.page_warehouse.specs.Holds.{Holds};
 ghost use Rattle.page_warehouse.specs.Shown.{disk_in};
 
-use crate::Warehouse;
+use crate::state::Warehouse;
 use arrayvec::ArrayVec;
 use bw_types::{Params, Tree};
 use corner_forest::Forest;

@@ -5,14 +5,14 @@ ghost use Rattle.bw_types.specs.Below.{below_at};
 ghost use Rattle.bw_types.specs.Fits.{ends_fit, query_fits};
 ghost use Rattle.bw_types.specs.History.{History};
 ghost use Rattle.bw_types.specs.Residues.{residue};
-ghost use Rattle.counts.specs.Count.{Rose};
-ghost use Rattle.page_ports.specs.Calls.{OnlyReads};
+ghost use Rattle.ports.specs.Count.{Rose};
+ghost use Rattle.ports.specs.Calls.{OnlyReads};
 ghost use Rattle.warehouse.specs.Committed.{Answers};
 ghost use Rattle.warehouse.specs.Left.{IsAsBefore};
 ghost use Rattle.page_warehouse.specs.Costs.{below_cost, query_cost};
 ghost use Rattle.page_warehouse.specs.Holds.{HoldsTrees};
 
-use crate::Warehouse;
+use crate::state::Warehouse;
 use bw_types::{Kind, Query};
 use corner_forest::{below, count, integral, sum};
 use dom_index::DomIndex;
@@ -20,8 +20,8 @@ use history_laws::{
     answers_are_bounded, entries_are_changes, entries_give_answers, lawful_histories_have_room,
 };
 use page_disk::Disk;
-use page_ports::{PageFault, Pages};
 use page_space::{Space, holds_one};
+use ports::{PageFault, Pages};
 use warehouse::QueryFault;
 
 impl<D: Disk, X: DomIndex> Warehouse<D, X> {

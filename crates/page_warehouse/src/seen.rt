@@ -1,12 +1,12 @@
 //! What the object table tells of ids, for the first refusal of a batch.
 ghost use Rattle.std.specs.Prelude.{◌≡◌};
-ghost use Rattle.change_laws.specs.Ids.{life_told};
+ghost use Rattle.page_warehouse.specs.Ids.{life_told};
 
 use bw_types::{Dated, Tree};
 use object_table::{Form, find, find_old};
 use page_disk::Disk;
-use page_ports::PageFault;
 use page_space::Space;
+use ports::PageFault;
 use session_book::{Life, Seen};
 
 /// The committed table of a space, in its form.
@@ -31,7 +31,7 @@ fn told(last: Option<Dated>) -> Life
 impl<D: Disk> Seen for TableSeen<D> {
     ghost use Rattle.std.specs.Prelude.{◌≡◌, IsTrue, List, refl};
     ghost use Rattle.bw_types.specs.declared.dated.Dated.{Dated};
-    ghost use Rattle.change_laws.specs.Ids.{life_told};
+    ghost use Rattle.page_warehouse.specs.Ids.{life_told};
     ghost use Rattle.object_table.specs.Lives.{last_life, table_lives};
     ghost use Rattle.object_table.specs.Stands.{TableStands};
     ghost use Rattle.page_space.specs.Shown.{begun_of, disk_of, map_of};

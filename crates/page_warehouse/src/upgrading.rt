@@ -4,21 +4,21 @@ ghost use Rattle.std.specs.List.{list_all};
 ghost use Rattle.bw_types.specs.Fits.{row_fits};
 ghost use Rattle.bw_types.specs.History.{History, changes, flat};
 ghost use Rattle.bw_types.specs.Lawful.{IsLawful, IsLawfulBatch};
-ghost use Rattle.page_ports.specs.Calls.{Changes};
+ghost use Rattle.ports.specs.Calls.{Changes};
 ghost use Rattle.corner_forest.specs.Enters.{first_pages};
-ghost use Rattle.change_laws.specs.Begun.{next_version, with_changes};
+ghost use Rattle.page_warehouse.specs.Begun.{next_version, with_changes};
 ghost use Rattle.page_warehouse.specs.Entering.{FormKeeps, KeepsOn, OldPagesKeep, PagesKeep, RootsFit, StayRoots};
 ghost use Rattle.page_warehouse.specs.Needs.{StayOnePage, changes_need};
 
 use crate::entering::enter_rows;
+use crate::next_change::changes_go_on;
 use crate::roots::Roots;
 use bw_types::Row;
-use change_laws::changes_go_on;
 use corner_forest::laws::forest_laws;
 use dom_index::DomIndex;
 use object_table::{renew, table_laws};
 use page_layout::footprint_laws;
-use page_ports::{Stage, StageFault, changes_compose};
+use ports::{Stage, StageFault, changes_compose};
 use std::alloc::Global;
 
 // Writes the table anew by lives.

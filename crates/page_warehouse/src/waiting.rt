@@ -3,7 +3,7 @@ ghost use Rattle.std.specs.Prelude.{◌≡◌, [], ◌∷◌, ◌++◌, Err, OnE
 
 // What waits is what the trees are to enter: an object, put in or taken out, by the change of this event number.
 pub(crate) use corner_forest::Entry as Waiting;
-use page_ports::StageFault;
+use ports::StageFault;
 
 /// Puts an entry last.
 pub(crate) fn wait(waiting: &mut Vec<Waiting>, next: Waiting) -> Result<(), StageFault>

@@ -4,21 +4,21 @@ ghost use Rattle.std.specs.List.{All};
 ghost use Rattle.std.specs.Option.{option_to_list};
 ghost use Rattle.bw_types.specs.History.{History};
 ghost use Rattle.bw_types.specs.declared.dated.Dated.{Dated};
-ghost use Rattle.counts.specs.Count.{Rose};
+ghost use Rattle.ports.specs.Count.{Rose};
 ghost use Rattle.object_table.specs.Keys.{key};
 ghost use Rattle.object_table.specs.Lives.{AreNext, first_from, from_id, from_life};
 ghost use Rattle.page_layout.specs.Dated.{by_life_fits};
 ghost use Rattle.warehouse.specs.Left.{IsAsBefore};
 ghost use Rattle.page_warehouse.specs.Table.{KeepsLives};
 
-use crate::Warehouse;
+use crate::state::Warehouse;
 use arrayvec::ArrayVec;
 use bw_types::Dated;
 use dom_index::DomIndex;
 use object_table::{walk, walk_leaf, walk_old};
 use page_disk::Disk;
-use page_ports::PageFault;
 use page_space::holds_one;
+use ports::PageFault;
 
 impl<D: Disk, X: DomIndex> Warehouse<D, X> {
     ghost use Rattle.page_warehouse.specs.Shown.{HasNewForm, HoldsHistory, disk_charge, disk_in, meta_in, params_in};

@@ -8,7 +8,7 @@ pub use Rattle.redo_journal.specs.Groups.{homes_in, last_of, behind, images_at, 
 pub use Rattle.page_disk.specs.Since.{LeavesOnly, LeavesNow}
 pub use Rattle.std.proofs.lemmas.Grind.{common_steps}
 pub use Rattle.std.proofs.lemmas.Result.{err_from_is_err_and, on_ok_weaker}
-pub use Rattle.page_ports.specs.Pages.{PageMap, empty_map, put_page}
+pub use Rattle.ports.specs.Pages.{PageMap, empty_map, put_page}
 pub use Rattle.redo_journal.specs.Gates.{is_open, IsCreated, is_blank, is_empty, gate_of}
 pub use Rattle.std.specs.List.{AllByRecursion, list_all, All}
 pub use Rattle.page_disk.specs.SinceLaws.{LeavesOnly-same, LeavesOnly-then, LeavesOnly-moment, left_settled, LeavesOnly-weaken, settled_leaves}

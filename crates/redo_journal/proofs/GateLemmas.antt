@@ -1,6 +1,6 @@
 -- A gate that was written.
 use Rattle.redo_journal.proofs.Common.{◌≡◌, ℕ, ◌≤◌, Bool, true, false, List, ◌∙◌, ap, refl, length, arith, slice_index, ◌==◌, Pages, Journal, PageList, Image, page_at, area_of, with_area, written_at, is_open, IsCreated, HasIdleJournal, IsShut, IsWritten}
-use Rattle.page_ports.specs.Pages.{blank_bytes}
+use Rattle.ports.specs.Pages.{blank_bytes}
 use Rattle.redo_journal.specs.Gates.{gate_bytes}
 use Rattle.redo_journal.proofs.PlacingLemmas.{written-at, length-written, written-other}
 

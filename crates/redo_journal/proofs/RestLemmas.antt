@@ -1,8 +1,8 @@
 -- What a call on a disk leaves: where nothing is pending, once pages are written, and after a sync.
 use Rattle.redo_journal.proofs.Common.{◌≡◌, ◌≢◌, ℕ, ◌<◌, ◌≤◌, ◌∙◌, ap, sym, subst, refl, inl, inr, ◌⊎◌, Bool, true, false, List, [], ◌∷◌, ◌++◌, length, arith, IsTrue, IsSome, ◌==◌, slice_index, cases_Bool, common_steps, ext_get_or, get_or_past, PageMap, Pages, Journal, TellsImage, PageList, Image, page_at, AreWhole, area_of, with_area, written_at, AreaMoment, Moment, AreaMayBeLeft, MayBeLeft, is_written, counted_in, then_moment, settled_moment, LeavesNow, LeavesOnly, LeavesOnly-same, LeavesOnly-then, LeavesOnly-moment, left_settled, is_open, AtNewest, LeavesArea, BodyPends, KeepsGate, DiffersInGate, HomesPend, IsInPlacing, MayBeLeftNow, LeavesOnly-weaken, settled_leaves, is_empty, IsEmptyOrCreated}
-use Rattle.page_ports.specs.Pages.{blank_bytes}
-use Rattle.page_ports.specs.Frame.{names_page}
-use Rattle.page_ports.specs.FrameLaws.{names_page-append}
+use Rattle.ports.specs.Pages.{blank_bytes}
+use Rattle.ports.specs.Frame.{names_page}
+use Rattle.ports.specs.FrameLaws.{names_page-append}
 use Rattle.redo_journal.specs.Gates.{gate_bytes}
 use Rattle.redo_journal.proofs.GateLemmas.{says, written_gate}
 use Rattle.redo_journal.proofs.PlacingLemmas.{length-written, written-at, written-other}

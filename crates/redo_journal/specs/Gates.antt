@@ -1,6 +1,6 @@
 -- The two gates, and what an image says by them.
 use Rattle.std.specs.Prelude.{◌≡◌, ℕ, ◌≤◌, nat_lt, ◌==◌, ◌||◌, not, Bool, true, false, if◌then◌else◌, List, length, slice_index, slice_set}
-use Rattle.page_ports.specs.Pages.{blank_bytes}
+use Rattle.ports.specs.Pages.{blank_bytes}
 use Rattle.page_disk.specs.Image.{PageList, Image, page_at}
 use Rattle.redo_journal.specs.declared.gate.Gate.{Gate}
 use Rattle.redo_journal.specs.declared.gate.Gate.TheVariants.{Blank, NoJournal, Idle, Armed}

@@ -1,7 +1,7 @@
 -- What an `Images` shows.
 use Rattle.std.specs.Ordering.{nat_cmp}
 use Rattle.std.specs.BTreeMap.{get}
-use Rattle.page_ports.specs.Pages.{PageMap}
+use Rattle.ports.specs.Pages.{PageMap}
 use Rattle.redo_journal.specs.Boxed.{in_box, unboxed}
 use Rattle.redo_journal.specs.Placing.{ImageList}
 use Rattle.redo_journal.specs.declared.images.Images.{Images}

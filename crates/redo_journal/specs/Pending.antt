@@ -1,6 +1,6 @@
 -- What is pending in each phase of a commit, and what a crash in it leaves.
 use Rattle.std.specs.Prelude.{◌≡◌, ℕ, ◌<◌, ◌≤◌, true, false, IsSome, None, List, [], ◌∷◌, length}
-use Rattle.page_ports.specs.Pages.{PageMap}
+use Rattle.ports.specs.Pages.{PageMap}
 use Rattle.page_disk.specs.Image.{PageList, Image, page_at}
 use Rattle.page_disk.specs.Moment.{AreaMoment, Moment, AreaMayBeLeft, is_written}
 use Rattle.redo_journal.specs.Gates.{is_open}

@@ -1,6 +1,6 @@
 -- Images of pages, and an area in which they are in their places.
 use Rattle.std.specs.Prelude.{◌≡◌, ◌⊎◌, ℕ, ◌+◌, ◌<◌, ◌≤◌, max, IsSome, unwrap_or, List, [], ◌∷◌, length}
-use Rattle.page_ports.specs.Pages.{PageMap, empty_map, put_page}
+use Rattle.ports.specs.Pages.{PageMap, empty_map, put_page}
 use Rattle.page_disk.specs.Image.{PageList, page_at, written_at}
 
 -- pages, each with its home and then the bytes that it is to have there

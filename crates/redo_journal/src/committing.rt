@@ -20,7 +20,7 @@ use crate::writes::{put_behind, put_home, write_gate};
 use arrayvec::ArrayVec;
 use page_disk::{Disk, Failed};
 use page_layout::{JournalHead, Spelled};
-use page_ports::blank_page;
+use ports::blank_page;
 
 // The most images in a group.
 const MOST: usize = 500;

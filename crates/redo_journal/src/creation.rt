@@ -8,7 +8,7 @@ ghost use Rattle.redo_journal.specs.Phases.{HasIdleJournal, IsEmptyOrCreated, Is
 
 use crate::gate::gate_page;
 use page_disk::{Area, Disk, Failed};
-use page_ports::Page;
+use ports::Page;
 
 // Writes the closed journal gate.
 fn close_journal<D: Disk>(disk: &mut D) -> Result<(), Failed>

@@ -6,7 +6,7 @@ ghost use Rattle.page_disk.specs.Since.{LeavesNow, LeavesOnly};
 ghost use Rattle.redo_journal.specs.Gates.{gate_bytes, gate_of, is_open};
 
 use page_disk::{Area, Disk, Failed};
-use page_ports::{Page, blank_page};
+use ports::{Page, blank_page};
 
 /// What a disk holds, as its two gates say.
 #[derive(Clone, Copy, Debug, PartialEq, Eq)]

@@ -1,10 +1,10 @@
 //! Images of pages that are to be written.
 ghost use Rattle.std.specs.Prelude.{◌≡◌, ◌+◌, ◌^◌, ◌<◌, ◌≤◌, [], OnOk, OnErr, length, option_copied};
-ghost use Rattle.page_ports.specs.Pages.{PageMap, empty_map, put_page};
+ghost use Rattle.ports.specs.Pages.{PageMap, empty_map, put_page};
 ghost use Rattle.redo_journal.specs.Placing.{map_of};
 
 use crate::in_order::InOrder;
-use page_ports::Page;
+use ports::Page;
 use std::alloc::Global;
 use std::collections::BTreeMap;
 

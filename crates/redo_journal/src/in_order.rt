@@ -4,7 +4,7 @@ ghost use Rattle.std.specs.List.{All};
 ghost use Rattle.redo_journal.specs.Boxed.{ascends, unboxed};
 ghost use Rattle.redo_journal.specs.Placing.{homes_of, map_of};
 
-use page_ports::Page;
+use ports::Page;
 use std::collections::btree_map::Iter;
 
 /// The images of an `Images` that are still to come, in ascending order of their pages.

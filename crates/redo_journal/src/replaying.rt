@@ -3,7 +3,7 @@ ghost use Rattle.std.specs.Prelude.{◌≡◌, ◌≤◌, ◌+◌, ◌-◌, ◌*
 ghost use Rattle.std.specs.List.{All};
 ghost use Rattle.page_layout.specs.declared.journal_head.JournalHead.{JournalHead};
 ghost use Rattle.redo_journal.specs.declared.replaying.JournalFault.TheVariants.{Disk};
-ghost use Rattle.page_ports.specs.Pages.{PageMap};
+ghost use Rattle.ports.specs.Pages.{PageMap};
 ghost use Rattle.page_disk.specs.Calls.{OnlyReads, Writes, WritesAsTold};
 ghost use Rattle.page_disk.specs.Image.{Image, PageList, page_at};
 ghost use Rattle.page_disk.specs.Since.{LeavesNow, LeavesOnly};
@@ -20,7 +20,7 @@ use crate::laws::settling_laws;
 use crate::writes::{put_home, write_gate};
 use page_disk::{Area, Disk, Failed};
 use page_layout::{JournalHead, Spelled};
-use page_ports::blank_page;
+use ports::blank_page;
 use thiserror::Error;
 
 /// Why a replay ended early.

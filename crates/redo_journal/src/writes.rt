@@ -1,6 +1,6 @@
 //! The writes of a commit and of a replay: the journal's gate, a page behind it, and an image's home.
 ghost use Rattle.std.specs.Prelude.{◌≡◌, ◌≤◌, ◌+◌, Bool, IsTrue, IsSome, OnOk, length};
-ghost use Rattle.page_ports.specs.Pages.{PageMap};
+ghost use Rattle.ports.specs.Pages.{PageMap};
 ghost use Rattle.page_disk.specs.declared.disk.Area.TheVariants.{Pages, Journal};
 ghost use Rattle.page_disk.specs.Calls.{Writes, any_error};
 ghost use Rattle.page_disk.specs.Image.{Image, page_at, with_area, written_at};
@@ -10,7 +10,7 @@ ghost use Rattle.redo_journal.specs.Pending.{AtNewest, BodyPends, DiffersInGate,
 
 use crate::gate::gate_page;
 use page_disk::{Area, Disk, Failed};
-use page_ports::Page;
+use ports::Page;
 
 /// Writes the journal's gate.
 pub(crate) fn write_gate<D: Disk>(disk: &mut D, opens: bool) -> Result<(), Failed>

@@ -9,9 +9,9 @@ use Rattle.line_reader.specs.Lines.{lines}
 use Rattle.csv_rows.specs.Input.{input}
 use Rattle.csv_rows.specs.Machine.{State, commit_step, line_step, replied, replies, rows_of, state_after, step}
 use Rattle.csv_rows.specs.declared.input.Input.{Input}
-use Rattle.csv_rows.specs.declared.input.Input.TheVariants.{Stage, Commit, Forget, Ask}
+use Rattle.csv_rows.specs.declared.input.Input.TheVariants.{Stage, Commit, Drop, Ask}
 use Rattle.warehouse.specs.declared.house.House.{Ghosts}
-use Rattle.row_machine.specs.declared.ending.Ran.{Ran}
+use Rattle.row_machine.specs.declared.ending.RunEnd.{RunEnd}
 use Rattle.row_machine.specs.Housed.{GoesOnFrom}
 use Rattle.row_machine.specs.Serving.{Ends}
 use Rattle.row_machine.proofs.Housing.{after_goes_on, ask_history, goes_on_twice, stage_history}
@@ -35,7 +35,7 @@ silent_line : (params : Params) (n : ℕ) (s : State) (i : Option Input) → rep
 silent_line params n s None e = refl
 silent_line params n s (Some (Stage session r)) e = stage_history n s session r
 silent_line params n s (Some (Commit session)) e = silent_commit s session (first_refusal params s.history (rows_of s session)) e
-silent_line params n s (Some (Forget session)) e = refl
+silent_line params n s (Some (Drop session)) e = refl
 silent_line params n s (Some (Ask version q)) e = ask_history params n s _ q
 
 pub silent_lines : (params : Params) (n : ℕ) (s : State) (ls : List (List ℕ)) → replies params n s ls ≡ [] → (state_after params n s ls).history ≡ s.history
@@ -76,7 +76,7 @@ no_more params begin served more after rest e =
     ap (λ (s : State). s.history) (state_after-append params 1 begin served more) ∙ silent_lines params (1 + length served) (state_after params 1 begin served) more (no_items later len)
 
 module _ {H D : Type 0} (g : Ghosts H D) where
-  pub acknowledged : (whole tells tells' still : Bool) (params : Params) (begin : State) (input left : List ℕ) (before : D) (ran : Ran D) (written written' : List ℕ)
+  pub acknowledged : (whole tells tells' still : Bool) (params : Params) (begin : State) (input left : List ℕ) (before : D) (ran : RunEnd D) (written written' : List ℕ)
       → (e : Ends g whole tells tells' still params begin input left before ran written written') → IsTrue tells → IsTrue tells'
       → (first later : List (List ℕ)) (more : List ℕ) → lines input ≡ first ++ later → written' ≡ written ++ (replies params 1 begin first ++ more)
       → GoesOnFrom (state_after params 1 begin first).history e.sure

@@ -1,7 +1,7 @@
 -- How far lines are answered: the replies to those that were given are written or gathered, and the reads are no more than they ask for.
 use Rattle.std.proofs.Common.{◌≡◌, ℕ, ◌+◌, ◌≤◌, Bool, IsTrue, List, [], ◌∷◌, ◌++◌, length, inl, Option, None, Some, refl, sym, ◌∙◌, ap, append_assoc, arith, add-zero, length-append}
 use Rattle.std.proofs.lemmas.List.{append-nil}
-use Rattle.byte_ports.specs.Written.{WritesMore, WritesPart}
+use Rattle.ports.specs.Written.{WritesMore, WritesPart}
 use Rattle.line_reader.specs.Lines.{lines}
 use Rattle.line_reader.specs.declared.lines.Line.{Line}
 use Rattle.line_reader.specs.declared.lines.Line.TheVariants.{End}

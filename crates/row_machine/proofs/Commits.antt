@@ -9,7 +9,7 @@ use Rattle.line_reader.specs.Lines.{lines}
 use Rattle.line_reader.specs.declared.lines.Line.{Line}
 use Rattle.warehouse.specs.declared.house.House.{Ghosts}
 use Rattle.row_machine.specs.declared.desk.Desk.{Desk}
-use Rattle.row_machine.specs.declared.ending.Ran.{Ran}
+use Rattle.row_machine.specs.declared.ending.RunEnd.{RunEnd}
 use Rattle.row_machine.specs.Housed.{MayTake, rows_committed}
 use Rattle.row_machine.specs.Serving.{Breaks, BreaksOff, LeavesLine, MayGoOn, MayServe, Serves, ServesLine, ServesText, line_cost, state_at}
 use Rattle.row_machine.proofs.Lined.{first_may}
@@ -44,7 +44,7 @@ module _ {H D : Type 0} (g : Ghosts H D) (n session : ℕ) (before after : List 
         (serves n left.line whole h spells_commit (is_whole whole may) (stands_new whole h stands)));
   }
 
-  pub commit_breaks : (ran : Ran D) → MayGoOn stopped
+  pub commit_breaks : (ran : RunEnd D) → MayGoOn stopped
       → ((number : ℕ) (line : List ℕ) (whole : Bool) (h : History) → input new.params line ≡ Some (Commit session) → IsTrue whole → g.stands whole (g.device new.house) new.params h
       → ServesText g whole new.params h (step new.params number (state_at g h new) line) (rows_committed (state_at g h new) (input new.params line)) (MayTake false (input new.params line)) (line_cost g.cost new.params h line) (g.device new.house) same_gathered gathered' is_urgent (Err ran))
       → (whole : Bool) (h : History) → MayServe whole old.params (lines before) → g.stands whole (g.device old.house) old.params h

@@ -6,11 +6,11 @@ use Rattle.bw_types.specs.declared.params.Params.{Params}
 use Rattle.line_reader.specs.Lines.{lines}
 use Rattle.csv_rows.specs.Machine.{State, replies, state_after}
 use Rattle.warehouse.specs.declared.house.House.{Ghosts}
-use Rattle.row_machine.specs.declared.ending.Ran.{Ran}
+use Rattle.row_machine.specs.declared.ending.RunEnd.{RunEnd}
 use Rattle.row_machine.specs.declared.ending.Ending.{Ending}
 use Rattle.row_machine.specs.declared.ending.Ending.TheVariants.{Fine, ReadFault, WriteFault, NoMemory, InputLimit, DiskFault, Damaged, PageLimit}
 use Rattle.row_machine.specs.Housed.{GoesOnFrom, Settled}
-use Rattle.byte_ports.specs.Written.{WritesPart}
+use Rattle.ports.specs.Written.{WritesPart}
 use Rattle.row_machine.specs.Serving.{Ends, IsBetweenLines, IsFlushed, IsInputEnding}
 use Rattle.row_machine.specs.Ended.{Served, ServedWhole, WithinAll}
 use Rattle.row_machine.proofs.Housing.{after_goes_on, goes_on_twice, only_wider, settled_wider}
@@ -42,7 +42,7 @@ input_between (PageLimit allotted) i = absurd i
 between_calm : (ending : Ending) → IsBetweenLines ending → ending ≡ DiskFault → ⊥
 between_calm ending b e = subst (λ (s : Ending). IsBetweenLines s) e b
 
-module _ {H D : Type 0} (g : Ghosts H D) (whole tells tells' still : Bool) (params : Params) (begin : State) (input left : List ℕ) (before : D) (ran : Ran D) (written written' : List ℕ) where
+module _ {H D : Type 0} (g : Ghosts H D) (whole tells tells' still : Bool) (params : Params) (begin : State) (input left : List ℕ) (before : D) (ran : RunEnd D) (written written' : List ℕ) where
   pub in_part : Ends g whole tells tells' still params begin input left before ran written written' → IsTrue tells → IsTrue tells'
       → WritesPart written written' (replies params 1 begin (lines input))
   in_part e told still' =
@@ -95,7 +95,7 @@ module _ {H D : Type 0} (g : Ghosts H D) (whole tells tells' still : Bool) (para
         served = subst (λ (ls : List (List ℕ)). Served g whole tells tells' params begin ls ran written written') taken.whole (served_so_far e ends.0 ends.1);
       }
 
-module _ {H D : Type 0} (g : Ghosts H D) (tells tells' still : Bool) (params : Params) (begin : State) (input left : List ℕ) (before : D) (ran : Ran D) (written written' : List ℕ) where
+module _ {H D : Type 0} (g : Ghosts H D) (tells tells' still : Bool) (params : Params) (begin : State) (input left : List ℕ) (before : D) (ran : RunEnd D) (written written' : List ℕ) where
   pub fine_settles : Ends g true tells tells' still params begin input left before ran written written' → ran.ending ≡ Fine
       → Settled g params begin.history before → Settled g params (state_after params 1 begin (lines input)).history ran.device
   fine_settles e fine settled = λ x left_so.

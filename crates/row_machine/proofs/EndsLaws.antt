@@ -10,11 +10,11 @@ use Rattle.line_reader.specs.declared.lines.Line.TheVariants.{End}
 use Rattle.csv_rows.specs.Machine.{State, step, replies, state_after}
 use Rattle.warehouse.specs.declared.house.House.{Ghosts}
 use Rattle.row_machine.specs.declared.desk.Desk.{Desk}
-use Rattle.row_machine.specs.declared.ending.Ran.{Ran}
+use Rattle.row_machine.specs.declared.ending.RunEnd.{RunEnd}
 use Rattle.row_machine.specs.declared.ending.Ending.{Ending}
 use Rattle.row_machine.specs.declared.ending.Ending.TheVariants.{Fine, DiskFault, Damaged, PageLimit}
 use Rattle.row_machine.specs.Housed.{GoesOnFrom, IsHouseEnding, IsVersion, KeepsDevice, MayTake, rows_committed, Settled, SettledBetween, OnlyBetween, version_need}
-use Rattle.byte_ports.specs.Written.{WritesPart}
+use Rattle.ports.specs.Written.{WritesPart}
 use Rattle.row_machine.specs.Serving.{state_at, Breaks, BreaksOff, Ends, IsBetweenLines, IsFlushed, IsInputEnding, MayServe, NextIsVersion, PutsAllButOne, TakesLines, TakesWhole, line_cost, line_need, lines_cost, next_rows}
 use Rattle.csv_rows.specs.declared.reply.Reply.{Reply}
 use Rattle.csv_rows.specs.declared.reply.Reply.TheVariants.{Version, Refused, Dropped, Answer, Bad, Full, NoVersion}
@@ -50,7 +50,7 @@ next_version params after state n k line come rest same number coming version =
     (subst (λ (s : State). IsVersion (step params k s line).reply) (sym same)
     (subst (λ (m : ℕ). IsVersion (step params m state line).reply) number version))
 
-module _ {H D : Type 0} (g : Ghosts H D) (laws : LineLaws) (whole tells tells' still : Bool) (params : Params) (h : History) (first now : Desk H D g) (n : ℕ) (input come left : List ℕ) (stopped : Option Line) (before virtual written' : List ℕ) (ran : Ran D) where
+module _ {H D : Type 0} (g : Ghosts H D) (laws : LineLaws) (whole tells tells' still : Bool) (params : Params) (h : History) (first now : Desk H D g) (n : ℕ) (input come left : List ℕ) (stopped : Option Line) (before virtual written' : List ℕ) (ran : RunEnd D) where
   -- the run ends between two lines, or in the output
   pub ends_between : (reached : Reached g whole tells params h first now n input come stopped before virtual)
       → ran.device ≡ g.device now.house → (ran.ending ≡ Fine → come ≡ []) → (IsHouseEnding ran.ending → ⊥) → (IsTrue still → (passed : List ℕ) × (come ≡ passed ++ left))
@@ -93,7 +93,7 @@ module _ {H D : Type 0} (g : Ghosts H D) (laws : LineLaws) (whole tells tells' s
       }
 
   -- the run ends in a line, or in the output after it
-  pub ends_within : (ended : Ran D) (after_it : List ℕ) (stopped' : Option Line) → (reached : Reached g whole tells params h first now n input come stopped before virtual)
+  pub ends_within : (ended : RunEnd D) (after_it : List ℕ) (stopped' : Option Line) → (reached : Reached g whole tells params h first now n input come stopped before virtual)
       → (breaks : BreaksOff g whole params n come after_it stopped' reached.state.history now ended)
       → (stopped' ≡ Some End → after_it ≡ []) → (IsTrue still → (passed : List ℕ) × (after_it ≡ passed ++ left))
       → ran.device ≡ ended.device → (ended.ending ≡ DiskFault → ran.ending ≡ DiskFault)

@@ -11,10 +11,10 @@ use Rattle.line_reader.specs.Reader.{ReaderState, to_come, unless_stopped}
 use Rattle.line_reader.specs.declared.lines.Line.{Line}
 use Rattle.line_reader.specs.declared.lines.Line.TheVariants.{End}
 use Rattle.row_machine.specs.declared.serving.TheConstants.{INPUT_LIMIT}
-use Rattle.byte_ports.specs.Written.{WritesMore, WritesPart}
+use Rattle.ports.specs.Written.{WritesMore, WritesPart}
 use Rattle.row_machine.specs.Serving.{TakesWhole, MayGoOn, MayServe, SeenEnd, GoesOn, ServesLine, IsBetweenLines, IsFlushed, IsInputEnding, BreaksOff, Ends, Lasts, LastsBeyond, LastsSoFar, state_at}
 use Rattle.row_machine.specs.Housed.{IsHouseEnding}
-use Rattle.row_machine.specs.declared.ending.Ran.{Ran}
+use Rattle.row_machine.specs.declared.ending.RunEnd.{RunEnd}
 use Rattle.row_machine.specs.declared.ending.Ending.{Ending}
 use Rattle.row_machine.specs.declared.ending.Ending.TheVariants.{Fine, ReadFault, WriteFault, NoMemory, InputLimit, DiskFault, Damaged, PageLimit}
 use Rattle.line_reader.specs.Lines.{lines, PassesNoLineFeed}
@@ -248,7 +248,7 @@ written_so g whole params h first now n input come left stopped sink sink' gathe
 }
 
 -- the sink fails, between two lines
-pub going_stops : {H D : Type 0} (g : Ghosts H D) (laws : LineLaws) (first now : Desk H D g) (source source' sink sink' : Port) (gathered : List ℕ) (calm : Type 0) (reader : ReaderState) (number : ℕ) (tells' : Bool) (written' : List ℕ) (ran : Ran D)
+pub going_stops : {H D : Type 0} (g : Ghosts H D) (laws : LineLaws) (first now : Desk H D g) (source source' sink sink' : Port) (gathered : List ℕ) (calm : Type 0) (reader : ReaderState) (number : ℕ) (tells' : Bool) (written' : List ℕ) (ran : RunEnd D)
     → Going g first now source source' sink sink' gathered calm reader number
     → ran.ending ≡ WriteFault → ran.device ≡ g.device now.house → (IsTrue sink'.tells → IsTrue tells' → WritesPart sink'.bytes written' gathered)
     → IsTrue source.tells → (whole : Bool) (h : History) → MayServe whole first.params (lines source.bytes) → g.stands whole (g.device first.house) first.params h
@@ -264,46 +264,46 @@ going_stops g laws first now source source' sink sink' gathered calm reader numb
     (λ tells still. puts_between calm sink.tells first.params (state_at g h first) (lines r.served.given) sink.bytes sink'.bytes written' gathered held.1 tells (part (o.sink_calm.tells tells) still))
 
 -- what closing a run does to its ending
-pub record Closes {D : Type 0} (ended ran : Ran D) : Type 0 where
+pub record Closes {D : Type 0} (ended ran : RunEnd D) : Type 0 where
   pub device : ran.device ≡ ended.device
   pub ending : (ran.ending ≡ ended.ending) ⊎ ((ran.ending ≡ WriteFault) × (ended.ending ≡ DiskFault → ⊥))
 
 -- an ending may be given by its parts
-pub closes_like : {D : Type 0} (given ended ran : Ran D) → given.ending ≡ ended.ending → given.device ≡ ended.device → Closes given ran → Closes ended ran
+pub closes_like : {D : Type 0} (given ended ran : RunEnd D) → given.ending ≡ ended.ending → given.device ≡ ended.device → Closes given ran → Closes ended ran
 closes_like given ended ran why device c = record {
   device = c.device ∙ device;
   ending = elim c.ending [ inl same ↦ inl (same ∙ why) | inr wrote ↦ inr (wrote.0, λ e. wrote.1 (why ∙ e)) ];
 }
 
-pub closes_same : {D : Type 0} (ended ran : Ran D) → Closes ended ran → (s : Ending) → (WriteFault ≡ s → ⊥) → ran.ending ≡ s → ended.ending ≡ s
+pub closes_same : {D : Type 0} (ended ran : RunEnd D) → Closes ended ran → (s : Ending) → (WriteFault ≡ s → ⊥) → ran.ending ≡ s → ended.ending ≡ s
 closes_same ended ran c s other e = elim c.ending [
   | inl same ↦ sym same ∙ e
   | inr wrote ↦ absurd (other (sym wrote.0 ∙ e))
 ]
 
-pub ended_by_input : {D : Type 0} (ended ran : Ran D) → Closes ended ran → IsInputEnding ran.ending → IsInputEnding ended.ending
+pub ended_by_input : {D : Type 0} (ended ran : RunEnd D) → Closes ended ran → IsInputEnding ran.ending → IsInputEnding ended.ending
 ended_by_input ended ran c i = elim c.ending [
   | inl same ↦ subst (λ (s : Ending). IsInputEnding s) same i
   | inr wrote ↦ absurd (subst (λ (s : Ending). IsInputEnding s) wrote.0 i)
 ]
 
-house_both : {D : Type 0} (ended ran : Ran D) → Closes ended ran → IsHouseEnding ran.ending → IsHouseEnding ended.ending
+house_both : {D : Type 0} (ended ran : RunEnd D) → Closes ended ran → IsHouseEnding ran.ending → IsHouseEnding ended.ending
 house_both ended ran c w = elim c.ending [
   | inl same ↦ subst (λ (s : Ending). IsHouseEnding s) same w
   | inr wrote ↦ absurd (subst (λ (s : Ending). IsHouseEnding s) wrote.0 w)
 ]
 
-pub between_both : {D : Type 0} (ended ran : Ran D) → Closes ended ran → IsHouseEnding ended.ending → IsBetweenLines ran.ending → ⊥
+pub between_both : {D : Type 0} (ended ran : RunEnd D) → Closes ended ran → IsHouseEnding ended.ending → IsBetweenLines ran.ending → ⊥
 between_both ended ran c w b = elim c.ending [
   | inl same ↦ not_both ended.ending w (subst (λ (s : Ending). IsBetweenLines s) same b)
   | inr wrote ↦ subst (λ (s : Ending). IsBetweenLines s) wrote.0 b
 ]
 
-disk_stays : {D : Type 0} (ended ran : Ran D) → Closes ended ran → ended.ending ≡ DiskFault → ran.ending ≡ DiskFault
+disk_stays : {D : Type 0} (ended ran : RunEnd D) → Closes ended ran → ended.ending ≡ DiskFault → ran.ending ≡ DiskFault
 disk_stays ended ran c e = elim c.ending [ inl same ↦ same ∙ e | inr wrote ↦ absurd (wrote.1 e) ]
 
 -- the run ends between two lines or in one, and the replies that are gathered are put
-pub going_ends : {H D : Type 0} (g : Ghosts H D) (laws : LineLaws) (first now : Desk H D g) (source source' source'' sink sink' : Port) (gathered : List ℕ) (reader reader' : ReaderState) (number : ℕ) (tells' : Bool) (written' : List ℕ) (ended ran : Ran D)
+pub going_ends : {H D : Type 0} (g : Ghosts H D) (laws : LineLaws) (first now : Desk H D g) (source source' source'' sink sink' : Port) (gathered : List ℕ) (reader reader' : ReaderState) (number : ℕ) (tells' : Bool) (written' : List ℕ) (ended ran : RunEnd D)
     → Going g first now source source' sink sink' gathered ⊤ reader number
     → Closes ended ran
     → (IsBetweenLines ended.ending ⊎ IsHouseEnding ended.ending)
@@ -353,7 +353,7 @@ going_ends g laws first now source source' source'' sink sink' gathered reader r
     ]
 
 -- the sink fails between two lines, over whatever source
-pub going_stops_lasting : {H D : Type 0} (g : Ghosts H D) (first now : Desk H D g) (source source' sink sink' : Port) (gathered : List ℕ) (calm : Type 0) (reader : ReaderState) (number : ℕ) (ran : Ran D)
+pub going_stops_lasting : {H D : Type 0} (g : Ghosts H D) (first now : Desk H D g) (source source' sink sink' : Port) (gathered : List ℕ) (calm : Type 0) (reader : ReaderState) (number : ℕ) (ran : RunEnd D)
     → Going g first now source source' sink sink' gathered calm reader number
     → ran.ending ≡ WriteFault → ran.device ≡ g.device now.house
     → (h : History) → g.stands true (g.device first.house) first.params h → Lasts g first.params h (g.device first.house) ran
@@ -361,7 +361,7 @@ going_stops_lasting g first now source source' sink sink' gathered calm reader n
     lasts_between g first.params h _ _ ran (o.lasts h stands) device (λ w. subst (λ (s : Ending). IsHouseEnding s) why w)
 
 -- the run ends between two lines or in one, over whatever source
-pub going_ends_lasting : {H D : Type 0} (g : Ghosts H D) (first now : Desk H D g) (source source' sink sink' : Port) (gathered : List ℕ) (calm : Type 0) (reader : ReaderState) (number : ℕ) (ended ran : Ran D)
+pub going_ends_lasting : {H D : Type 0} (g : Ghosts H D) (first now : Desk H D g) (source source' sink sink' : Port) (gathered : List ℕ) (calm : Type 0) (reader : ReaderState) (number : ℕ) (ended ran : RunEnd D)
     → Going g first now source source' sink sink' gathered calm reader number
     → Closes ended ran
     → (IsBetweenLines ended.ending ⊎ IsHouseEnding ended.ending)
@@ -406,5 +406,5 @@ pub never_fine_house : (ending : Ending) → IsHouseEnding ending → ending ≡
 never_fine_house ending w e = subst (λ (s : Ending). IsHouseEnding s) e w
 
 -- a run that a house ended ends so, or in the output
-pub house_never : {D : Type 0} (ended ran : Ran D) → Closes ended ran → IsHouseEnding ended.ending → (s : Ending) → (WriteFault ≡ s → ⊥) → (IsHouseEnding s → ⊥) → ran.ending ≡ s → ⊥
+pub house_never : {D : Type 0} (ended ran : RunEnd D) → Closes ended ran → IsHouseEnding ended.ending → (s : Ending) → (WriteFault ≡ s → ⊥) → (IsHouseEnding s → ⊥) → ran.ending ≡ s → ⊥
 house_never ended ran c w s other none e = none (subst (λ (s : Ending). IsHouseEnding s) (closes_same ended ran c s other e) w)

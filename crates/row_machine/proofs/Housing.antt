@@ -10,13 +10,13 @@ use Rattle.bw_types.specs.declared.query.Query.{Query}
 use Rattle.bw_types.specs.declared.row.Row.{Row}
 use Rattle.csv_rows.specs.Input.{input}
 use Rattle.csv_rows.specs.declared.input.Input.{Input}
-use Rattle.csv_rows.specs.declared.input.Input.TheVariants.{Stage, Commit, Forget, Ask}
+use Rattle.csv_rows.specs.declared.input.Input.TheVariants.{Stage, Commit, Drop, Ask}
 use Rattle.csv_rows.specs.Machine.{State, step, line_step, stage_step, commit_step, ask_step, rows_of, state_after, most_staged}
 use Rattle.warehouse.specs.Committed.{after_commit}
 use Rattle.warehouse.specs.Crashes.{OnlyLeaves}
 use Rattle.warehouse.specs.declared.house.House.{Ghosts}
 use Rattle.row_machine.specs.declared.desk.Taken.{Taken}
-use Rattle.row_machine.specs.declared.ending.Ran.{Ran}
+use Rattle.row_machine.specs.declared.ending.RunEnd.{RunEnd}
 use Rattle.row_machine.specs.declared.ending.Ending.TheVariants.{DiskFault}
 use Rattle.row_machine.specs.Housed.{GoesOnFrom, KeepsBetween, KeepsDevice, Settled, SettledAfter, SettledBetween, SettledStill, OnlyBetween, Leaves, device_left}
 
@@ -59,7 +59,7 @@ pub line_goes_on : (params : Params) (n : ℕ) (s : State) (i : Option Input) �
 line_goes_on params n s None = goes_on_same s.history
 line_goes_on params n s (Some (Stage session r)) = goes_on_by _ _ (stage_history n s session r)
 line_goes_on params n s (Some (Commit session)) = commit_goes_on s session (first_refusal params s.history (rows_of s session))
-line_goes_on params n s (Some (Forget session)) = goes_on_same s.history
+line_goes_on params n s (Some (Drop session)) = goes_on_same s.history
 line_goes_on params n s (Some (Ask version q)) = goes_on_by _ _ (ask_history params n s (unwrap_or version (last_version s.history)) q)
 
 pub step_goes_on : (params : Params) (n : ℕ) (s : State) (line : List ℕ) → GoesOnFrom s.history (step params n s line).state.history
@@ -91,7 +91,7 @@ module _ {H D : Type 0} (g : Ghosts H D) where
   }
 
   -- a line that changes neither the history nor what a crash may leave
-  pub leaves_same : (params : Params) (h h' : History) (before : D) (result : Result (Taken H D g) (Ran D)) → h' ≡ h → g.moments (device_left g result) ≡ g.moments before → Leaves g params h h' before result
+  pub leaves_same : (params : Params) (h h' : History) (before : D) (result : Result (Taken H D g) (RunEnd D)) → h' ≡ h → g.moments (device_left g result) ≡ g.moments before → Leaves g params h h' before result
   leaves_same params h h' before (Ok taken) same e = subst (λ (k : History). Leaves g params h k before (Ok taken)) (sym same) (record {
     any_moment = only_same params h h before _ e;
     settled = λ s. settled_same params h before _ e s;
@@ -106,7 +106,7 @@ module _ {H D : Type 0} (g : Ghosts H D) where
   })
 
   -- a line after which a crash may leave the one history or the other
-  pub leaves_either : (params : Params) (h h' : History) (before : D) (result : Result (Taken H D g) (Ran D)) → GoesOnFrom h h'
+  pub leaves_either : (params : Params) (h h' : History) (before : D) (result : Result (Taken H D g) (RunEnd D)) → GoesOnFrom h h'
       → OnlyLeaves g.clock g.since (λ x. g.keeps x params h ⊎ g.keeps x params h') (g.moments before) (g.moments (device_left g result))
       → (Settled g params h before → (x : g.Image) → g.now (g.moments (device_left g result)) x → g.keeps x params h ⊎ g.keeps x params h')
       → (Settled g params h before → SettledAfter g params h' result)
@@ -129,7 +129,7 @@ module _ {H D : Type 0} (g : Ghosts H D) where
       ]
 
   -- a line that ends the run, with the device as before
-  pub leaves_kept : (params : Params) (h h' : History) (before : D) (ran : Ran D) → GoesOnFrom h h' → g.moments ran.device ≡ g.moments before → Leaves g params h h' before (Err ran)
+  pub leaves_kept : (params : Params) (h h' : History) (before : D) (ran : RunEnd D) → GoesOnFrom h h' → g.moments ran.device ≡ g.moments before → Leaves g params h h' before (Err ran)
   leaves_kept params h h' before ran goes e = record {
     any_moment = only_same params h h' before _ e;
     settled = λ s. tt;
@@ -142,7 +142,7 @@ module _ {H D : Type 0} (g : Ghosts H D) where
     any : OnlyLeaves g.clock g.since (λ x. g.keeps x params h ⊎ g.keeps x params (after_commit (first_refusal params h rows) h rows)) (g.moments before) (g.moments d)
     lost : Settled g params h before → (x : g.Image) → g.now (g.moments d) x → g.keeps x params h ⊎ g.keeps x params (after_commit (first_refusal params h rows) h rows)
 
-  pub leaves_lost : (params params' : Params) (s : State) (session : ℕ) (rows : List Row) (before : D) (ran : Ran D) → ran.ending ≡ DiskFault → params' ≡ params → rows ≡ rows_of s session
+  pub leaves_lost : (params params' : Params) (s : State) (session : ℕ) (rows : List Row) (before : D) (ran : RunEnd D) → ran.ending ≡ DiskFault → params' ≡ params → rows ≡ rows_of s session
       → OnlyLeaves g.clock g.since (λ x. g.keeps x params' s.history ⊎ g.keeps x params' (after_commit (first_refusal params' s.history rows) s.history rows)) (g.moments before) (g.moments ran.device)
       → (Settled g params' s.history before → (x : g.Image) → g.now (g.moments ran.device) x → g.keeps x params' s.history ⊎ g.keeps x params' (after_commit (first_refusal params' s.history rows) s.history rows))
       → Leaves g params s.history (commit_step s session (first_refusal params s.history (rows_of s session))).state.history before (Err ran)

@@ -6,7 +6,7 @@ use Rattle.bw_types.specs.declared.row.Row.{Row}
 use Rattle.csv_rows.specs.Machine.{Step}
 use Rattle.warehouse.specs.declared.house.House.{Ghosts}
 use Rattle.row_machine.specs.declared.desk.Desk.{Desk}
-use Rattle.row_machine.specs.declared.ending.Ran.{Ran}
+use Rattle.row_machine.specs.declared.ending.RunEnd.{RunEnd}
 use Rattle.row_machine.specs.declared.ending.Ending.{Ending}
 use Rattle.row_machine.specs.declared.ending.Ending.TheVariants.{DiskFault, Damaged, PageLimit}
 use Rattle.row_machine.specs.Housed.{GoesOnFrom, IsHouseEnding, Settled, SettledBetween, SettledFrom, OnlyBetween, OnlyFrom}
@@ -46,7 +46,7 @@ module _ {H D : Type 0} (g : Ghosts H D) (params : Params) where
   }
 
   -- a line that was served, or in which the run ended
-  pub text_lasts : (h : History) (t : Step) (rows : List Row) (reading : Type 0) (cost : ℕ) (before : D) (gathered gathered' : List ℕ) (is_urgent : Bool) (result : Result (Desk H D g) (Ran D))
+  pub text_lasts : (h : History) (t : Step) (rows : List Row) (reading : Type 0) (cost : ℕ) (before : D) (gathered gathered' : List ℕ) (is_urgent : Bool) (result : Result (Desk H D g) (RunEnd D))
       → GoesOnFrom h t.state.history → ServesText g true params h t rows reading cost before gathered gathered' is_urgent result → LastsBeyond g params h before result
   text_lasts h t rows reading cost before gathered gathered' is_urgent (Ok desk) goes s = record {
     sure = t.state.history;
@@ -86,7 +86,7 @@ module _ {H D : Type 0} (g : Ghosts H D) (params : Params) where
   }
 
   -- the run ends between two lines, or in the output
-  pub lasts_between : (h : History) (a b : D) (ran : Ran D) → LastsSoFar g params h a b → ran.device ≡ b → (IsHouseEnding ran.ending → ⊥) → Lasts g params h a ran
+  pub lasts_between : (h : History) (a b : D) (ran : RunEnd D) → LastsSoFar g params h a b → ran.device ≡ b → (IsHouseEnding ran.ending → ⊥) → Lasts g params h a ran
   lasts_between h a b ran f device outside = record {
     sure = f.sure;
     begins = f.begins;
@@ -98,7 +98,7 @@ module _ {H D : Type 0} (g : Ghosts H D) (params : Params) where
   }
 
   -- the run ends in a line, or in the output after it
-  pub lasts_within : (h : History) (a b : D) (ended ran : Ran D) → (so_far : LastsSoFar g params h a b) → Lasts g params so_far.sure b ended
+  pub lasts_within : (h : History) (a b : D) (ended ran : RunEnd D) → (so_far : LastsSoFar g params h a b) → Lasts g params so_far.sure b ended
       → ran.device ≡ ended.device → (ended.ending ≡ DiskFault → ran.ending ≡ DiskFault)
       → ((page : ℕ) → ran.ending ≡ Damaged page → ended.ending ≡ Damaged page) → ((allotted : ℕ) → ran.ending ≡ PageLimit allotted → ended.ending ≡ PageLimit allotted)
       → Lasts g params h a ran

@@ -1,7 +1,7 @@
 -- The invariant of the loop that answers line after line.
 use Rattle.std.proofs.Common.{◌≡◌, ℕ, ◌+◌, ◌≤◌, Bool, IsTrue, List, [], ◌∷◌, ◌++◌, length, ◌⊎◌, inl, inr, None, Some, refl, sym, ◌∙◌, ap, subst, arith}
 use Rattle.std.proofs.lemmas.List.{append-nil}
-use Rattle.byte_ports.specs.Written.{WritesMore, WritesPart}
+use Rattle.ports.specs.Written.{WritesMore, WritesPart}
 use Rattle.line_reader.specs.Lines.{lines, PassesNoLineFeed}
 use Rattle.line_reader.specs.Reader.{ReaderState, to_come}
 use Rattle.line_reader.specs.declared.lines.Line.TheVariants.{End}

@@ -10,7 +10,7 @@ use Rattle.csv_rows.specs.Machine.{step}
 use Rattle.line_reader.specs.declared.lines.Line.{Line}
 use Rattle.warehouse.specs.declared.house.House.{Ghosts}
 use Rattle.row_machine.specs.declared.desk.Desk.{Desk}
-use Rattle.row_machine.specs.declared.ending.Ran.{Ran}
+use Rattle.row_machine.specs.declared.ending.RunEnd.{RunEnd}
 use Rattle.row_machine.specs.declared.ending.Ending.{Ending}
 use Rattle.row_machine.specs.declared.ending.Ending.TheVariants.{Fine, ReadFault, WriteFault, NoMemory, InputLimit, DiskFault, Damaged, PageLimit}
 use Rattle.row_machine.specs.Housed.{IsHouseEnding, LeavesCommit, MayTake, rows_committed}
@@ -29,12 +29,12 @@ not_both (PageLimit allotted) w b = b
 within_not : (ending other : Ending) → IsHouseEnding ending → ending ≡ other → IsHouseEnding other
 within_not ending other w e = subst (λ (s : Ending). IsHouseEnding s) e w
 
-pub reply_no_limit : {A D : Type 0} (P : ℕ → Type 0) (d : D) (result : Result A (Ran D)) → IfErr result (λ ran. (ran.device ≡ d) × (ran.ending ≡ NoMemory))
+pub reply_no_limit : {A D : Type 0} (P : ℕ → Type 0) (d : D) (result : Result A (RunEnd D)) → IfErr result (λ ran. (ran.device ≡ d) × (ran.ending ≡ NoMemory))
     → IfErr result (λ ran. (allotted : ℕ) → ran.ending ≡ PageLimit allotted → P allotted)
 reply_no_limit P d (Ok x) w = tt
 reply_no_limit P d (Err ran) w = λ allotted e. absurd (let no : NoMemory ≡ PageLimit allotted = sym w.1 ∙ e in cc)
 
-pub reply_within : {A D : Type 0} (d : D) (result : Result A (Ran D)) → IfErr result (λ ran. (ran.device ≡ d) × (ran.ending ≡ NoMemory)) → IfErr result (λ ran. IsHouseEnding ran.ending)
+pub reply_within : {A D : Type 0} (d : D) (result : Result A (RunEnd D)) → IfErr result (λ ran. (ran.device ≡ d) × (ran.ending ≡ NoMemory)) → IfErr result (λ ran. IsHouseEnding ran.ending)
 reply_within d (Ok x) w = tt
 reply_within d (Err ran) w = subst (λ (s : Ending). IsHouseEnding s) (sym w.1) tt
 

@@ -1,7 +1,7 @@
 -- Texts of which a part is written.
 use Rattle.std.proofs.Common.{◌≡◌, ℕ, ◌≤◌, List, [], ◌∷◌, ◌++◌, length, take, drop, sym, ◌∙◌, ap, append_assoc}
 use Rattle.std.proofs.lemmas.List.{take-append-drop, append-nil}
-use Rattle.byte_ports.specs.Written.{WritesPart, WritesMore}
+use Rattle.ports.specs.Written.{WritesPart, WritesMore}
 
 -- the first n bytes of a text
 pub writes_front : (written written' text : List ℕ) → ((n : ℕ) × (n ≤ length text) × (written' ≡ written ++ take n text)) → WritesPart written written' text

@@ -9,9 +9,9 @@ use Rattle.bw_types.specs.declared.refusal.Refusal.{Refusal}
 use Rattle.csv_rows.specs.Input.{input}
 use Rattle.csv_rows.specs.Machine.{State, commit_step, line_step, replies, rows_of, state_after, step}
 use Rattle.csv_rows.specs.declared.input.Input.{Input}
-use Rattle.csv_rows.specs.declared.input.Input.TheVariants.{Stage, Commit, Forget, Ask}
+use Rattle.csv_rows.specs.declared.input.Input.TheVariants.{Stage, Commit, Drop, Ask}
 use Rattle.row_machine.specs.Housed.{IsVersion}
-use Rattle.byte_ports.specs.Written.{WritesPart}
+use Rattle.ports.specs.Written.{WritesPart}
 use Rattle.row_machine.specs.Serving.{LastMayPut, PutNothing, PutsAllButOne}
 use Rattle.row_machine.proofs.Housing.{ask_history, stage_history}
 use Rattle.row_machine.proofs.Served.{after_line}
@@ -25,7 +25,7 @@ line_none : (params : Params) (n : ℕ) (s : State) (i : Option Input) → (IsVe
 line_none params n s None other = omega arith
 line_none params n s (Some (Stage session r)) other = let same = ap length (stage_history n s session r) in omega (arith, same)
 line_none params n s (Some (Commit session)) other = commit_none s session (first_refusal params s.history (rows_of s session)) other
-line_none params n s (Some (Forget session)) other = omega arith
+line_none params n s (Some (Drop session)) other = omega arith
 line_none params n s (Some (Ask version q)) other = let same = ap length (ask_history params n s (unwrap_or version (last_version s.history)) q) in omega (arith, same)
 
 -- Of the lines served the replies to the first are put. Those to the others wait: none of these but the last put a batch into the history,

@@ -9,7 +9,7 @@ use Rattle.csv_rows.specs.declared.reply.Reply.{Reply}
 use Rattle.warehouse.specs.declared.house.House.{Ghosts}
 use Rattle.row_machine.specs.declared.desk.Desk.{Desk}
 use Rattle.row_machine.specs.declared.desk.Taken.{Taken}
-use Rattle.row_machine.specs.declared.ending.Ran.{Ran}
+use Rattle.row_machine.specs.declared.ending.RunEnd.{RunEnd}
 use Rattle.row_machine.specs.declared.ending.Ending.{Ending}
 use Rattle.row_machine.specs.declared.ending.Ending.TheVariants.{Fine, ReadFault, WriteFault, NoMemory, InputLimit, DiskFault, Damaged, PageLimit}
 use Rattle.row_machine.specs.Housed.{GoesOnFrom, IsAt, IsVersion, KeepsDevice, Went, Stops, StopsFor, Settled, SettledBetween, OnlyBetween, Leaves, version_need}
@@ -18,7 +18,7 @@ use Rattle.row_machine.proofs.Housing.{goes_on_same, settled_between}
 
 module _ {H D : Type 0} (g : Ghosts H D) (whole : Bool) (params : Params) (h : History) (t : Step) (rows : List Row) (reading : Type 0) (cost : ℕ) (before : D) where
   -- the step was made, and its reply is gathered, or there was no memory for it
-  pub text_served : (taken : Taken H D g) (gathered gathered' : List ℕ) (was is_urgent : Bool) (result : Result (Desk H D g) (Ran D))
+  pub text_served : (taken : Taken H D g) (gathered gathered' : List ℕ) (was is_urgent : Bool) (result : Result (Desk H D g) (RunEnd D))
       → Went g whole params t (Ok taken) → (whole ≡ true → Leaves g params h t.state.history before (Ok taken)) → GoesOnFrom h t.state.history
       → (reading → g.reads (g.device taken.desk.house) ≤ g.reads before + cost) → (reading → KeepsDevice g before (g.device taken.desk.house))
       → (whole ≡ true → g.charge (g.device taken.desk.house) ≤ g.charge before + version_need t.reply (g.need params h rows))
@@ -78,7 +78,7 @@ module _ {H D : Type 0} (g : Ghosts H D) (whole : Bool) (params : Params) (h : H
   still_stands DiskFault d stops other = absurd (other refl)
 
   -- the run ended in the step
-  pub step_broke : (ran : Ran D) → Stops g whole params h t rows (Err ran) → (whole ≡ true → Leaves g params h t.state.history before (Err ran)) → GoesOnFrom h t.state.history
+  pub step_broke : (ran : RunEnd D) → Stops g whole params h t rows (Err ran) → (whole ≡ true → Leaves g params h t.state.history before (Err ran)) → GoesOnFrom h t.state.history
       → (reading → g.reads ran.device ≤ g.reads before + cost) → (reading → KeepsDevice g before ran.device) → (whole ≡ true → (ran.ending ≡ DiskFault → ⊥) → g.charge ran.device ≡ g.charge before)
       → Breaks g whole params h t rows reading cost before ran
   step_broke ran stops leaves goes reads quiet charge = record {
@@ -105,8 +105,8 @@ module _ {H D : Type 0} (g : Ghosts H D) (whole : Bool) (params : Params) (h : H
   }
 
 -- what follows of a line that is served, or in which the run ends
-pub on_served : {H D : Type 0} (g : Ghosts H D) (P Q : Result (Desk H D g) (Ran D) → Type 0) (desk : Desk H D g) (result : Result (Option ℕ) Ending)
-    → ((served : Result (Desk H D g) (Ran D)) → P served → Q served) → OnServed g P (λ session. ⊤) desk result → OnServed g Q (λ session. ⊤) desk result
+pub on_served : {H D : Type 0} (g : Ghosts H D) (P Q : Result (Desk H D g) (RunEnd D) → Type 0) (desk : Desk H D g) (result : Result (Option ℕ) Ending)
+    → ((served : Result (Desk H D g) (RunEnd D)) → P served → Q served) → OnServed g P (λ session. ⊤) desk result → OnServed g Q (λ session. ⊤) desk result
 on_served g P Q desk (Ok None) f served = f (Ok desk) served
 on_served g P Q desk (Ok (Some session)) f served = tt
 on_served g P Q desk (Err ending) f served = f (Err (record { ending = ending; device = g.device desk.house })) served

@@ -1,6 +1,6 @@
 -- What is written where each line of an input is answered and none changes anything.
 use Rattle.std.specs.Prelude.{◌≡◌, ℕ, ◌+◌, ◌≤◌, nat_le, if◌then◌else◌, Bool, IsTrue, List, [], ◌∷◌, ◌++◌, length}
-use Rattle.byte_ports.specs.Written.{WritesPart}
+use Rattle.ports.specs.Written.{WritesPart}
 use Rattle.line_reader.specs.Lines.{lines}
 use Rattle.csv_rows.specs.Input.{longest_line}
 use Rattle.csv_rows.specs.Replies.{reply_text}

@@ -6,17 +6,17 @@ use Rattle.bw_types.specs.declared.query.Query.{Query}
 use Rattle.bw_types.specs.declared.row.Row.{Row}
 use Rattle.csv_rows.specs.Machine.{State, Step, line_step, rows_of}
 use Rattle.csv_rows.specs.declared.input.Input.{Input}
-use Rattle.csv_rows.specs.declared.input.Input.TheVariants.{Stage, Commit, Forget, Ask}
+use Rattle.csv_rows.specs.declared.input.Input.TheVariants.{Stage, Commit, Drop, Ask}
 use Rattle.csv_rows.specs.declared.reply.Reply.{Reply}
 use Rattle.csv_rows.specs.declared.reply.Reply.TheVariants.{Version, Refused, Dropped, Answer, Bad, Full, NoVersion}
-use Rattle.counts.specs.Count.{Rose}
+use Rattle.ports.specs.Count.{Rose}
 use Rattle.warehouse.specs.Crashes.{OnlyLeaves}
 use Rattle.warehouse.specs.declared.house.House.{Ghosts}
 use Rattle.row_machine.specs.declared.desk.Desk.{Desk}
 use Rattle.row_machine.specs.declared.desk.LineTaken.{LineTaken}
 use Rattle.row_machine.specs.declared.desk.LineTaken.TheVariants.{Done, Commits}
 use Rattle.row_machine.specs.declared.desk.Taken.{Taken}
-use Rattle.row_machine.specs.declared.ending.Ran.{Ran}
+use Rattle.row_machine.specs.declared.ending.RunEnd.{RunEnd}
 use Rattle.row_machine.specs.declared.ending.Ending.{Ending}
 use Rattle.row_machine.specs.declared.ending.Ending.TheVariants.{Fine, ReadFault, WriteFault, NoMemory, InputLimit, DiskFault, Damaged, PageLimit}
 
@@ -31,7 +31,7 @@ MayTake true i = ⊤
 MayTake false None = ⊤
 MayTake false (Some (Stage session r)) = ⊤
 MayTake false (Some (Commit session)) = ⊥
-MayTake false (Some (Forget session)) = ⊤
+MayTake false (Some (Drop session)) = ⊤
 MayTake false (Some (Ask version q)) = ⊤
 
 abbrev pub IsVersion : Option Reply → Type 0
@@ -49,7 +49,7 @@ abbrev pub input_cost : (Params → History → Query → ℕ) → Params → Hi
 input_cost cost params h None = 0
 input_cost cost params h (Some (Stage session r)) = 0
 input_cost cost params h (Some (Commit session)) = 0
-input_cost cost params h (Some (Forget session)) = 0
+input_cost cost params h (Some (Drop session)) = 0
 input_cost cost params h (Some (Ask version q)) = if nat_le (unwrap_or version (last_version h)) (last_version h) then cost params h q else 0
 
 -- the endings with which a house or the machine ends a run
@@ -79,7 +79,7 @@ abbrev pub rows_committed : State → Option Input → List Row
 rows_committed s None = []
 rows_committed s (Some (Stage session r)) = []
 rows_committed s (Some (Commit session)) = rows_of s session
-rows_committed s (Some (Forget session)) = []
+rows_committed s (Some (Drop session)) = []
 rows_committed s (Some (Ask version q)) = []
 
 module _ {H D : Type 0} (g : Ghosts H D) where
@@ -87,7 +87,7 @@ module _ {H D : Type 0} (g : Ghosts H D) where
   device_of desk = g.device desk.house
 
   -- the device after a line
-  abbrev pub device_left : Result (Taken H D g) (Ran D) → D
+  abbrev pub device_left : Result (Taken H D g) (RunEnd D) → D
   device_left (Ok taken) = g.device taken.desk.house
   device_left (Err ran) = ran.device
 
@@ -97,7 +97,7 @@ module _ {H D : Type 0} (g : Ghosts H D) where
     pub staged : desk.sessions ≡ s.staged
 
   -- the machine made this step
-  abbrev pub Went : Bool → Params → Step → Result (Taken H D g) (Ran D) → Type 0
+  abbrev pub Went : Bool → Params → Step → Result (Taken H D g) (RunEnd D) → Type 0
   Went whole params t (Ok taken) = IsAt whole params t.state taken.desk × (taken.reply ≡ t.reply)
   Went whole params t (Err ran) = ⊤
 
@@ -114,7 +114,7 @@ module _ {H D : Type 0} (g : Ghosts H D) where
       × (params.pages < g.charge d + g.need params h rows)
   StopsFor whole params h t rows DiskFault d = ⊤
 
-  abbrev pub Stops : Bool → Params → History → Step → List Row → Result (Taken H D g) (Ran D) → Type 0
+  abbrev pub Stops : Bool → Params → History → Step → List Row → Result (Taken H D g) (RunEnd D) → Type 0
   Stops whole params h t rows (Ok taken) = ⊤
   Stops whole params h t rows (Err ran) = StopsFor whole params h t rows ran.ending ran.device
 
@@ -136,24 +136,24 @@ module _ {H D : Type 0} (g : Ghosts H D) where
   OnlyBetween params first second old new = OnlyLeaves g.clock g.since (KeepsBetween params first second) (g.moments old) (g.moments new)
 
   -- after a line that was taken, the history that the machine has is settled
-  abbrev pub SettledAfter : Params → History → Result (Taken H D g) (Ran D) → Type 0
+  abbrev pub SettledAfter : Params → History → Result (Taken H D g) (RunEnd D) → Type 0
   SettledAfter params h (Ok taken) = Settled params h (g.device taken.desk.house)
   SettledAfter params h (Err ran) = ⊤
 
   -- Where a line ends the run and the device did not fail, a crash leaves this history.
-  abbrev pub SettledStill : Params → History → Result (Taken H D g) (Ran D) → Type 0
+  abbrev pub SettledStill : Params → History → Result (Taken H D g) (RunEnd D) → Type 0
   SettledStill params h (Ok taken) = ⊤
   SettledStill params h (Err ran) = (ran.ending ≡ DiskFault → ⊥) → Settled params h ran.device
 
   -- What a line that brings the history h to h' does to what a crash may leave.
-  pub record Leaves (params : Params) (h h' : History) (before : D) (result : Result (Taken H D g) (Ran D)) : Type 0 where
+  pub record Leaves (params : Params) (h h' : History) (before : D) (result : Result (Taken H D g) (RunEnd D)) : Type 0 where
     pub any_moment : OnlyBetween params h h' before (device_left result)
     pub settled : Settled params h before → SettledAfter params h' result
     pub kept : Settled params h before → SettledStill params h result
     pub lost : Settled params h before → SettledBetween params h h' (device_left result)
 
   -- a line that is taken needs no more pages than its step does, and one that ends the run needs none
-  abbrev pub Charges : Params → History → D → Step → List Row → Result (Taken H D g) (Ran D) → Type 0
+  abbrev pub Charges : Params → History → D → Step → List Row → Result (Taken H D g) (RunEnd D) → Type 0
   Charges params h before t rows (Ok taken) = g.charge (g.device taken.desk.house) ≤ g.charge before + version_need t.reply (g.need params h rows)
   Charges params h before t rows (Err ran) = (ran.ending ≡ DiskFault → ⊥) → g.charge ran.device ≡ g.charge before
 
@@ -169,12 +169,12 @@ module _ {H D : Type 0} (g : Ghosts H D) where
   abbrev pub OnlyFrom : Params → History → D → D → Type 0
   OnlyFrom params first old new = OnlyLeaves g.clock g.since (KeepsFrom params first) (g.moments old) (g.moments new)
 
-  abbrev pub KeepsParams : Params → Result (Taken H D g) (Ran D) → Type 0
+  abbrev pub KeepsParams : Params → Result (Taken H D g) (RunEnd D) → Type 0
   KeepsParams params (Ok taken) = taken.desk.params ≡ params
   KeepsParams params (Err ran) = ⊤
 
   -- the device failed in this call, where that is why the run ends
-  abbrev pub DiskCause : D → Result (Taken H D g) (Ran D) → Type 0
+  abbrev pub DiskCause : D → Result (Taken H D g) (RunEnd D) → Type 0
   DiskCause before (Ok taken) = ⊤
   DiskCause before (Err ran) = ran.ending ≡ DiskFault → Rose (g.faults before) (g.faults ran.device)
 
@@ -185,7 +185,7 @@ module _ {H D : Type 0} (g : Ghosts H D) where
   -- What a line did. From each history that the device stands for the machine is to make this step, which commits these
   -- rows, and where the line is none that commits it may ask for so many reads, and changes nothing of the device. On a device
   -- that is whole for queries alone that is said only of lines that may be taken there.
-  pub record Takes (ps : Params) (before : D) (may : Bool → Type 0) (t : History → Step) (rows : History → List Row) (cost : History → ℕ) (result : Result (Taken H D g) (Ran D)) : Type 0 where
+  pub record Takes (ps : Params) (before : D) (may : Bool → Type 0) (t : History → Step) (rows : History → List Row) (cost : History → ℕ) (result : Result (Taken H D g) (RunEnd D)) : Type 0 where
     pub params : KeepsParams ps result
     pub went : (whole : Bool) (h : History) → may whole → g.stands whole before ps h → Went whole ps (t h) result
     pub stops : (whole : Bool) (h : History) → may whole → g.stands whole before ps h → Stops whole ps h (t h) (rows h) result
@@ -200,7 +200,7 @@ module _ {H D : Type 0} (g : Ghosts H D) where
     pub disk : DiskCause before result
 
   -- What is said of a line that a desk took where it stands: it is done, or the run ends in it, or a session is left to commit.
-  abbrev pub OnTaken : (Result (Taken H D g) (Ran D) → Type 0) → (ℕ → Type 0) → Desk H D g → Result LineTaken Ending → Type 0
+  abbrev pub OnTaken : (Result (Taken H D g) (RunEnd D) → Type 0) → (ℕ → Type 0) → Desk H D g → Result LineTaken Ending → Type 0
   OnTaken takes commits desk (Ok (Done reply)) = takes (Ok (record { desk = desk; reply = reply }))
   OnTaken takes commits desk (Ok (Commits session)) = commits session
   OnTaken takes commits desk (Err ending) = takes (Err (record { ending = ending; device = g.device desk.house }))

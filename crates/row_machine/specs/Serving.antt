@@ -13,11 +13,11 @@ use Rattle.line_reader.specs.declared.lines.Line.{Line}
 use Rattle.line_reader.specs.declared.lines.Line.TheVariants.{End}
 use Rattle.warehouse.specs.declared.house.House.{Ghosts}
 use Rattle.row_machine.specs.declared.desk.Desk.{Desk}
-use Rattle.row_machine.specs.declared.ending.Ran.{Ran}
+use Rattle.row_machine.specs.declared.ending.RunEnd.{RunEnd}
 use Rattle.row_machine.specs.declared.ending.Ending.{Ending}
 use Rattle.row_machine.specs.declared.ending.Ending.TheVariants.{Fine, ReadFault, WriteFault, NoMemory, InputLimit, DiskFault, Damaged, PageLimit}
 use Rattle.row_machine.specs.Housed.{GoesOnFrom, IsAt, IsHouseEnding, IsVersion, KeepsDevice, MayTake, Settled, SettledBetween, SettledFrom, OnlyBetween, OnlyFrom, input_cost, rows_committed, version_need}
-use Rattle.byte_ports.specs.Written.{WritesPart}
+use Rattle.ports.specs.Written.{WritesPart}
 
 -- a reader that has not stopped, or has stopped at the end of the input
 abbrev pub MayGoOn : Option Line → Type 0
@@ -147,12 +147,12 @@ module _ {H D : Type 0} (g : Ghosts H D) where
   state_at h desk = record { history = h; staged = desk.sessions }
 
   -- the device after a line
-  abbrev pub device_after : Result (Desk H D g) (Ran D) → D
+  abbrev pub device_after : Result (Desk H D g) (RunEnd D) → D
   device_after (Ok desk) = g.device desk.house
   device_after (Err ran) = ran.device
 
   -- What is said of a line on a desk where it stands: it is served, or the run ends in it, or a session is left to commit.
-  abbrev pub OnServed : (Result (Desk H D g) (Ran D) → Type 0) → (ℕ → Type 0) → Desk H D g → Result (Option ℕ) Ending → Type 0
+  abbrev pub OnServed : (Result (Desk H D g) (RunEnd D) → Type 0) → (ℕ → Type 0) → Desk H D g → Result (Option ℕ) Ending → Type 0
   OnServed served commits desk (Ok None) = served (Ok desk)
   OnServed served commits desk (Ok (Some session)) = commits session
   OnServed served commits desk (Err ending) = served (Err (record { ending = ending; device = g.device desk.house }))
@@ -172,7 +172,7 @@ module _ {H D : Type 0} (g : Ghosts H D) where
   -- From the history h the machine was to make this step, which commits these rows, and the run ended in it. The history that is sure is that
   -- before the step or that after it, and what a crash may leave lies between the sure one and that after it; where the device did not
   -- fail, it is the sure one.
-  pub record Breaks (whole : Bool) (params : Params) (h : History) (t : Step) (rows : List Row) (reading : Type 0) (cost : ℕ) (before : D) (ran : Ran D) : Type 0 where
+  pub record Breaks (whole : Bool) (params : Params) (h : History) (t : Step) (rows : List Row) (reading : Type 0) (cost : ℕ) (before : D) (ran : RunEnd D) : Type 0 where
     pub sure : History
     pub which : (sure ≡ h) ⊎ (sure ≡ t.state.history)
     pub stands : (ran.ending ≡ DiskFault → ⊥) → g.stands whole ran.device params sure
@@ -187,7 +187,7 @@ module _ {H D : Type 0} (g : Ghosts H D) where
     pub surely : whole ≡ true → Settled g params h before → (ran.ending ≡ DiskFault → ⊥) → Settled g params sure ran.device
 
   -- The line is served, or the run ends in it.
-  abbrev pub ServesText : Bool → Params → History → Step → List Row → Type 0 → ℕ → D → List ℕ → List ℕ → Bool → Result (Desk H D g) (Ran D) → Type 0
+  abbrev pub ServesText : Bool → Params → History → Step → List Row → Type 0 → ℕ → D → List ℕ → List ℕ → Bool → Result (Desk H D g) (RunEnd D) → Type 0
   ServesText whole params h t rows reading cost before gathered gathered' is_urgent (Ok desk) = Serves whole params h t rows reading cost before desk gathered gathered' is_urgent
   ServesText whole params h t rows reading cost before gathered gathered' is_urgent (Err ran) = Breaks whole params h t rows reading cost before ran
 
@@ -198,7 +198,7 @@ module _ {H D : Type 0} (g : Ghosts H D) where
     pub serves : Serves whole params h (step params n (state_at h old) line) (rows_committed (state_at h old) (input params line)) (MayTake false (input params line)) (line_cost g.cost params h line) (g.device old.house) new gathered gathered' is_urgent
 
   -- The next line, which has the number n, is taken off the input, and the run ends in it.
-  pub record BreaksOff (whole : Bool) (params : Params) (n : ℕ) (before after : List ℕ) (stopped : Option Line) (h : History) (old : Desk H D g) (ran : Ran D) : Type 0 where
+  pub record BreaksOff (whole : Bool) (params : Params) (n : ℕ) (before after : List ℕ) (stopped : Option Line) (h : History) (old : Desk H D g) (ran : RunEnd D) : Type 0 where
     pub line : List ℕ
     pub takes : TakesLine before line after stopped
     pub goes : MayGoOn stopped
@@ -209,7 +209,7 @@ module _ {H D : Type 0} (g : Ghosts H D) where
   -- history whose reply was not written whole. The history that is sure has all that these lines have committed, or the line
   -- that was begun too; the device stands for it, unless it failed, and so does what a crash may leave now, which else goes on from it. Where no
   -- line commits, nothing of the device is changed.
-  pub record Ends (whole tells tells' still : Bool) (params : Params) (begin : State) (input left : List ℕ) (before : D) (ran : Ran D) (written written' : List ℕ) : Type 0 where
+  pub record Ends (whole tells tells' still : Bool) (params : Params) (begin : State) (input left : List ℕ) (before : D) (ran : RunEnd D) (written written' : List ℕ) : Type 0 where
     pub served : List (List ℕ)
     pub begun : List (List ℕ)
     pub rest : List (List ℕ)
@@ -238,7 +238,7 @@ module _ {H D : Type 0} (g : Ghosts H D) where
 
   -- What lasts when a run ends, over whatever input: the device stands for a history that goes on from the first, unless it failed,
   -- and what a crash may leave goes on from that.
-  pub record Lasts (params : Params) (h : History) (before : D) (ran : Ran D) : Type 0 where
+  pub record Lasts (params : Params) (h : History) (before : D) (ran : RunEnd D) : Type 0 where
     pub sure : History
     pub begins : GoesOnFrom h sure
     pub stands : (ran.ending ≡ DiskFault → ⊥) → g.stands true ran.device params sure
@@ -256,6 +256,6 @@ module _ {H D : Type 0} (g : Ghosts H D) where
     pub any_moment : OnlyFrom g params h before now
     pub settled : Settled g params h before → Settled g params sure now
 
-  abbrev pub LastsBeyond : Params → History → D → Result (Desk H D g) (Ran D) → Type 0
+  abbrev pub LastsBeyond : Params → History → D → Result (Desk H D g) (RunEnd D) → Type 0
   LastsBeyond params h before (Ok desk) = LastsSoFar params h before (g.device desk.house)
   LastsBeyond params h before (Err ran) = IsHouseEnding ran.ending → Lasts params h before ran

@@ -1,6 +1,6 @@
 //! Answering an input from what no line changes: line after line is read and replied.
 ghost use Rattle.std.specs.Prelude.{◌≡◌, ◌≢◌, ℕ, ◌+◌, ◌≤◌, ◌++◌, List, OnOk, OnErr, Err};
-ghost use Rattle.counts.specs.Count.{Rose};
+ghost use Rattle.ports.specs.Count.{Rose};
 
 mod running;
 

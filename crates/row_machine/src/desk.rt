@@ -5,10 +5,10 @@ ghost use Rattle.bw_types.specs.Fits.{IsInRange, row_fits, query_fits};
 ghost use Rattle.csv_rows.specs.Input.{InputFits, input};
 ghost use Rattle.csv_rows.specs.Machine.{commit_step, rows_of};
 ghost use Rattle.bw_types.specs.Refusals.{first_refusal};
-ghost use Rattle.counts.specs.Count.{Rose};
+ghost use Rattle.ports.specs.Count.{Rose};
 ghost use Rattle.row_machine.specs.DeskState.{OnlyFitting};
 
-use crate::ending::{Ending, Ran};
+use crate::ending::{Ending, RunEnd};
 use bw_types::{Params, Query, Row};
 use csv_rows::{Input, Reply, RowReader};
 use session_book::{Sessions, StageRow};
@@ -60,11 +60,11 @@ impl<H: House> Desk<H> {
     }
 
     // Ends the run for this cause, with the house as it is.
-    pub(crate) fn ended(self, ending: Ending) -> Ran<H::Device>
+    pub(crate) fn ended(self, ending: Ending) -> RunEnd<H::Device>
         ensures ending { result.ending ≡ ending }
         ensures disk { result.device ≡ H.device self.house }
     {
-        Ran {
+        RunEnd {
             ending,
             device: self.house.into_device(),
         }
@@ -105,7 +105,7 @@ impl<H: House> Desk<H> {
         match *input {
             Input::Stage { session, row } => self.stage(number, session, &row),
             Input::Commit { session } => Ok(LineTaken::Commits { session }),
-            Input::Forget { session } => self.forget(number, session),
+            Input::Drop { session } => self.drop_staged(number, session),
             Input::Ask { version, query } => self.ask(number, version, &query),
         }
     }
@@ -128,11 +128,11 @@ impl<H: House> Desk<H> {
     }
 
     // What the session has staged is forgotten.
-    fn forget(&mut self, number: u64, session: u8) -> Result<LineTaken, Ending>
+    fn drop_staged(&mut self, number: u64, session: u8) -> Result<LineTaken, Ending>
         requires some { 1 ≤ session }
         requires sixteen { session ≤ 16 }
         ensures params { self.new.params ≡ self.old.params }
-        ensures does { DoesLine ⟦<H as House>⟧ number self.old (Some (Input.Forget session)) self.new result }
+        ensures does { DoesLine ⟦<H as House>⟧ number self.old (Some (Input.Drop session)) self.new result }
     {
         self.sessions.clear(session);
         Ok(LineTaken::Done {
@@ -141,7 +141,7 @@ impl<H: House> Desk<H> {
     }
 
     /// What the session has staged is committed, and the session is empty.
-    pub fn commit(self, session: u8) -> Result<Taken<H>, Ran<H::Device>>
+    pub fn commit(self, session: u8) -> Result<Taken<H>, RunEnd<H::Device>>
         requires some { 1 ≤ session }
         requires sixteen { session ≤ 16 }
         ensures { Takes ⟦<H as House>⟧ self.params (H.device self.house) (λ whole. IsTrue whole)
@@ -178,19 +178,19 @@ impl<H: House> Desk<H> {
                     reply: Some(Reply::Refused { refusal }),
                 })
             }
-            Committed::PageLimit { house, allotted } => Err(Ran {
+            Committed::PageLimit { house, allotted } => Err(RunEnd {
                 ending: Ending::PageLimit { allotted },
                 device: house.into_device(),
             }),
-            Committed::NoMemory { house } => Err(Ran {
+            Committed::NoMemory { house } => Err(RunEnd {
                 ending: Ending::NoMemory,
                 device: house.into_device(),
             }),
-            Committed::Damaged { house, page } => Err(Ran {
+            Committed::Damaged { house, page } => Err(RunEnd {
                 ending: Ending::Damaged { page },
                 device: house.into_device(),
             }),
-            Committed::Disk { device } => Err(Ran {
+            Committed::Disk { device } => Err(RunEnd {
                 ending: Ending::DiskFault,
                 device,
             }),

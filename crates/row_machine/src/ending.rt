@@ -23,7 +23,7 @@ pub enum Ending {
 
 /// How a run ended, and the device that lasts.
 #[derive(Drop)]
-pub struct Ran<D> {
+pub struct RunEnd<D> {
     pub ending: Ending,
     pub device: D,
 }

@@ -16,6 +16,6 @@ mod serving;
 
 pub use answering::{RespondFault, Responder, answer_lines};
 pub use desk::{Desk, LineTaken, Taken};
-pub use ending::{Ending, Ran};
+pub use ending::{Ending, RunEnd};
 pub use laws::{ends_laws, machine_laws};
 pub use serving::{INPUT_LIMIT, serve};

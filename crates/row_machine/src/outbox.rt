@@ -1,12 +1,12 @@
 //! Replies that are gathered, so that several are put together.
 ghost use Rattle.std.specs.Prelude.{◌≡◌, ◌++◌, ◌≤◌, [], false, IsTrue, OnOk, OnErr};
-ghost use Rattle.counts.specs.Count.{Rose};
+ghost use Rattle.ports.specs.Count.{Rose};
 ghost use Rattle.csv_rows.specs.Machine.{replied};
 ghost use Rattle.row_machine.specs.Housed.{IsVersion};
-ghost use Rattle.byte_ports.specs.Written.{WritesPart};
+ghost use Rattle.ports.specs.Written.{WritesPart};
 
-use byte_ports::{Failed, Sink};
 use csv_rows::Reply;
+use ports::{Failed, Sink};
 use std::alloc::Global;
 
 /// There was no memory.

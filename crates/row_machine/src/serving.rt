@@ -1,6 +1,6 @@
 //! Serving an input: line after line is read, taken by the machine and replied.
 ghost use Rattle.std.specs.Prelude.{◌≡◌, ◌≢◌, ℕ, ◌+◌, ◌<◌, ◌≤◌, ◌++◌, ◌⊎◌, ◌^◌, ⊤, List, [], Bool, true, false, IsTrue, IfOk, IfErr, IfSome, OnOk, OnErr, Some, None, Ok, Err, length};
-ghost use Rattle.counts.specs.Count.{Rose};
+ghost use Rattle.ports.specs.Count.{Rose};
 ghost use Rattle.bw_types.specs.Fits.{IsInRange};
 ghost use Rattle.bw_types.specs.History.{History};
 ghost use Rattle.line_reader.specs.Lines.{lines, PassesNoLineFeed};
@@ -10,16 +10,16 @@ ghost use Rattle.csv_rows.specs.declared.input.Input.{Input};
 ghost use Rattle.csv_rows.specs.Machine.{step, replied};
 ghost use Rattle.line_reader.specs.declared.lines.Line.TheVariants as answered;
 ghost use Rattle.row_machine.specs.Outbox.{gathered};
-ghost use Rattle.byte_ports.specs.Written.{WritesMore, WritesPart};
+ghost use Rattle.ports.specs.Written.{WritesMore, WritesPart};
 ghost use Rattle.row_machine.specs.Housed.{IsHouseEnding, IsVersion, LeavesCommit, MayTake, rows_committed};
 ghost use Rattle.row_machine.specs.Serving.{BreaksOff, Ends, GoesOn, IsBetweenLines, IsFlushed, Lasts, LastsBeyond, LeavesLine, MayGoOn, MayServe, OnServed, SeenEnd, ServesLine, ServesText, device_after, line_cost, state_at};
 
 use crate::desk::{Desk, LineTaken};
-use crate::ending::{Ending, Ran};
+use crate::ending::{Ending, RunEnd};
 use crate::outbox::Outbox;
-use byte_ports::{Sink, Source};
 use csv_rows::{Reply, RowReader};
 use line_reader::{Line, LineReader, lines_join, whole_joins, whole_part_of_passed};
+use ports::{Sink, Source};
 use std::alloc::Global;
 use warehouse::House;
 
@@ -162,7 +162,7 @@ fn reply_to<H: House>(
     desk: Desk<H>,
     reply: Option<Reply>,
     outbox: &mut Outbox,
-) -> Result<Desk<H>, Ran<H::Device>>
+) -> Result<Desk<H>, RunEnd<H::Device>>
     ensures same { IfOk result (λ new. new ≡ desk) }
     ensures gathers { OnOk result (gathered outbox.new ≡ gathered outbox.old ++ replied reply) }
     ensures urgent { OnOk result (outbox.new.is_urgent ≡ false → (outbox.old.is_urgent ≡ false) × (IsVersion reply → ⊥)) }
@@ -181,7 +181,7 @@ fn serve_commit<H: House>(
     desk: Desk<H>,
     session: u8,
     outbox: &mut Outbox,
-) -> Result<Desk<H>, Ran<H::Device>>
+) -> Result<Desk<H>, RunEnd<H::Device>>
     requires some { 1 ≤ session }
     requires sixteen { session ≤ 16 }
     ensures params { IfOk result (λ new. new.params ≡ desk.params) }
@@ -223,7 +223,7 @@ pub(crate) fn put_due<K: Sink>(outbox: &mut Outbox, ahead: &[u8], sink: &mut K) 
 
 // Ends the run, with all that was gathered put. Where the sink fails that is why the run ends, unless
 // the device failed.
-fn close<D, K: Sink>(ran: Ran<D>, outbox: &mut Outbox, sink: &mut K) -> Ran<D>
+fn close<D, K: Sink>(ran: RunEnd<D>, outbox: &mut Outbox, sink: &mut K) -> RunEnd<D>
     ensures device { result.device ≡ ran.device }
     ensures ending { (result.ending ≡ ran.ending) ⊎ ((result.ending ≡ Ending.WriteFault) × (ran.ending ≢ Ending.DiskFault)) }
     ensures write_fault { result.ending ≡ Ending.WriteFault → ran.ending ≢ Ending.WriteFault → Rose (K.faults sink.old) (K.faults sink.new) }
@@ -235,12 +235,12 @@ fn close<D, K: Sink>(ran: Ran<D>, outbox: &mut Outbox, sink: &mut K) -> Ran<D>
     if outbox.put(sink).is_ok() {
         return ran;
     }
-    let Ran { ending, device } = ran;
+    let RunEnd { ending, device } = ran;
     let ending = match ending {
         Ending::DiskFault => Ending::DiskFault,
         _ => Ending::WriteFault,
     };
-    Ran { ending, device }
+    RunEnd { ending, device }
 }
 
 /// Serves the input that the source has left, to its end: the replies to its lines are written, the
@@ -253,7 +253,7 @@ pub fn serve<H: House, S: Source, K: Sink>(
     desk: Desk<H>,
     source: &mut S,
     sink: &mut K,
-) -> Ran<H::Device>
+) -> RunEnd<H::Device>
     requires { IsInRange desk.params }
     // The lines that are served whole, what is written, the history that is there, and what a crash may leave.
     ensures ends { IsTrue (S.tells source.old) → (whole : Bool) (h : History) → MayServe whole desk.params (lines (S.left source.old))

@@ -18,7 +18,7 @@ use Rattle.bw_types.specs.declared.refusal.Refusal.{Refusal}
 use Rattle.bw_types.specs.declared.row.Row.{Row}
 use Rattle.csv_rows.specs.Machine.{State, Step, ask_step, begun, commit_step, line_step, most_staged, rows_of, stage_step, with_rows}
 use Rattle.csv_rows.specs.declared.input.Input.{Input}
-use Rattle.csv_rows.specs.declared.input.Input.TheVariants.{Stage, Commit, Forget, Ask}
+use Rattle.csv_rows.specs.declared.input.Input.TheVariants.{Stage, Commit, Drop, Ask}
 use Rattle.csv_rows.specs.declared.reply.Reply.{Reply}
 use Rattle.csv_rows.specs.declared.reply.Reply.TheVariants.{Version, Refused, Dropped, Answer, Bad, Full, NoVersion}
 use Rattle.history_laws.specs.Bounds.{HasSmallWeight}
@@ -125,7 +125,7 @@ pub small_after : (params : Params) (n : ℕ) (s : State) (o : Option Input) →
 small_after params n s None small are = small
 small_after params n s (Some (Stage session r)) small are = small_stage params n s session r small are
 small_after params n s (Some (Commit session)) small are = small_commit params s session (first_refusal params s.history (rows_of s session)) small refl
-small_after params n s (Some (Forget session)) small are = small_with params s session [] small (All-nil AddsSmallWeights)
+small_after params n s (Some (Drop session)) small are = small_with params s session [] small (All-nil AddsSmallWeights)
 small_after params n s (Some (Ask version q)) small are = small_ask params n s (unwrap_or version (last_version s.history)) q small
 
 answer_within : (params : Params) (s : State) (version : ℕ) (q : Query) (k : Kind) → IsSmall params s → AnswersWithin (greatest_sum params) (Answer k version (answer_of k params s.history version q))
@@ -161,5 +161,5 @@ pub reply_within : (params : Params) (n : ℕ) (s : State) (o : Option Input) �
 reply_within params n s None small = tt
 reply_within params n s (Some (Stage session r)) small = stage_within (greatest_sum params) n s session r
 reply_within params n s (Some (Commit session)) small = commit_within (greatest_sum params) s session (first_refusal params s.history (rows_of s session))
-reply_within params n s (Some (Forget session)) small = tt
+reply_within params n s (Some (Drop session)) small = tt
 reply_within params n s (Some (Ask version q)) small = ask_within params n s (unwrap_or version (last_version s.history)) q small

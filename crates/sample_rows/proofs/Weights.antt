@@ -18,7 +18,7 @@ use Rattle.csv_rows.specs.Fields.{field_at, line_fields}
 use Rattle.csv_rows.specs.Input.{asked, asking, coefficients_at, ends_at, fitting, given, id_of, input, longest_line, object_fields, object_of, of_session, row_of, session_alone, session_and_object, session_of, staged_object, staged_withdrawal, version_of, weight_of}
 use Rattle.csv_rows.specs.Numbers.{integer_of}
 use Rattle.csv_rows.specs.declared.input.Input.{Input}
-use Rattle.csv_rows.specs.declared.input.Input.TheVariants.{Stage, Commit, Forget, Ask}
+use Rattle.csv_rows.specs.declared.input.Input.TheVariants.{Stage, Commit, Drop, Ask}
 use Rattle.history_laws.specs.Bounds.{HasSmallWeight}
 
 -- the weights that the row adds have 64 bits
@@ -29,7 +29,7 @@ AddsSmallWeights r = All HasSmallWeight (flat_row r)
 abbrev pub HasSmallWeights : Input → Type 0
 HasSmallWeights (Stage session r) = AddsSmallWeights r
 HasSmallWeights (Commit session) = Unit {0}
-HasSmallWeights (Forget session) = Unit {0}
+HasSmallWeights (Drop session) = Unit {0}
 HasSmallWeights (Ask version q) = Unit {0}
 
 -- what is given by each value, or by each of which P holds
@@ -152,7 +152,7 @@ abbrev by_sum : Params → List (List ℕ) → Option Input
 by_sum params fields = if bytes_eq (field_at fields 0) (codes "sum") then asked params fields kind.Sum else by_count params fields
 
 abbrev by_drop : Params → List (List ℕ) → Option Input
-by_drop params fields = if bytes_eq (field_at fields 0) (codes "drop") then of_session fields Forget else by_sum params fields
+by_drop params fields = if bytes_eq (field_at fields 0) (codes "drop") then of_session fields Drop else by_sum params fields
 
 abbrev by_commit : Params → List (List ℕ) → Option Input
 by_commit params fields = if bytes_eq (field_at fields 0) (codes "commit") then of_session fields Commit else by_drop params fields
@@ -170,7 +170,7 @@ row_small params fields =
     (either (bytes_eq word (codes "move")) (staged_object params fields row.Move) (by_withdraw params fields) HasSmallWeights (object_row_small params fields row.Move moves_small)
     (either (bytes_eq word (codes "withdraw")) (staged_withdrawal fields) (by_commit params fields) HasSmallWeights (withdrawal_small fields)
     (either (bytes_eq word (codes "commit")) (of_session fields Commit) (by_drop params fields) HasSmallWeights (session_small fields Commit (λ session. tt))
-    (either (bytes_eq word (codes "drop")) (of_session fields Forget) (by_sum params fields) HasSmallWeights (session_small fields Forget (λ session. tt))
+    (either (bytes_eq word (codes "drop")) (of_session fields Drop) (by_sum params fields) HasSmallWeights (session_small fields Drop (λ session. tt))
     (either (bytes_eq word (codes "sum")) (asked params fields kind.Sum) (by_count params fields) HasSmallWeights (asked_small params fields kind.Sum)
     (either (bytes_eq word (codes "count")) (asked params fields kind.Count) (by_integral params fields) HasSmallWeights (asked_small params fields kind.Count)
     (either (bytes_eq word (codes "integral")) (asked params fields kind.Integral) None HasSmallWeights (asked_small params fields kind.Integral) tt)))))))

@@ -22,13 +22,13 @@ pub use Rattle.bw_types.specs.Dominance.{dominance_sum, dominated_weight, is_dom
 pub use Rattle.bw_types.specs.DigitLaws.{digits_are_few, digits_grow, powers_have_digits}
 pub use Rattle.bw_types.specs.declared.point.Point.{Point}
 pub use Rattle.bw_types.specs.declared.tree.Tree.{Tree}
-pub use Rattle.page_ports.specs.Calls.{WentOn}
-pub use Rattle.page_ports.specs.Faults.{HandsOn}
-pub use Rattle.page_ports.specs.Frame.{AgreeOn, AreApart, AreInMap, Replaces, names_page}
-pub use Rattle.page_ports.specs.FrameLaws.{Replaces-agree, Replaces-apart, Replaces-beside, Replaces-same, names_page-append}
-pub use Rattle.page_ports.specs.Pages.{PageMap, blank_bytes, put_page}
-pub use Rattle.page_ports.specs.declared.page.PageFault.{PageFault}
-pub use Rattle.page_ports.specs.declared.page.StageFault.{StageFault}
+pub use Rattle.ports.specs.Calls.{WentOn}
+pub use Rattle.ports.specs.Faults.{HandsOn}
+pub use Rattle.ports.specs.Frame.{AgreeOn, AreApart, AreInMap, Replaces, names_page}
+pub use Rattle.ports.specs.FrameLaws.{Replaces-agree, Replaces-apart, Replaces-beside, Replaces-same, names_page-append}
+pub use Rattle.ports.specs.Pages.{PageMap, blank_bytes, put_page}
+pub use Rattle.ports.specs.declared.page.PageFault.{PageFault}
+pub use Rattle.ports.specs.declared.page.StageFault.{StageFault}
 pub use Rattle.page_layout.specs.Children.{child_fits}
 pub use Rattle.page_layout.specs.Damage.{HoldsNoNode, IsDamagedBelow, NothingBeside}
 pub use Rattle.page_layout.specs.Entries.{AreInOrder}

@@ -1,7 +1,7 @@
 -- The error at the exit of a `?`.
 use Rattle.sb_tree.proofs.Common.{◌≡◌, ℕ, Result, Err, HandsOn, PageFault, StageFault}
-use Rattle.page_ports.specs.declared.page.PageFault.TheVariants as page_fault
-use Rattle.page_ports.specs.declared.page.StageFault.TheVariants.{Damaged}
+use Rattle.ports.specs.declared.page.PageFault.TheVariants as page_fault
+use Rattle.ports.specs.declared.page.StageFault.TheVariants.{Damaged}
 
 pub exit_error : {T E : Type 0} (r : Result T E) (told asked : E) → ((y : E) × (r ≡ Err y) × (y ≡ told)) → r ≡ Err asked → told ≡ asked
 exit_error r told asked p e =

@@ -1,7 +1,7 @@
 -- Where each page on the way of a call holds its node, none on it is damaged: one step for every kind of tree.
 use Rattle.std.specs.Prelude.{◌≡◌, ℕ, zero, suc, ◌-◌, List, Some}
 use Rattle.std.proofs.Common.{inl, inr, sym, subst, arith}
-use Rattle.page_ports.specs.Pages.{PageMap}
+use Rattle.ports.specs.Pages.{PageMap}
 use Rattle.page_layout.specs.Damage.{IsDamagedBelow}
 
 module _ {N P : Type 0} (fits : ℕ → P → N → List ℕ → Type 0) (leads : P → N → ℕ → P → Type 0) (beside : PageMap → P → N → ℕ → Type 0) (map : PageMap) where

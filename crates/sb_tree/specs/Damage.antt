@@ -2,7 +2,7 @@
 use Rattle.std.specs.Prelude.{◌≡◌, ℕ, zero, suc, ◌⊎◌, ◌<◌, ◌≤◌, ◌^◌, false, nat_le, ◌==◌, List, [], ◌∷◌, if◌then◌else◌, length, map, Contains}
 use Rattle.std.specs.List.{All, list_any}
 use Rattle.bw_types.specs.declared.tree.Tree.{Tree}
-use Rattle.page_ports.specs.Pages.{PageMap}
+use Rattle.ports.specs.Pages.{PageMap}
 use Rattle.page_layout.specs.Damage.{IsDamagedBelow, NothingBeside}
 use Rattle.page_layout.specs.Footprint.{IsNamedTwice}
 use Rattle.page_layout.specs.Spelled.{SpellsNone}

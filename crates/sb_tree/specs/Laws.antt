@@ -2,8 +2,8 @@
 use Rattle.std.specs.Prelude.{◌≡◌, ◌<◌, ◌≤◌, ◌^◌, List, [], length, IsPermutation}
 use Rattle.bw_types.specs.declared.point.Point.{Point}
 use Rattle.bw_types.specs.declared.tree.Tree.{Tree}
-use Rattle.page_ports.specs.Pages.{PageMap}
-use Rattle.page_ports.specs.Frame.{AgreeOn, AreInMap}
+use Rattle.ports.specs.Pages.{PageMap}
+use Rattle.ports.specs.Frame.{AgreeOn, AreInMap}
 use Rattle.sb_tree.specs.Steps.{tree_pages}
 use Rattle.sb_tree.specs.Stands.{SbStands, IsBalanced, IsEmptyTree}
 

@@ -1,8 +1,8 @@
 -- What an addition below a page leaves: the page, or the two pages into which it was split.
 use Rattle.std.specs.Prelude.{◌≡◌, ℕ, ◌+◌, ◌%◌, ◌^◌, ◌<◌, ◌≤◌, ◌==◌, ◌||◌, nat_le, if◌then◌else◌, IsTrue, List, ◌++◌, Option, Some, None}
 use Rattle.std.specs.List.{All, list_any}
-use Rattle.page_ports.specs.Pages.{PageMap}
-use Rattle.page_ports.specs.Frame.{Replaces}
+use Rattle.ports.specs.Pages.{PageMap}
+use Rattle.ports.specs.Frame.{Replaces}
 use Rattle.page_layout.specs.Footprint.{NamesNoneTwice}
 use Rattle.sb_tree.specs.declared.second.Second.{Second}
 use Rattle.sb_tree.specs.Steps.{total_below, pages_below, lows_below}

@@ -5,7 +5,7 @@ use Rattle.bw_types.specs.Dominance.{dominance_sum}
 use Rattle.bw_types.specs.Digits.{digit_count}
 use Rattle.bw_types.specs.declared.point.Point.{Point}
 use Rattle.bw_types.specs.declared.tree.Tree.{Tree}
-use Rattle.page_ports.specs.Pages.{PageMap}
+use Rattle.ports.specs.Pages.{PageMap}
 use Rattle.page_layout.specs.Footprint.{NamesNoneTwice}
 use Rattle.page_layout.specs.SbNode.{IsSbNode, IsTyped, sb_node_page}
 use Rattle.page_layout.specs.declared.sb_node.SbEntry.{SbEntry}

@@ -1,7 +1,7 @@
 -- What is stored of a node, in one page or in two.
 use Rattle.std.specs.Prelude.{◌≡◌, ℕ, ◌<◌, ◌≤◌, ◌^◌, ◌==◌, false, IsTrue, List, length, drop, Option, Some, None, IsSome}
-use Rattle.page_ports.specs.Pages.{PageMap}
-use Rattle.page_ports.specs.Frame.{names_page}
+use Rattle.ports.specs.Pages.{PageMap}
+use Rattle.ports.specs.Frame.{names_page}
 use Rattle.page_layout.specs.Children.{child_fits}
 use Rattle.page_layout.specs.Entries.{AreInOrder}
 use Rattle.page_layout.specs.SbNode.{sb_node_page}

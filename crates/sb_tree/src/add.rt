@@ -1,8 +1,8 @@
 //! Additions.
 ghost use Rattle.std.specs.Prelude.{◌≡◌, ◌≢◌, ◌+◌, ◌<◌, ◌≤◌, ◌^◌, ◌==◌, ◌⊎◌, false, ℕ, List, ◌∷◌, length, Some, None, Err, IsSome, IsTrue, IfOk, OnOk, OnErr};
 ghost use Rattle.bw_types.specs.declared.point.Point.{Point};
-ghost use Rattle.page_ports.specs.Calls.{Grows};
-ghost use Rattle.page_ports.specs.Frame.{Replaces, names_page};
+ghost use Rattle.ports.specs.Calls.{Grows};
+ghost use Rattle.ports.specs.Frame.{Replaces, names_page};
 ghost use Rattle.page_layout.specs.Damage.{IsDamagedBelow, NothingBeside};
 ghost use Rattle.page_layout.specs.Footprint.{NamesNoneTwice};
 ghost use Rattle.page_layout.specs.TreeValue.{IsTreeTyped, plain_tree_fits};
@@ -21,7 +21,7 @@ use crate::store::store;
 use arrayvec::ArrayVec;
 use bw_types::Tree;
 use page_layout::{SbEntry, SbNode, make_page, read_in_place};
-use page_ports::{Stage, StageFault};
+use ports::{Stage, StageFault};
 
 /// Adds a value, a residue modulo `2^128`, from a version on.
 ///

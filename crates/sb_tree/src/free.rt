@@ -2,15 +2,15 @@
 ghost use Rattle.std.specs.Prelude.{◌≡◌, ◌≢◌, ◌⊎◌, ℕ, List, [], Err, IsTrue, OnOk};
 ghost use Rattle.bw_types.specs.declared.point.Point.{Point};
 ghost use Rattle.page_layout.specs.Footprint.{IsNamedTwice};
-ghost use Rattle.page_ports.specs.Calls.{Changes};
-ghost use Rattle.page_ports.specs.Frame.{AreInMap, Replaces};
+ghost use Rattle.ports.specs.Calls.{Changes};
+ghost use Rattle.ports.specs.Frame.{AreInMap, Replaces};
 ghost use Rattle.sb_tree.specs.Damage.{IsDamagedForFree, IsDamagedFrom};
 ghost use Rattle.sb_tree.specs.Stands.{SbStands};
 ghost use Rattle.sb_tree.specs.Steps.{pages_below, tree_pages};
 
 use bw_types::Tree;
 use page_layout::{SbNode, read_level};
-use page_ports::{Stage, StageFault};
+use ports::{Stage, StageFault};
 
 /// Frees the pages of the tree, and no other.
 ///

@@ -1,11 +1,11 @@
 //! Storing a node in its page, or in two.
 ghost use Rattle.std.specs.Prelude.{◌≡◌, ℕ, Some, Err, IsTrue, IsSome, IfOk, length};
-ghost use Rattle.page_ports.specs.Calls.{Grows};
+ghost use Rattle.ports.specs.Calls.{Grows};
 ghost use Rattle.sb_tree.specs.Stored.{IsSecondOf, IsStorable, IsStored};
 
 use crate::second::Second;
 use page_layout::{SbNode, put_page, split_off};
-use page_ports::{Stage, StageFault};
+use ports::{Stage, StageFault};
 
 /// Stores the node in its page. Where it has 65 entries, the last 33 of them go to a new page, which
 /// is the result.

@@ -3,7 +3,7 @@ ghost use Rattle.std.specs.Prelude.{◌≡◌, ◌≢◌, ◌%◌, ◌^◌, ℕ,
 ghost use Rattle.bw_types.specs.Dominance.{dominance_sum};
 ghost use Rattle.bw_types.specs.declared.point.Point.{Point};
 ghost use Rattle.page_layout.specs.Damage.{IsDamagedBelow, NothingBeside};
-ghost use Rattle.page_ports.specs.Calls.{OnlyReads};
+ghost use Rattle.ports.specs.Calls.{OnlyReads};
 ghost use Rattle.sb_tree.specs.Damage.{FitsPlace, IsDamagedOnPath, LeadsTo};
 ghost use Rattle.sb_tree.specs.Stands.{SbStands};
 ghost use Rattle.sb_tree.specs.Steps.{total_below, tree_value};
@@ -12,7 +12,7 @@ use crate::place::{Place, root_place};
 use crate::view::{begun_on, child_on, inner_place_on};
 use bw_types::Tree;
 use page_layout::{SbNode, View, view_in_place};
-use page_ports::{Page, PageFault, Pages, blank_page};
+use ports::{Page, PageFault, Pages, blank_page};
 
 /// The value of the tree at a version: the sum of what was added at that version and before, modulo
 /// `2^128`. It gets at most as many pages as the tree has levels.

@@ -1,5 +1,5 @@
 ghost use Rattle.std.specs.Prelude.{◌≡◌, ℕ, ◌+◌, ◌^◌, ◌<◌, ◌≤◌, Bool, true, false, List, ◌++◌, Some, None, Err, IsTrue, IfOk, OnOk, nat_le, if◌then◌else◌};
-ghost use Rattle.counts.specs.Count.{Rose};
+ghost use Rattle.ports.specs.Count.{Rose};
 ghost use Rattle.bw_types.specs.Fits.{IsInRange, object_fits, row_fits};
 ghost use Rattle.bw_types.specs.History.{flat_row};
 ghost use Rattle.bw_types.specs.Mass.{mass, mass_limit};
@@ -13,8 +13,8 @@ ghost use Rattle.session_book.specs.Batch.{row_id, own, IsAfter, Marks};
 use crate::standing::Standing;
 use crate::{BookFault, Life, Seen};
 use bw_types::{Object, Params, Reason, Row};
-use page_ports::PageFault;
-use poly_moments::mass;
+use corner_weights::mass;
+use ports::PageFault;
 use std::alloc::{AllocError, Global};
 use std::collections::BTreeMap;
 

@@ -1,6 +1,6 @@
 ghost use Rattle.std.specs.Prelude.{◌≡◌, ℕ, ◌+◌, ◌-◌, ◌^◌, ◌<◌, ◌≤◌, min, List, [], length, IsTrue, None, Err, IfOk};
 ghost use Rattle.std.specs.List.{list_all};
-ghost use Rattle.counts.specs.Count.{Rose};
+ghost use Rattle.ports.specs.Count.{Rose};
 ghost use Rattle.bw_types.specs.Fits.{IsInRange, row_fits};
 ghost use Rattle.bw_types.specs.History.{History, flat, flat_row};
 ghost use Rattle.bw_types.specs.Refusals.{first_refusal, first_refused_row, total_mass};

@@ -1,8 +1,8 @@
 ghost use Rattle.std.specs.Prelude.{◌≡◌, ℕ, ◌≤◌, Err, IfOk};
-ghost use Rattle.counts.specs.Count.{Rose};
+ghost use Rattle.ports.specs.Count.{Rose};
 ghost use Rattle.session_book.specs.declared.seen.Life.{Life};
 
-use page_ports::PageFault;
+use ports::PageFault;
 
 /// What a history says of an id.
 #[derive(Clone, Copy, PartialEq, Eq, Debug)]

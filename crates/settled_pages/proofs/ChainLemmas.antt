@@ -3,7 +3,7 @@ use Rattle.std.proofs.Common.{◌≡◌, ◌≢◌, ℕ, zero, suc, ◌<◌, ◌
 use Rattle.std.proofs.lemmas.Bool.{both_ways, or_cases, eqb-true, false_from_ne_true}
 use Rattle.std.proofs.lemmas.Bool.Decides.{nat_tests}
 use Rattle.std.proofs.lemmas.List.{append-nil}
-use Rattle.page_ports.specs.Frame.{names_page}
+use Rattle.ports.specs.Frame.{names_page}
 use Rattle.page_layout.specs.FreePage.{free_page_in}
 use Rattle.page_layout.specs.FreePageLaws.{free_page_in-page}
 use Rattle.page_layout.specs.Footprint.{NamesNoneTwice}

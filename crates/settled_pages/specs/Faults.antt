@@ -1,7 +1,7 @@
 -- The faults of a reading.
 use Rattle.std.specs.Prelude.{ℕ, Bool, true, false}
-use Rattle.page_ports.specs.declared.page.PageFault.{PageFault}
-use Rattle.page_ports.specs.declared.page.PageFault.TheVariants as page_fault
+use Rattle.ports.specs.declared.page.PageFault.{PageFault}
+use Rattle.ports.specs.declared.page.PageFault.TheVariants as page_fault
 use Rattle.settled_pages.specs.declared.fault.LookFault.{LookFault}
 use Rattle.settled_pages.specs.declared.fault.LookFault.TheVariants as look_fault
 use Rattle.settled_pages.specs.declared.fault.SettleFault.{SettleFault}

@@ -1,7 +1,7 @@
 -- What a space on a disk that is only read shows.
 use Rattle.std.specs.Prelude.{ℕ, Bool, List}
 use Rattle.bw_types.specs.declared.params.Params.{Params}
-use Rattle.page_ports.specs.Pages.{PageMap}
+use Rattle.ports.specs.Pages.{PageMap}
 use Rattle.page_layout.specs.declared.meta.Meta.{Meta}
 use Rattle.page_disk.specs.Image.{Image, page_at}
 use Rattle.page_disk.specs.Moment.{Moment}

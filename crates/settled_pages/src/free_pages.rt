@@ -8,7 +8,7 @@ ghost use Rattle.settled_pages.specs.Faults.{is_disk_at_look};
 use crate::{LookFault, SettledSpace};
 use page_disk::{Disk, Failed};
 use page_layout::{FreePage, Spelled};
-use page_ports::{PageFault, blank_page};
+use ports::{PageFault, blank_page};
 use std::alloc::Global;
 
 impl<'a, D: Disk> SettledSpace<'a, D> {

@@ -5,7 +5,7 @@ ghost use Rattle.page_disk.specs.Image.{area_of};
 ghost use Rattle.redo_journal.specs.Gates.{gate_of, is_open};
 
 use page_disk::{Area, Disk, Failed};
-use page_ports::blank_page;
+use ports::blank_page;
 use redo_journal::Gate;
 
 // Whether the gate of an area is open. At most one read.

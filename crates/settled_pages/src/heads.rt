@@ -10,7 +10,7 @@ ghost use Rattle.settled_pages.specs.Faults.{AtBadJournal, AtEmpty, AtNoMemory, 
 use crate::SettleFault;
 use page_disk::{Area, Disk};
 use page_layout::{JournalHead, Spelled};
-use page_ports::blank_page;
+use ports::blank_page;
 
 // Whether the homes ascend from above the last one, each in reach of a Pages area of this length.
 fn are_in_reach(len: u64, last: u64, homes: &[u64]) -> bool

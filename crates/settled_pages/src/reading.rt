@@ -7,7 +7,7 @@ ghost use Rattle.settled_pages.specs.Places.{IsSplitAt, place_in};
 
 use crate::SettledPages;
 use page_disk::{Area, Disk};
-use page_ports::{Page, PageFault};
+use ports::{Page, PageFault};
 
 impl SettledPages {
     ghost use Rattle.settled_pages.specs.Shown.{Finds, pages_shown, source_of};

@@ -4,7 +4,7 @@ ghost use Rattle.bw_types.specs.Fits.{IsInRange};
 ghost use Rattle.bw_types.specs.declared.params.Params.{Params};
 ghost use Rattle.page_layout.specs.declared.meta.Meta.{Meta};
 ghost use Rattle.page_layout.specs.Meta.{IsMeta, IsTyped};
-ghost use Rattle.page_ports.specs.Pages.{PageMap};
+ghost use Rattle.ports.specs.Pages.{PageMap};
 ghost use Rattle.page_disk.specs.Calls.{OnlyReads, any_error};
 ghost use Rattle.page_disk.specs.Image.{page_at};
 ghost use Rattle.page_space.specs.Chain.{FreeInOrder};
@@ -16,7 +16,7 @@ use crate::SettledPages;
 use bw_types::Params;
 use page_disk::{Disk, Failed};
 use page_layout::{Meta, Spelled, Super};
-use page_ports::{Page, PageFault, blank_page};
+use ports::{Page, PageFault, blank_page};
 use redo_journal::settling_laws;
 
 /// The page of the superblock.

@@ -6,7 +6,7 @@ use crate::SettledPages;
 use bw_types::Params;
 use page_disk::Disk;
 use page_layout::Meta;
-use page_ports::{FREE_PAGE, Page, PageFault, Pages};
+use ports::{FREE_PAGE, Page, PageFault, Pages};
 
 /// The pages in use of a space, read from the disk on which its pages were found.
 ///

@@ -6,9 +6,9 @@ use Rattle.bw_types.specs.History.{History}
 use Rattle.bw_types.specs.Lives.{lives}
 use Rattle.bw_types.specs.declared.dated.Dated.{Dated}
 use Rattle.history_laws.specs.Entries.{begun_entry, ended_entry, entries_of, history_entries, life_entries}
-use Rattle.history_list.specs.Events.{events_of, events_of_lives}
-use Rattle.history_list.specs.declared.event.Event.{Event}
-use Rattle.poly_moments.specs.PlaneSums.{Entered}
+use Rattle.page_warehouse.specs.Events.{events_of, events_of_lives}
+use Rattle.page_warehouse.specs.declared.event.Event.{Event}
+use Rattle.corner_weights.specs.PlaneSums.{Entered}
 use Rattle.span_planes.specs.Filled.{entries_in, entry_of}
 
 one_life : (d : Dated) → map entry_of (events_of d) ≡ life_entries d

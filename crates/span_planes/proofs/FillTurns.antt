@@ -6,9 +6,9 @@ use Rattle.std.proofs.lemmas.List.Elements.{All-cons, All-head, All-map, All-nil
 use Rattle.std.proofs.lemmas.List.Sorted.{IsPermutation-middle, IsPermutation-refl, IsPermutation-trans}
 use Rattle.bw_types.specs.declared.params.Params.{Params}
 use Rattle.bw_types.specs.declared.point.Point.{Point}
-use Rattle.box_corners.specs.Entries.{corner_point}
-use Rattle.history_list.specs.declared.event.Event.{Event}
-use Rattle.poly_moments.specs.PlaneSums.{Entered}
+use Rattle.corner_weights.specs.Entries.{corner_point}
+use Rattle.page_warehouse.specs.declared.event.Event.{Event}
+use Rattle.corner_weights.specs.PlaneSums.{Entered}
 use Rattle.dom_index.specs.Adding.{AreNewInTurn, with_points}
 use Rattle.dom_index.specs.Points.{IsNewPoint, keys_differ}
 use Rattle.corner_forest.specs.Entries.{corner_count}

@@ -7,8 +7,8 @@ use Rattle.bw_types.specs.History.{History, event_count}
 use Rattle.bw_types.specs.declared.params.Params.{Params}
 use Rattle.history_laws.specs.Entries.{history_entries}
 use Rattle.history_laws.specs.Bounds.{LawfulHasRoom}
-use Rattle.history_list.specs.declared.event.Event.{Event}
-use Rattle.poly_moments.specs.PlaneSums.{EnteredFits}
+use Rattle.page_warehouse.specs.declared.event.Event.{Event}
+use Rattle.corner_weights.specs.PlaneSums.{EnteredFits}
 use Rattle.span_planes.specs.Filled.{CanFill, entries_in, entry_of}
 use Rattle.span_planes.specs.Writing.{AreAllOf}
 use Rattle.span_planes.proofs.EventEntries.{entries_permuted}

@@ -10,10 +10,10 @@ use Rattle.bw_types.specs.declared.point.Point.{Point}
 use Rattle.bw_types.specs.declared.tree.Tree.{Tree}
 use Rattle.page_layout.specs.Footprint.{NamesNoneTwice}
 use Rattle.page_layout.specs.FootprintLaws.{once_join}
-use Rattle.page_ports.specs.Frame.{names_page, AgreeOn, AreApart, AreInMap, Replaces}
-use Rattle.page_ports.specs.FrameLaws.{names_page-append, Replaces-agree, Replaces-apart, Replaces-beside}
-use Rattle.page_ports.specs.Pages.{PageMap}
-use Rattle.poly_moments.specs.PlaneSums.{Entered}
+use Rattle.ports.specs.Frame.{names_page, AgreeOn, AreApart, AreInMap, Replaces}
+use Rattle.ports.specs.FrameLaws.{names_page-append, Replaces-agree, Replaces-apart, Replaces-beside}
+use Rattle.ports.specs.Pages.{PageMap}
+use Rattle.corner_weights.specs.PlaneSums.{Entered}
 use Rattle.dom_index.specs.Adding.{TreeTakes}
 use Rattle.dom_index.specs.declared.index.DomIndex.{Ghosts}
 use Rattle.corner_forest.specs.Trees.{EachStands, trees_pages}

@@ -13,7 +13,7 @@ use Rattle.bw_types.specs.declared.change.Change.TheVariants as change
 use Rattle.bw_types.specs.declared.dated.Dated.{Dated}
 use Rattle.bw_types.specs.declared.params.Params.{Params}
 use Rattle.history_laws.specs.Entries.{begun_entry, ended_entry, entries_of, history_entries, life_entries}
-use Rattle.poly_moments.specs.PlaneSums.{EnteredFits}
+use Rattle.corner_weights.specs.PlaneSums.{EnteredFits}
 
 module _ (params : Params) where
   -- The object that a change adds fits.

@@ -4,10 +4,10 @@ use Rattle.bw_types.specs.History.{History, last_version}
 use Rattle.bw_types.specs.Lives.{lives}
 use Rattle.bw_types.specs.declared.params.Params.{Params}
 use Rattle.dom_index.specs.declared.index.DomIndex.{Ghosts as IndexGhosts}
-use Rattle.history_list.specs.Events.{AreEventsOf, events_of_lives}
-use Rattle.history_list.specs.declared.event.Event.{Event}
-use Rattle.history_list.specs.declared.gathering.GatherFault.{GatherFault}
-use Rattle.history_list.specs.declared.gathering.GatherFault.TheVariants as gather_fault
+use Rattle.page_warehouse.specs.Events.{AreEventsOf, events_of_lives}
+use Rattle.page_warehouse.specs.declared.event.Event.{Event}
+use Rattle.page_warehouse.specs.declared.gathering.GatherFault.{GatherFault}
+use Rattle.page_warehouse.specs.declared.gathering.GatherFault.TheVariants as gather_fault
 use Rattle.page_disk.specs.Image.{Image}
 use Rattle.page_disk.specs.Moment.{Moment}
 use Rattle.page_disk.specs.Since.{LeavesOnly}

@@ -6,8 +6,8 @@ use Rattle.std.specs.List.{All}
 use Rattle.bw_types.specs.History.{History, changes}
 use Rattle.bw_types.specs.Lives.{Numbered, numbered_batch, numbered_from}
 use Rattle.bw_types.specs.declared.change.Change.{Change}
-use Rattle.history_list.specs.Events.{AreEventsOf, numbered_in}
-use Rattle.history_list.specs.declared.event.Event.{Event}
+use Rattle.page_warehouse.specs.Events.{AreEventsOf, numbered_in}
+use Rattle.page_warehouse.specs.declared.event.Event.{Event}
 use Rattle.span_planes.specs.Filled.{ComeInTurn}
 
 -- what is so of each of the images is so of each element

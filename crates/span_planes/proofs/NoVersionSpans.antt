@@ -14,7 +14,7 @@ use Rattle.page_disk.specs.Image.{Image}
 use Rattle.page_layout.specs.Footprint.{NamesNoneTwice}
 use Rattle.page_layout.specs.TreeValue.{both_true, has_pages, is_all_zero, tree_fits}
 use Rattle.page_layout.specs.declared.meta.Meta.{Meta}
-use Rattle.page_ports.specs.Pages.{PageMap, empty_map}
+use Rattle.ports.specs.Pages.{PageMap, empty_map}
 use Rattle.page_space.specs.Laws.{CreatedHolds}
 use Rattle.page_space.specs.Opening.{StandsAlike}
 use Rattle.page_space.specs.Space.{HoldsSpace}

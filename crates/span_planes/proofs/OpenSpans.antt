@@ -7,7 +7,7 @@ use Rattle.bw_types.specs.declared.tree.Tree.{Tree}
 use Rattle.dom_index.specs.declared.index.DomIndex.{Ghosts as IndexGhosts}
 use Rattle.history_laws.specs.Bounds.{LawfulHasRoom}
 use Rattle.page_disk.specs.declared.disk.Disk.{Ghosts}
-use Rattle.page_ports.specs.Pages.{PageMap}
+use Rattle.ports.specs.Pages.{PageMap}
 use Rattle.page_space.specs.Laws.{HoldsOne}
 use Rattle.page_space.specs.Shown.{IsInOrder, map_of}
 use Rattle.page_space.specs.Space.{HoldsSpace}

@@ -3,14 +3,14 @@ use Rattle.std.proofs.Common.{◌≡◌, ℕ, ◌≤◌, true, false, IsTrue, Li
 use Rattle.std.specs.List.{All}
 use Rattle.bw_types.specs.Empty.{empty_tree}
 use Rattle.bw_types.specs.declared.params.Params.{Params}
-use Rattle.counts.specs.Count.{Rose}
+use Rattle.ports.specs.Count.{Rose}
 use Rattle.page_disk.specs.Image.{Image, PageList, page_at}
 use Rattle.page_disk.specs.Moment.{Moment}
 use Rattle.page_disk.specs.Since.{LeavesOnly}
 use Rattle.page_disk.specs.SinceLaws.{LeavesOnly-weaken}
 use Rattle.page_disk.specs.declared.disk.Disk.{Ghosts}
 use Rattle.page_layout.specs.declared.meta.Meta.{Meta}
-use Rattle.page_ports.specs.Pages.{PageMap}
+use Rattle.ports.specs.Pages.{PageMap}
 use Rattle.redo_journal.specs.Gates.{is_empty}
 use Rattle.redo_journal.specs.Settled.{IdleSettles, SettlesTo, SettlesToOne}
 use Rattle.page_space.specs.Chain.{FreeInOrder}

@@ -1,17 +1,17 @@
 -- A second disk that shows spans, whatever these stand for.
 use Rattle.std.proofs.Common.{◌≡◌, ◌≢◌, ◌⊎◌, ℕ, List, sym, subst}
 use Rattle.bw_types.specs.declared.params.Params.{Params}
-use Rattle.history_list.specs.declared.gathering.GatherFault.{GatherFault}
-use Rattle.history_list.specs.declared.gathering.GatherFault.TheVariants as gather_fault
+use Rattle.page_warehouse.specs.declared.gathering.GatherFault.{GatherFault}
+use Rattle.page_warehouse.specs.declared.gathering.GatherFault.TheVariants as gather_fault
 use Rattle.page_disk.specs.Image.{Image}
 use Rattle.page_disk.specs.Moment.{Moment, MayBeLeftNow}
 use Rattle.page_disk.specs.Since.{LeavesNow, LeavesOnly}
 use Rattle.page_disk.specs.SinceLaws.{LeavesOnly-same, LeavesOnly-then}
 use Rattle.page_disk.specs.declared.disk.Disk.{Ghosts}
 use Rattle.page_layout.specs.declared.meta.Meta.{Meta}
-use Rattle.page_ports.specs.Pages.{PageMap}
-use Rattle.page_ports.specs.declared.page.StageFault.{StageFault}
-use Rattle.page_ports.specs.declared.page.StageFault.TheVariants as fault
+use Rattle.ports.specs.Pages.{PageMap}
+use Rattle.ports.specs.declared.page.StageFault.{StageFault}
+use Rattle.ports.specs.declared.page.StageFault.TheVariants as fault
 use Rattle.page_space.specs.Space.{HoldsSpace}
 use Rattle.span_planes.specs.Ended.{abandoning_of, gathering_of}
 use Rattle.span_planes.specs.Made.{HoldsNoVersion, LeavesShown, MayTakeSpans, ShowsSpans, TellsVersion, second_out}

@@ -13,7 +13,7 @@ use Rattle.corner_forest.specs.Answers.{where_met}
 use Rattle.history_laws.specs.Answers.{SumByEntries}
 use Rattle.history_laws.specs.Entries.{history_entries}
 use Rattle.history_laws.specs.Bounds.{HasSmallWeight, SumsAreBounded}
-use Rattle.poly_moments.specs.PlaneSums.{Entered, counts_at}
+use Rattle.corner_weights.specs.PlaneSums.{Entered, counts_at}
 use Rattle.span_planes.specs.SpanSums.{span_sum, sum_before, sum_up_to}
 
 -- how a number counts from a version on, with its sign

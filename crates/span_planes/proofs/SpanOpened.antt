@@ -6,7 +6,7 @@ use Rattle.page_disk.specs.Image.{Image, PageList}
 use Rattle.page_disk.specs.Moment.{Moment}
 use Rattle.page_disk.specs.Since.{LeavesOnly}
 use Rattle.page_layout.specs.declared.meta.Meta.{Meta}
-use Rattle.page_ports.specs.Pages.{PageMap}
+use Rattle.ports.specs.Pages.{PageMap}
 use Rattle.redo_journal.specs.Gates.{is_empty, gate_of}
 use Rattle.redo_journal.specs.Settled.{SettlesTo, SettlesToOne, IdleSettles}
 use Rattle.redo_journal.specs.declared.gate.Gate.TheVariants.{Idle}

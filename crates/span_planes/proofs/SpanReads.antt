@@ -1,7 +1,7 @@
 -- Calls that read pages, one after the other, and the error at the exit of a `?`.
 use Rattle.std.proofs.Common.{◌≡◌, ◌∙◌, ℕ, ◌+◌, ◌≤◌, Result, Err, arith}
-use Rattle.page_ports.specs.Calls.{WasRead}
-use Rattle.page_ports.specs.declared.pages.Pages.{Ghosts}
+use Rattle.ports.specs.Calls.{WasRead}
+use Rattle.ports.specs.declared.pages.Pages.{Ghosts}
 
 pub exit_error : {T E : Type 0} (r : Result T E) (told asked : E) → ((y : E) × (r ≡ Err y) × (y ≡ told)) → r ≡ Err asked → told ≡ asked
 exit_error r told asked p e =

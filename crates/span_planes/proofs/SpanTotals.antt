@@ -16,16 +16,16 @@ use Rattle.bw_types.specs.declared.object.Object.{Object}
 use Rattle.bw_types.specs.declared.params.Params.{Params}
 use Rattle.bw_types.specs.declared.point.Point.{Point}
 use Rattle.bw_types.specs.declared.query.Query.{Query}
-use Rattle.box_corners.specs.Entries.{Entry, EntryFits, SumsMeetByCorners, corner_point, met_weight, sum_at_corner, weight_at}
-use Rattle.box_corners.specs.Subsets.{residue_signed_by}
-use Rattle.box_corners.specs.SumLaws.{sum_below_of_equal}
-use Rattle.box_corners.specs.Sums.{residue_sum_below}
+use Rattle.corner_weights.specs.Entries.{Entry, EntryFits, SumsMeetByCorners, corner_point, met_weight, sum_at_corner, weight_at}
+use Rattle.corner_weights.specs.Subsets.{residue_signed_by}
+use Rattle.corner_weights.specs.SumLaws.{sum_below_of_equal}
+use Rattle.corner_weights.specs.Sums.{residue_sum_below}
 use Rattle.corner_forest.specs.Answers.{where_met}
 use Rattle.corner_forest.specs.Corners.{value_at}
 use Rattle.corner_forest.specs.Entries.{corner_count, entered_residue}
 use Rattle.history_laws.specs.Answers.{SumByEntries}
 use Rattle.history_laws.specs.Entries.{history_entries}
-use Rattle.poly_moments.specs.PlaneSums.{Entered, EnteredFits, counts_at}
+use Rattle.corner_weights.specs.PlaneSums.{Entered, EnteredFits, counts_at}
 use Rattle.span_planes.specs.SpanHolds.{without_degree}
 use Rattle.span_planes.specs.SpanPoints.{dated_weight, plain_weight, span_points}
 use Rattle.span_planes.specs.SpanSums.{dated_sum, sum_up_to}

@@ -9,17 +9,17 @@ use Rattle.bw_types.specs.declared.params.Params.{Params}
 use Rattle.bw_types.specs.declared.point.Point.{Point}
 use Rattle.bw_types.specs.declared.query.Query.{Query}
 use Rattle.bw_types.specs.declared.tree.Tree.{Tree}
-use Rattle.box_corners.specs.Entries.{corner_point}
-use Rattle.box_corners.specs.Subsets.{residue_signed_by}
-use Rattle.box_corners.specs.Sums.{residue_sum_below}
+use Rattle.corner_weights.specs.Entries.{corner_point}
+use Rattle.corner_weights.specs.Subsets.{residue_signed_by}
+use Rattle.corner_weights.specs.Sums.{residue_sum_below}
 use Rattle.corner_forest.specs.Corners.{value_at}
 use Rattle.corner_forest.specs.Entries.{corner_count}
 use Rattle.corner_forest.specs.Trees.{EachStands}
 use Rattle.dom_index.specs.declared.index.DomIndex.{Ghosts}
 use Rattle.history_laws.specs.Entries.{history_entries}
 use Rattle.history_laws.specs.Entering.{EntriesAreChanges}
-use Rattle.page_ports.specs.Pages.{PageMap}
-use Rattle.poly_moments.specs.PlaneSums.{Entered}
+use Rattle.ports.specs.Pages.{PageMap}
+use Rattle.corner_weights.specs.PlaneSums.{Entered}
 use Rattle.span_planes.specs.SpanHolds.{SpansStand, without_degree}
 use Rattle.span_planes.specs.SpanPoints.{dated_weight, plain_weight, span_points, span_roots, weighed}
 use Rattle.span_planes.proofs.SpanTotals.{IsSaid}

@@ -1,12 +1,12 @@
 -- Calls on a stage, one after another.
 use Rattle.std.proofs.Common.{◌≡◌, ℕ, ◌+◌, ◌≤◌, List, IsTrue, Result, Ok, Err, OnErr, OnOk, sym, ◌∙◌, ap, subst, arith}
-use Rattle.counts.specs.Count.{Rose}
-use Rattle.page_ports.specs.Calls.{Changes, WentOn}
-use Rattle.page_ports.specs.Frame.{names_page}
-use Rattle.page_ports.specs.Pages.{PageMap}
-use Rattle.page_ports.specs.declared.page.StageFault.{StageFault}
-use Rattle.page_ports.specs.declared.page.StageFault.TheVariants.{Damaged, NoMemory}
-use Rattle.page_ports.specs.declared.pages.Pages.{Ghosts}
+use Rattle.ports.specs.Count.{Rose}
+use Rattle.ports.specs.Calls.{Changes, WentOn}
+use Rattle.ports.specs.Frame.{names_page}
+use Rattle.ports.specs.Pages.{PageMap}
+use Rattle.ports.specs.declared.page.StageFault.{StageFault}
+use Rattle.ports.specs.declared.page.StageFault.TheVariants.{Damaged, NoMemory}
+use Rattle.ports.specs.declared.pages.Pages.{Ghosts}
 
 -- nothing changed that a stage shows
 pub unmoved : {P : Type 0} (s : Ghosts P) (old new : P) → s.tells new ≡ s.tells old → s.base new ≡ s.base old → s.limit new ≡ s.limit old → (s.free_in_order old → s.free_in_order new)

@@ -6,13 +6,13 @@ use Rattle.bw_types.specs.History.{History}
 use Rattle.bw_types.specs.declared.params.Params.{Params}
 use Rattle.bw_types.specs.declared.point.Point.{Point}
 use Rattle.bw_types.specs.declared.tree.Tree.{Tree}
-use Rattle.box_corners.specs.Entries.{corner_point}
+use Rattle.corner_weights.specs.Entries.{corner_point}
 use Rattle.corner_forest.specs.Entries.{corner_count}
 use Rattle.corner_forest.specs.Trees.{EachStands}
 use Rattle.dom_index.specs.declared.index.DomIndex.{Ghosts}
 use Rattle.history_laws.specs.Entries.{history_entries}
-use Rattle.page_ports.specs.Pages.{PageMap}
-use Rattle.poly_moments.specs.PlaneSums.{Entered}
+use Rattle.ports.specs.Pages.{PageMap}
+use Rattle.corner_weights.specs.PlaneSums.{Entered}
 use Rattle.span_planes.specs.Filled.{FilledTrees, points_at}
 use Rattle.span_planes.specs.SpanHolds.{SpansStand}
 use Rattle.span_planes.specs.SpanPoints.{dated_weight, plain_weight, span_points, weighed}

@@ -1,16 +1,16 @@
 -- A second disk that may take spans, and got none.
 use Rattle.std.proofs.Common.{◌≡◌, ℕ, ◌≤◌, IsTrue, List, inl, refl, sym, subst, arith}
 use Rattle.bw_types.specs.declared.params.Params.{Params}
-use Rattle.counts.specs.Count.{Rose}
-use Rattle.history_list.specs.declared.gathering.GatherFault.{GatherFault}
-use Rattle.history_list.specs.declared.gathering.GatherFault.TheVariants as gather_fault
+use Rattle.ports.specs.Count.{Rose}
+use Rattle.page_warehouse.specs.declared.gathering.GatherFault.{GatherFault}
+use Rattle.page_warehouse.specs.declared.gathering.GatherFault.TheVariants as gather_fault
 use Rattle.page_disk.specs.Image.{Image}
 use Rattle.page_disk.specs.Moment.{Moment}
 use Rattle.page_disk.specs.Since.{LeavesOnly}
 use Rattle.page_disk.specs.SinceLaws.{LeavesOnly-weaken}
 use Rattle.page_disk.specs.declared.disk.Disk.{Ghosts}
-use Rattle.page_ports.specs.declared.page.StageFault.{StageFault}
-use Rattle.page_ports.specs.declared.page.StageFault.TheVariants as fault
+use Rattle.ports.specs.declared.page.StageFault.{StageFault}
+use Rattle.ports.specs.declared.page.StageFault.TheVariants as fault
 use Rattle.span_planes.specs.Ended.{abandoning_of, gathering_of}
 use Rattle.span_planes.specs.Made.{HoldsNoVersion, IsStillReady, LeavesShown, MayTakeSpans, StaysReady, second_out}
 use Rattle.span_planes.specs.Readied.{IsRefused, StaysOpened}

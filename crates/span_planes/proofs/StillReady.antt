@@ -4,7 +4,7 @@ use Rattle.bw_types.specs.Fits.{IsInRange}
 use Rattle.bw_types.specs.declared.params.Params.{Params}
 use Rattle.page_disk.specs.Image.{Image}
 use Rattle.page_layout.specs.declared.meta.Meta.{Meta}
-use Rattle.page_ports.specs.Pages.{PageMap, empty_map}
+use Rattle.ports.specs.Pages.{PageMap, empty_map}
 use Rattle.page_space.specs.Laws.{CreatedHolds, HoldsOne}
 use Rattle.page_space.specs.Opening.{StandsAlike}
 use Rattle.page_space.specs.Settling.{HasNoReplay}

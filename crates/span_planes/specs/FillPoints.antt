@@ -2,9 +2,9 @@
 use Rattle.std.specs.Prelude.{ℕ, ◌-◌, nat_lt, if◌then◌else◌}
 use Rattle.bw_types.specs.declared.params.Params.{Params}
 use Rattle.bw_types.specs.declared.point.Point.{Point}
-use Rattle.box_corners.specs.Entries.{corner_point}
+use Rattle.corner_weights.specs.Entries.{corner_point}
 use Rattle.corner_forest.specs.Entries.{corner_count}
-use Rattle.poly_moments.specs.PlaneSums.{Entered}
+use Rattle.corner_weights.specs.PlaneSums.{Entered}
 use Rattle.span_planes.specs.SpanPoints.{dated_weight, plain_weight, weighed}
 
 -- the subset of the dimensions to which the tree belongs

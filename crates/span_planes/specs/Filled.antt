@@ -7,13 +7,13 @@ use Rattle.bw_types.specs.declared.params.Params.{Params}
 use Rattle.bw_types.specs.declared.point.Point.{Point}
 use Rattle.bw_types.specs.declared.tree.Tree.{Tree}
 use Rattle.page_layout.specs.Footprint.{NamesNoneTwice}
-use Rattle.page_ports.specs.Frame.{Replaces}
-use Rattle.page_ports.specs.Pages.{PageMap}
-use Rattle.poly_moments.specs.PlaneSums.{Entered}
+use Rattle.ports.specs.Frame.{Replaces}
+use Rattle.ports.specs.Pages.{PageMap}
+use Rattle.corner_weights.specs.PlaneSums.{Entered}
 use Rattle.dom_index.specs.declared.index.DomIndex.{Ghosts}
 use Rattle.corner_forest.specs.Entries.{corner_count}
 use Rattle.corner_forest.specs.Trees.{EachStands, trees_pages}
-use Rattle.history_list.specs.declared.event.Event.{Event}
+use Rattle.page_warehouse.specs.declared.event.Event.{Event}
 use Rattle.span_planes.specs.SpanPoints.{dated_weight, plain_weight, span_points, span_roots}
 
 -- an add or a withdrawal as an entry: a withdrawal takes its object out

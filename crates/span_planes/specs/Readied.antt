@@ -3,7 +3,7 @@ use Rattle.std.specs.Prelude.{◌≡◌, ◌≢◌, ℕ, true, IsTrue, Result, O
 use Rattle.std.specs.List.{All}
 use Rattle.bw_types.specs.Empty.{empty_tree}
 use Rattle.bw_types.specs.declared.params.Params.{Params}
-use Rattle.counts.specs.Count.{Rose}
+use Rattle.ports.specs.Count.{Rose}
 use Rattle.page_disk.specs.Image.{Image}
 use Rattle.page_disk.specs.declared.disk.Disk.{Ghosts}
 use Rattle.page_disk.specs.Since.{LeavesNow}

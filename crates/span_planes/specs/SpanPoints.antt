@@ -4,9 +4,9 @@ use Rattle.std.specs.Prelude.{ℕ, ◌*◌, List, map, pos, ◌*ℤ◌}
 use Rattle.bw_types.specs.Residues.{residue}
 use Rattle.bw_types.specs.declared.params.Params.{Params}
 use Rattle.bw_types.specs.declared.point.Point.{Point}
-use Rattle.box_corners.specs.Entries.{Entry, corner_point}
+use Rattle.corner_weights.specs.Entries.{Entry, corner_point}
 use Rattle.corner_forest.specs.Entries.{corner_count, entered_residue}
-use Rattle.poly_moments.specs.PlaneSums.{Entered}
+use Rattle.corner_weights.specs.PlaneSums.{Entered}
 
 -- the weight of the entry, and the opposite where it takes an object out, modulo 2^128
 abbrev pub plain_weight : Entered → ℕ

@@ -6,7 +6,7 @@ use Rattle.bw_types.specs.History.{History}
 use Rattle.bw_types.specs.Tally.{int_sum_by}
 use Rattle.bw_types.specs.declared.params.Params.{Params}
 use Rattle.bw_types.specs.declared.query.Query.{Query}
-use Rattle.poly_moments.specs.PlaneSums.{Entered, counts_at}
+use Rattle.corner_weights.specs.PlaneSums.{Entered, counts_at}
 use Rattle.corner_forest.specs.Answers.{where_met}
 use Rattle.history_laws.specs.Entries.{history_entries}
 

@@ -7,8 +7,8 @@ use Rattle.bw_types.specs.Lawful.{IsLawful}
 use Rattle.bw_types.specs.Lives.{lives}
 use Rattle.bw_types.specs.declared.params.Params.{Params}
 use Rattle.history_laws.specs.Bounds.{HasSmallWeight}
-use Rattle.history_list.specs.Events.{AreEventsOf, events_of_lives}
-use Rattle.history_list.specs.declared.event.Event.{Event}
+use Rattle.page_warehouse.specs.Events.{AreEventsOf, events_of_lives}
+use Rattle.page_warehouse.specs.declared.event.Event.{Event}
 use Rattle.page_layout.specs.declared.meta.Meta.{Meta}
 use Rattle.span_planes.specs.SpanPoints.{span_roots}
 

@@ -4,22 +4,22 @@ ghost use Rattle.bw_types.specs.Fits.{ends_fit};
 ghost use Rattle.bw_types.specs.History.{History, changes};
 ghost use Rattle.bw_types.specs.Residues.{residue};
 ghost use Rattle.bw_types.specs.declared.params.Params.{Params};
-ghost use Rattle.counts.specs.Count.{Rose};
+ghost use Rattle.ports.specs.Count.{Rose};
 ghost use Rattle.corner_forest.specs.Entries.{corner_count};
-ghost use Rattle.page_ports.specs.Calls.{OnlyReads};
+ghost use Rattle.ports.specs.Calls.{OnlyReads};
 ghost use Rattle.span_planes.specs.Asked.{AreAsBefore};
 ghost use Rattle.span_planes.specs.Shown.{span_cost};
 ghost use Rattle.span_planes.specs.SpanSums.{span_sum, sum_up_to};
 
 use crate::{Spans, spans_are_differences};
-use box_corners::meeting::entries_meet_by_corners;
 use bw_types::{Kind, Query, res_add, res_mul, res_neg, res_signed};
 use corner_forest::met;
+use corner_weights::meeting::entries_meet_by_corners;
 use dom_index::DomIndex;
 use history_laws::{entries_are_changes, entries_give_answers, lawful_histories_have_room};
 use page_disk::Disk;
-use page_ports::{PageFault, Pages};
 use page_space::{Space, holds_one};
+use ports::{PageFault, Pages};
 use warehouse::QueryFault;
 
 impl<E: Disk, X: DomIndex> Spans<E, X> {

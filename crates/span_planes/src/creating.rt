@@ -1,7 +1,7 @@
 //! The making of spans on an empty disk.
 ghost use Rattle.std.specs.Prelude.{◌≡◌, ◌⊎◌, ◌≤◌, true, false, IsTrue};
 ghost use Rattle.bw_types.specs.Fits.{IsInRange};
-ghost use Rattle.counts.specs.Count.{Rose};
+ghost use Rattle.ports.specs.Count.{Rose};
 ghost use Rattle.page_disk.specs.Since.{LeavesNow, LeavesOnly};
 ghost use Rattle.page_warehouse.specs.Created.{IfFailed, IfMade, IfThere, created_disk};
 ghost use Rattle.redo_journal.specs.Gates.{is_empty};
@@ -13,9 +13,9 @@ use bw_types::{Params, Tree};
 use dom_index::DomIndex;
 use page_disk::Disk;
 use page_layout::{Meta, Spelled, Super};
-use page_ports::blank_page;
 use page_space::created_holds;
 use page_warehouse::Created;
+use ports::blank_page;
 use redo_journal::{Gate, ready};
 
 // The meta page of spans without versions.

@@ -5,7 +5,7 @@ ghost use Rattle.bw_types.specs.Fits.{ends_fit};
 ghost use Rattle.bw_types.specs.History.{History};
 ghost use Rattle.bw_types.specs.declared.params.Params.{Params};
 ghost use Rattle.bw_types.specs.declared.query.Kind.TheVariants.{Sum};
-ghost use Rattle.counts.specs.Count.{Rose};
+ghost use Rattle.ports.specs.Count.{Rose};
 ghost use Rattle.csv_rows.specs.Replies.{reply_text};
 ghost use Rattle.span_planes.specs.Asked.{AreAsBefore};
 ghost use Rattle.span_planes.specs.Shown.{HoldsSpans, disk_in, params_in};

@@ -3,9 +3,9 @@ ghost use Rattle.std.specs.Prelude.{◌≡◌, ◌≢◌, ◌+◌, ◌-◌, ◌^
 ghost use Rattle.std.specs.List.{All};
 ghost use Rattle.bw_types.specs.Fits.{IsInRange};
 ghost use Rattle.bw_types.specs.Keys.{point_key as key_of_point};
-ghost use Rattle.box_corners.specs.Corners.{corner_keys};
+ghost use Rattle.corner_weights.specs.Corners.{corner_keys};
 ghost use Rattle.page_layout.specs.TreeValue.{tree_fits};
-ghost use Rattle.page_ports.specs.Calls.{Changes};
+ghost use Rattle.ports.specs.Calls.{Changes};
 ghost use Rattle.dom_index.specs.Points.{AreKeysBelow};
 ghost use Rattle.corner_forest.specs.Entries.{corner_count, entered_residue};
 ghost use Rattle.span_planes.specs.FillPoints.{point_in};
@@ -13,11 +13,11 @@ ghost use Rattle.span_planes.specs.Filled.{CanFill, ComeInTurn, FilledTrees, ent
 ghost use Rattle.span_planes.specs.SpanPoints.{dated_weight as dated_weight_of_entry, plain_weight as weight_of_entry, span_roots};
 
 use arrayvec::ArrayVec;
-use box_corners::object_corner;
 use bw_types::{Params, Point, Tree, point_key, res_mul, res_neg, res_of};
+use corner_weights::object_corner;
 use dom_index::{DomIndex, add_all};
-use history_list::Event;
-use page_ports::{Stage, StageFault};
+use page_warehouse::Event;
+use ports::{Stage, StageFault};
 use std::alloc::Global;
 
 /// Makes the trees of spans of these events, beside what the stage has: for each subset of the dimensions one with the weights, and one with the

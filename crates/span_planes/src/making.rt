@@ -1,7 +1,7 @@
 //! Spans derived from a warehouse.
 ghost use Rattle.std.specs.Prelude.{◌≡◌, ◌⊎◌, ◌≤◌, ℕ, true, IsTrue};
 ghost use Rattle.bw_types.specs.History.{History};
-ghost use Rattle.counts.specs.Count.{Rose};
+ghost use Rattle.ports.specs.Count.{Rose};
 ghost use Rattle.page_disk.specs.Since.{LeavesNow};
 ghost use Rattle.page_warehouse.specs.Shown.{HasNewForm, HoldsHistory, disk_charge, disk_in, meta_in, params_in};
 ghost use Rattle.page_space.specs.Shown.{IsInOrder, disk_of};
@@ -14,10 +14,9 @@ use crate::readying::ready_space;
 use crate::writing::{can_fill_all, write};
 use dom_index::DomIndex;
 use history_laws::lawful_histories_have_room;
-use history_list::{GatherFault, gather};
 use page_disk::Disk;
 use page_space::{Space, created_holds, holds_one};
-use page_warehouse::Warehouse;
+use page_warehouse::{GatherFault, Warehouse, gather};
 use std::alloc::Global;
 
 /// What became of a second disk that was to have the spans of a warehouse.

@@ -3,8 +3,8 @@ ghost use Rattle.std.specs.Prelude.{◌≡◌, ◌≢◌, ◌+◌, ◌<◌, ◌�
 ghost use Rattle.std.specs.List.{All};
 ghost use Rattle.bw_types.specs.Fits.{IsInRange};
 ghost use Rattle.bw_types.specs.History.{History};
-ghost use Rattle.counts.specs.Count.{Rose};
-ghost use Rattle.page_ports.specs.Calls.{Changes};
+ghost use Rattle.ports.specs.Count.{Rose};
+ghost use Rattle.ports.specs.Calls.{Changes};
 ghost use Rattle.page_space.specs.MetaSet.{FitsBesideCounts, with_counts_of};
 ghost use Rattle.page_space.specs.Shown.{IsInOrder, IsMetaSet, IsStagedInOrder, disk_of, disk_under, staged_map, staged_meta};
 ghost use Rattle.span_planes.specs.Ended.{abandoning_of};
@@ -18,11 +18,11 @@ use crate::filling::fill;
 use bw_types::{Params, Tree, object_fits};
 use dom_index::DomIndex;
 use history_laws::lawful_histories_have_room;
-use history_list::Event;
 use page_disk::Disk;
 use page_layout::Meta;
-use page_ports::{Pages, StageFault};
 use page_space::{Space, Staged, holds_one};
+use page_warehouse::Event;
+use ports::{Pages, StageFault};
 use std::alloc::Global;
 
 /// Writes the spans of these events to the space of spans of no version.

@@ -4,7 +4,7 @@ use crate::hostile::{many_boxes, pages_of, with_page};
 use crate::memory::{Step, failing_at, first_wrong, new_warehouse, run_over};
 use boxsum::Status;
 use page_disk::{Area, MemDisk};
-use page_ports::{Page, blank_page};
+use ports::{Page, blank_page};
 use std::alloc::Global;
 use std::test::Fail;
 

@@ -1,8 +1,8 @@
 //! Worked compactions: what the second disk has, and what stays.
 use crate::memory::{KINDS, new_warehouse, run_over, words_of};
 use boxsum::{RanTwo, Status, run, run_two};
-use byte_ports::{MemSink, MemSource};
 use page_disk::{Disk, MemDisk, PlainDisk};
+use ports::{MemSink, MemSource};
 use std::alloc::Global;
 use std::test::Fail;
 

@@ -1,8 +1,8 @@
 //! Worked runs over a warehouse on a disk, with commits: whole inputs, failing calls, and stops.
 use crate::memory::{KINDS, Step, failing_at, first_wrong, new_warehouse, run_over, words_of};
 use boxsum::{Ran, Status, run};
-use byte_ports::{MemSink, MemSource};
 use page_disk::{MemDisk, PlainDisk};
+use ports::{MemSink, MemSource};
 use std::alloc::Global;
 use std::test::Fail;
 

@@ -4,7 +4,7 @@ use crate::hostile::pages_of;
 use crate::memory::{KINDS, new_warehouse, run_over};
 use boxsum::{Ran, Status};
 use page_disk::{Area, MemDisk};
-use page_ports::{Page, blank_page};
+use ports::{Page, blank_page};
 use std::alloc::Global;
 use std::test::Fail;
 

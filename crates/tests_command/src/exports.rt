@@ -2,8 +2,8 @@
 use crate::disks::TOUCHING;
 use crate::memory::{Step, failing_at, first_wrong, new_warehouse, run_over, words_of};
 use boxsum::Status;
-use byte_ports::{MemSink, MemSource};
 use page_disk::{MemDisk, PlainDisk};
+use ports::{MemSink, MemSource};
 use std::alloc::Global;
 use std::test::Fail;
 

@@ -3,7 +3,7 @@ use crate::disks::{TOUCHING, has_batch, many_adds};
 use crate::memory::{KINDS, failing_run, new_warehouse, run_over};
 use boxsum::{Ran, Status};
 use page_disk::{Area, Disk, MemDisk, Torn};
-use page_ports::{Page, blank_page};
+use ports::{Page, blank_page};
 use std::alloc::Global;
 use std::test::Fail;
 

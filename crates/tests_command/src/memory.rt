@@ -2,9 +2,8 @@
 ghost use Rattle.std.specs.Prelude.{◌<◌};
 
 use boxsum::{Ran, Status, run};
-use byte_ports::{MemSink, MemSource};
 use page_disk::{Area, Disk, MemDisk, PlainDisk, Torn};
-use page_ports::blank_page;
+use ports::{MemSink, MemSource, blank_page};
 use std::alloc::Global;
 use std::test::Fail;
 
@@ -241,7 +240,7 @@ pub(crate) fn run_pieces<D: Disk + Drop>(
 }
 
 // Runs the words over a blank disk, as `run_pieces` does.
-fn run_on(
+fn run_on_blank(
     alloc: Global,
     words: &str,
     input: &[u8],
@@ -294,7 +293,7 @@ fn answers_with(
     requires { 0 < piece }
 {
     let words = format!(in alloc; "scratch {params}")?;
-    let (status, sink) = run_on(alloc, words.as_str(), input, piece, None, None)?;
+    let (status, sink) = run_on_blank(alloc, words.as_str(), input, piece, None, None)?;
     if status != Status::Fine || sink.bytes() != text {
         return Ok(false);
     }
@@ -427,7 +426,7 @@ fn long_lines_are_bad(rt: HostRuntime) -> Result<(), Fail> {
 #[test]
 fn bytes_that_are_no_text(rt: HostRuntime) -> Result<(), Fail> {
     let input = b"\xff\xfe\nadd,1,1,0,1,\x80\n\"\xc3\",1\ncommit,1";
-    let (status, sink) = run_on(rt.alloc(), "scratch 1", input, 3, None, None)?;
+    let (status, sink) = run_on_blank(rt.alloc(), "scratch 1", input, 3, None, None)?;
     assert_eq!(rt; status, Status::Fine);
     assert_eq!(rt;
         sink.bytes(),
@@ -439,13 +438,13 @@ fn bytes_that_are_no_text(rt: HostRuntime) -> Result<(), Fail> {
 #[test]
 fn the_input_fails(rt: HostRuntime) -> Result<(), Fail> {
     let input = b"add,1,1,2,5,10\nadd,1,2,5,9,7\ncommit,1\nsum,1,5,5\n";
-    let (status, sink) = run_on(rt.alloc(), "scratch 1", input, 20, Some(1), None)?;
+    let (status, sink) = run_on_blank(rt.alloc(), "scratch 1", input, 20, Some(1), None)?;
     assert_eq!(rt; status, Status::ReadFault);
     assert_eq!(rt; sink.bytes(), b"".as_slice());
-    let (status, sink) = run_on(rt.alloc(), "scratch 1", input, 20, Some(2), None)?;
+    let (status, sink) = run_on_blank(rt.alloc(), "scratch 1", input, 20, Some(2), None)?;
     assert_eq!(rt; status, Status::ReadFault);
     assert_eq!(rt; sink.bytes(), b"".as_slice());
-    let (status, sink) = run_on(rt.alloc(), "scratch 1", input, 20, Some(3), None)?;
+    let (status, sink) = run_on_blank(rt.alloc(), "scratch 1", input, 20, Some(3), None)?;
     assert_eq!(rt; status, Status::ReadFault);
     assert_eq!(rt; sink.bytes(), b"version,1\n".as_slice());
     Ok(())
@@ -467,7 +466,7 @@ fn the_output_fails(rt: HostRuntime) -> Result<(), Fail> {
         (4096, 2, "sum,0,0\nversion,1\n"),
     ];
     for (piece, call, part) in parts {
-        let (status, sink) = run_on(rt.alloc(), "scratch 1", input, piece, None, Some(call))?;
+        let (status, sink) = run_on_blank(rt.alloc(), "scratch 1", input, piece, None, Some(call))?;
         assert_eq!(rt; status, Status::WriteFault);
         assert_eq!(rt; sink.bytes(), part.as_bytes());
         assert_eq!(rt; sink.faults(), 1);
@@ -488,7 +487,7 @@ fn many_objects_at_one_point(rt: HostRuntime) -> Result<(), Fail> {
         input.push_str(format!(in rt.alloc(); "add,1,{id},5,5,5,5,1\n")?.as_str())?;
     }
     input.push_str("commit,1\ncount,now,5,5,5,5\n")?;
-    let (status, sink) = run_on(rt.alloc(), "scratch 2", input.as_bytes(), 100, None, None)?;
+    let (status, sink) = run_on_blank(rt.alloc(), "scratch 2", input.as_bytes(), 100, None, None)?;
     assert_eq!(rt; status, Status::Fine);
     assert_eq!(rt; sink.bytes(), b"version,1\ncount,1,65\n".as_slice());
     Ok(())

@@ -1,8 +1,8 @@
 //! Samples: their summaries, as added up apart from the program, and samples that are stopped or fail.
 use crate::memory::{KINDS, failing_at, run_over, words_of};
 use boxsum::{Ran, Status, run};
-use byte_ports::{MemSink, MemSource};
 use page_disk::{MemDisk, PlainDisk};
+use ports::{MemSink, MemSource};
 use std::alloc::Global;
 use std::test::Fail;
 

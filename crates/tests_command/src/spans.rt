@@ -1,8 +1,8 @@
 //! Worked spans over two disks: what is derived, what it answers, what stays, and where a call fails or the program stops.
 use crate::memory::{KINDS, new_warehouse, run_over, words_of};
 use boxsum::{RanTwo, Status, run, run_two};
-use byte_ports::{MemSink, MemSource};
 use page_disk::{Disk, MemDisk};
+use ports::{MemSink, MemSource};
 use std::alloc::Global;
 use std::test::Fail;
 

@@ -2,9 +2,9 @@
 ghost use Rattle.bw_types.specs.Fits.{IsInRange};
 
 use bw_types::{Object, Params};
-use byte_ports::{Failed, MemSink};
-use history_list::Event;
 use history_text::write_history;
+use page_warehouse::Event;
+use ports::{Failed, MemSink};
 use std::test::Fail;
 
 // A signed warehouse of two dimensions and of degree 1, so that there are four coefficients.

@@ -7,7 +7,7 @@ use Rattle.bw_types.specs.Empty.{empty_tree}
 use Rattle.page_layout.specs.CutPage.{IsNodeTyped, node_fits, open_places}
 use Rattle.page_layout.specs.declared.cut_page.CutNode.{CutNode}
 use Rattle.page_layout.specs.declared.cut_page.CutNode.TheVariants.{Entry, Cut}
-use Rattle.cut_pages.specs.Nodes.{AreNodes}
+use Rattle.cut_parts.specs.Nodes.{AreNodes}
 
 -- what is asked of each node by itself
 pub record KeepsRules (node : CutNode) : Type 0 where

@@ -3,7 +3,7 @@ use crate::bounds::most_gets;
 use crate::samples::{GREATEST, draw, sum};
 use crate::walker::{Met, cuts_of};
 use bw_types::{Point, Tree};
-use page_ports::{MemStage, StageFault};
+use ports::{MemStage, StageFault};
 use std::alloc::Global;
 
 /// The sum of the weights of the points at or below the keys and the version, over three dimensions or over two.

@@ -3,10 +3,9 @@ use crate::samples::{GREATEST, sum};
 use arrayvec::ArrayVec;
 use ba_tree::KeyTree;
 use bw_types::{Point, Tree};
-use cut_pages::make_leaf;
-use cut_parts::BorderTree;
+use cut_parts::{BorderTree, make_leaf};
 use page_layout::{CutNode, CutPage, Spelled, make_page};
-use page_ports::{MemStage, PageFault, Stage, StageFault};
+use ports::{MemStage, PageFault, Stage, StageFault};
 use std::alloc::Global;
 use std::test::Fail;
 

@@ -1,7 +1,7 @@
 //! Additions to trees of cuts of which one call of the stage fails, and additions that meet the limit of pages.
 use crate::samples::{add, built, point_at, row};
 use bw_types::Tree;
-use page_ports::{FailingStage, MemStage, Stage, StageFault};
+use ports::{FailingStage, MemStage, Stage, StageFault};
 use std::alloc::Global;
 use std::test::Fail;
 

@@ -4,7 +4,7 @@ use crate::samples::{
 };
 use bw_types::Tree;
 use page_layout::{CutNode, CutPage, Spelled};
-use page_ports::{FREE_PAGE, MemStage, Page, PageFault, Pages, Stage, StageFault, blank_page};
+use ports::{FREE_PAGE, MemStage, Page, PageFault, Pages, Stage, StageFault, blank_page};
 use std::alloc::Global;
 use std::test::Fail;
 use std::time::{Duration, Instant};

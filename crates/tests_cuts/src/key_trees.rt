@@ -4,7 +4,7 @@ ghost use Rattle.cut_parts.specs.Borders.{MayBeBuilt};
 use ba_tree::KeyTree;
 use bw_types::{Point, Tree};
 use cut_parts::BorderTree;
-use page_ports::{MemStage, PageFault, Pages, blank_page};
+use ports::{MemStage, PageFault, Pages, blank_page};
 use std::test::Fail;
 
 // The latest point first. A border over one dimension counts by the first key alone.

@@ -1,5 +1,5 @@
 //! Pages of cuts by hand: the entry whose region holds some keys, and a page of 65 entries that is split.
-ghost use Rattle.cut_pages.specs.Nodes.{AreNodes};
+ghost use Rattle.cut_parts.specs.Nodes.{AreNodes};
 ghost use Rattle.bw_types.specs.Empty.{empty_tree};
 ghost use Rattle.page_layout.specs.CutPage.{entry_count};
 ghost use Rattle.page_layout.specs.declared.cut_page.CutNode.TheVariants.{Cut, Entry};
@@ -7,7 +7,7 @@ ghost use Rattle.std.specs.Prelude.{◌≡◌, ◌≤◌, length};
 
 use arrayvec::ArrayVec;
 use bw_types::{Region, Tree};
-use cut_pages::{find, region_of, split_first_cut};
+use cut_parts::{find, region_of, split_first_cut};
 use page_layout::{CutNode, CutPage};
 use std::test::Fail;
 

@@ -2,7 +2,7 @@
 ghost use Rattle.std.specs.Prelude.{◌≤◌};
 
 use bw_types::Point;
-use cut_points::{border_points, drop_key, may_be_built, median_cut};
+use cut_parts::{border_points, drop_key, may_be_built, median_cut};
 use std::test::Fail;
 
 // Where the regions of trees end, 2^64 - 2^32.

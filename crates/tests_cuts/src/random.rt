@@ -4,7 +4,7 @@ use crate::beside::is_right;
 use crate::bounds::most_added;
 use crate::samples::{add, draw, drop_all, pages_in_use};
 use bw_types::{Point, Tree, point_key};
-use page_ports::{MemStage, StageFault};
+use ports::{MemStage, StageFault};
 use std::alloc::Global;
 use std::test::Fail;
 

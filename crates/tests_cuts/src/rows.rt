@@ -5,10 +5,9 @@ use crate::samples::{
 use crate::walker::cuts_of;
 use ba_tree::PlaneTree;
 use bw_types::Tree;
-use cut_pages::read_leaf;
-use cut_parts::BorderTree;
+use cut_parts::{BorderTree, read_leaf};
 use page_layout::{CutNode, CutPage};
-use page_ports::{MemStage, PageFault, StageFault};
+use ports::{MemStage, PageFault, StageFault};
 use std::alloc::Global;
 use std::test::Fail;
 

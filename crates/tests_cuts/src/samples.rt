@@ -1,13 +1,9 @@
 //! Points, and trees of cuts of them over two dimensions or over three, as the tests here take them.
-use ba_tree::{KeyTree, PlaneTree};
+use ba_tree::{KeyTree, PlaneTree, build, collect, drop_tree, tree_add, tree_sum};
 use bw_types::{Point, Tree, point_key};
-use cut_build::{build, collect, drop_tree};
-use cut_index::tree_add;
-use cut_pages::no_cuts;
-use cut_points::may_be_built;
-use cut_query::tree_sum;
+use cut_parts::{may_be_built, no_cuts};
 use page_layout::CutPage;
-use page_ports::{MemStage, PageFault, Pages, Stage, StageFault, blank_page};
+use ports::{MemStage, PageFault, Pages, Stage, StageFault, blank_page};
 use std::alloc::{AllocError, Global};
 
 /// The greatest key of a sum, 2^64 - 2^32 - 1.
@@ -136,7 +132,7 @@ pub(crate) fn drop_all(stage: &mut MemStage, three: bool, tree: &Tree) -> Result
 /// The nodes that a page holds.
 pub(crate) fn read_cuts<P: Pages>(pages: &mut P, page: u64) -> Result<CutPage, PageFault> {
     let mut cuts = no_cuts();
-    cut_pages::read_cuts(pages, page, &mut blank_page(), &mut cuts)?;
+    cut_parts::read_cuts(pages, page, &mut blank_page(), &mut cuts)?;
     Ok(cuts)
 }
 

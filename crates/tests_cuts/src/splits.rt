@@ -6,7 +6,7 @@ use ba_tree::KeyTree;
 use bw_types::{Point, Tree, point_key};
 use cut_parts::BorderTree;
 use page_layout::{CutNode, CutPage};
-use page_ports::{MemStage, PageFault, Pages, Stage, StageFault, blank_page};
+use ports::{MemStage, PageFault, Pages, Stage, StageFault, blank_page};
 use std::alloc::Global;
 use std::test::Fail;
 

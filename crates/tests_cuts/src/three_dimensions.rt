@@ -7,7 +7,7 @@ use ba_tree::{BaIndex, dom_sum};
 use bw_types::{Point, Tree, point_key};
 use dom_index::{DomIndex, PointList};
 use page_layout::{CutNode, CutPage, PointLeaf, Spelled};
-use page_ports::{MemStage, PageFault, Pages, StageFault, blank_page};
+use ports::{MemStage, PageFault, Pages, StageFault, blank_page};
 use std::alloc::{AllocError, Global};
 use std::test::Fail;
 

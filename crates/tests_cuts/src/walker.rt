@@ -1,9 +1,9 @@
 //! A walker through the pages of a tree of cuts, which tells whether its cuts and leaves are as they have to be.
 use crate::samples::read_cuts;
 use bw_types::{Point, Region, Tree};
-use cut_pages::read_leaf;
+use cut_parts::read_leaf;
 use page_layout::{CutNode, CutPage};
-use page_ports::{Pages, StageFault};
+use ports::{Pages, StageFault};
 use std::alloc::{AllocError, Global};
 
 /// A cut that the walker met.

@@ -5,7 +5,7 @@ ghost use Rattle.page_cache.specs.Cache.{Agrees, kept_pages};
 
 use page_cache::Cache;
 use page_disk::{Area, Disk, Failed, MemDisk};
-use page_ports::{Page, PageFault};
+use ports::{Page, PageFault};
 use std::alloc::{AllocError, Global};
 use std::test::Fail;
 

@@ -1,6 +1,6 @@
 //! What the fakes and the files do, as the model of a disk says.
 use page_disk::{Area, Disk, Failed, FileDisk, MemDisk, PlainDisk, Torn, crash_laws};
-use page_ports::Page;
+use ports::Page;
 use std::alloc::{AllocError, Global};
 use std::fs;
 use std::test::Fail;

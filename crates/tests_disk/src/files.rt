@@ -1,6 +1,6 @@
 //! A disk over files holds what a disk in memory holds that gets the same calls.
 use page_disk::{Area, Disk, Failed, Failure, FileCall, FileDisk, PlainDisk};
-use page_ports::Page;
+use ports::Page;
 use std::fs;
 use std::os::unix::fs::symlink;
 use std::test::Fail;

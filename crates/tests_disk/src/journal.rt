@@ -3,7 +3,7 @@ ghost use Rattle.std.specs.Prelude.{◌≡◌, ◌≤◌, ◌<◌, ◌+◌, ◌^
 ghost use Rattle.redo_journal.specs.Images.{image_map};
 
 use page_disk::{Area, Disk, Failed, MemDisk, Torn};
-use page_ports::Page;
+use ports::Page;
 use redo_journal::{
     Gate, Images, JournalFault, NoMemory, commit, create, ready, replay, settling_laws,
 };

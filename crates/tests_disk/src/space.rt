@@ -8,10 +8,10 @@ use arrayvec::ArrayVec;
 use bw_types::{Params, Tree};
 use page_disk::{Area, Disk, Failed, MemDisk, Torn};
 use page_layout::{Meta, Spelled, Super};
-use page_ports::{Page, PageFault, Pages, Stage, StageFault, blank_page};
 use page_space::{
     OpenFault, OpenRefused, Space, Staged, chain_is_free, created_holds, held_opens, holds_one,
 };
+use ports::{Page, PageFault, Pages, Stage, StageFault, blank_page};
 use redo_journal::create;
 use std::alloc::Global;
 use std::test::Fail;

@@ -5,7 +5,7 @@ use crate::version_trees::holds_no_pages;
 use bw_types::Tree;
 use mvsb_tree::{mv_add, mv_free, mv_value};
 use page_layout::{MvEntry, MvNode, read_page};
-use page_ports::{FailingStage, MemStage, PageFault, Stage, StageFault};
+use ports::{FailingStage, MemStage, PageFault, Stage, StageFault};
 use sb_tree::sb_value;
 use std::alloc::{AllocError, Global};
 use std::test::Fail;

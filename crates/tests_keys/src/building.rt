@@ -4,7 +4,7 @@ ghost use Rattle.std.specs.List.{All};
 
 use bw_types::{Point, Tree};
 use mvsb_tree::{mv_add, mv_build};
-use page_ports::{MemStage, Pages, StageFault, blank_page};
+use ports::{MemStage, Pages, StageFault, blank_page};
 use std::alloc::{AllocError, Global};
 use std::test::Fail;
 

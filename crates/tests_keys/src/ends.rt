@@ -4,7 +4,7 @@ ghost use Rattle.std.specs.Prelude.{◌≤◌};
 use crate::broken::{noise, tree_of};
 use bw_types::Tree;
 use mvsb_tree::mv_add;
-use page_ports::{MemStage, Page, Stage, StageFault, blank_page};
+use ports::{MemStage, Page, Stage, StageFault, blank_page};
 use std::test::Fail;
 
 // Puts a number of so many bytes at a byte of the page, its high byte first.

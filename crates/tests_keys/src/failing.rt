@@ -3,7 +3,7 @@ ghost use Rattle.std.specs.Prelude.{◌≤◌};
 
 use bw_types::Tree;
 use mvsb_tree::{mv_add, mv_free, mv_value};
-use page_ports::{FailingStage, MemStage, PageFault, StageFault};
+use ports::{FailingStage, MemStage, PageFault, StageFault};
 use std::alloc::Global;
 use std::test::Fail;
 

@@ -2,7 +2,7 @@
 use bw_types::{Point, Tree};
 use key_check::key_tree_stands;
 use mvsb_tree::mv_add;
-use page_ports::MemStage;
+use ports::MemStage;
 use std::alloc::Global;
 use std::test::Fail;
 

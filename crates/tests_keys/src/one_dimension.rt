@@ -6,7 +6,7 @@ use crate::broken::{noise, tree_of};
 use bw_types::{Point, Tree};
 use dom_index::DomIndex;
 use mvsb_tree::MvIndex;
-use page_ports::{MemStage, PageFault, StageFault};
+use ports::{MemStage, PageFault, StageFault};
 use std::test::Fail;
 
 fn point_at(key: u16, version: u16, weight: u128) -> Point

@@ -3,7 +3,7 @@ use arrayvec::ArrayVec;
 use bw_types::Tree;
 use mvsb_tree::{mv_free, mv_value};
 use page_layout::{MvEntry, MvNode, Spelled, make_page};
-use page_ports::{MemStage, PageFault, Pages, Stage, StageFault, blank_page};
+use ports::{MemStage, PageFault, Pages, Stage, StageFault, blank_page};
 use sb_tree::sb_add;
 use std::test::Fail;
 

@@ -1,7 +1,7 @@
 //! Trees over versions in memory that stand for their additions, and such as do not.
 use bw_types::{Point, Tree};
 use key_check::{changes_stand, version_tree_stands};
-use page_ports::MemStage;
+use ports::MemStage;
 use sb_tree::sb_add;
 use std::alloc::{AllocError, Global};
 use std::test::Fail;

@@ -2,7 +2,7 @@
 ghost use Rattle.std.specs.Prelude.{◌≤◌};
 
 use bw_types::Tree;
-use page_ports::{
+use ports::{
     FREE_PAGE, FailingStage, MemStage, Page, PageFault, Pages, Stage, StageFault, blank_page,
 };
 use sb_tree::{sb_add, sb_free, sb_value};

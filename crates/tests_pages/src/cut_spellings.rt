@@ -1,7 +1,7 @@
 //! Pages of cuts that have borders, made byte by byte, read, and written again.
 use bw_types::Tree;
 use page_layout::{CutNode, CutPage, CutStep, Spelled, TreePage, View, cuts_stand_in_order};
-use page_ports::{Page, blank_page};
+use ports::{Page, blank_page};
 use std::process::Abort;
 use std::test::Fail;
 

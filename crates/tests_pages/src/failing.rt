@@ -1,5 +1,5 @@
 //! Which call fails, and how.
-use page_ports::{FailingStage, MemStage, PageFault, Pages, Stage, StageFault, blank_page};
+use ports::{FailingStage, MemStage, PageFault, Pages, Stage, StageFault, blank_page};
 use std::test::Fail;
 
 // The second get fails, and each call of another kind that is the next one; how they answered.

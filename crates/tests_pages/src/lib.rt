@@ -6,6 +6,6 @@ mod cut_spellings;
 #[cfg(test)]
 mod failing;
 #[cfg(test)]
-mod ports;
-#[cfg(test)]
 mod spellings;
+#[cfg(test)]
+mod toy_chain;

@@ -4,7 +4,7 @@ use page_layout::{
     FreePage, JournalHead, LifeEntry, LifeNode, Meta, MvEntry, MvNode, PointLeaf, SbEntry, SbNode,
     Spelled, Super, TableEntry, TableNode, TreePage, View, footprint_laws,
 };
-use page_ports::{Page, blank_page};
+use ports::{Page, blank_page};
 use std::process::Abort;
 use std::test::Fail;
 

@@ -1,7 +1,7 @@
 //! Rows that ask for spans, with their replies as text.
 use crate::spans::{Kept, spans_of, two_versions};
-use byte_ports::{MemSink, MemSource};
 use page_disk::PlainDisk;
+use ports::{MemSink, MemSource};
 use row_machine::{Ending, answer_lines};
 use span_planes::SpanDesk;
 use std::alloc::{AllocError, Global};

@@ -4,12 +4,12 @@ ghost use Rattle.std.specs.List.{list_all};
 ghost use Rattle.bw_types.specs.Fits.{IsInRange, row_fits};
 
 use bw_types::{Kind, Object, Params, Query, Row, object_fits, query_fits};
-use byte_ports::{MemSink, MemSource};
 use dom_index::PointList;
 use grid_report::{Grid, GridDesk, GridFault, grid, grid_fits};
 use page_disk::PlainDisk;
 use page_space::OpenFault;
 use page_warehouse::{Created, Warehouse, create};
+use ports::{MemSink, MemSource};
 use row_machine::{Ending, answer_lines};
 use std::alloc::{AllocError, Global};
 use std::test::Fail;

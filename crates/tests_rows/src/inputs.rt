@@ -55,7 +55,7 @@ fn reads_good_lines(rt: HostRuntime) {
             b"\"commit\",1".as_slice(),
             Some(Input::Commit { session: 1 }),
         ),
-        (b"drop,2".as_slice(), Some(Input::Forget { session: 2 })),
+        (b"drop,2".as_slice(), Some(Input::Drop { session: 2 })),
         (
             b"\"integral\",now,120,139,190,209".as_slice(),
             ask(Kind::Integral),

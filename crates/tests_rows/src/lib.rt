@@ -14,10 +14,10 @@ mod machine;
 #[cfg(test)]
 mod no_version;
 #[cfg(test)]
-mod ports;
-#[cfg(test)]
 mod random_spans;
 #[cfg(test)]
 mod spans;
 #[cfg(test)]
 mod stopped;
+#[cfg(test)]
+mod streams;

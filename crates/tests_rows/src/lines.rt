@@ -1,6 +1,6 @@
 //! Lines of inputs that come in pieces.
-use byte_ports::MemSource;
 use line_reader::{Line, LineReader};
+use ports::MemSource;
 use std::alloc::Global;
 use std::test::Fail;
 

@@ -1,5 +1,5 @@
 //! A responder of the tests, under the loop that answers line by line.
-use byte_ports::{MemSink, MemSource};
+use ports::{MemSink, MemSource};
 use row_machine::{Ending, RespondFault, Responder, answer_lines};
 use std::alloc::Global;
 use std::test::Fail;

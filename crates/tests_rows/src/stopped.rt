@@ -2,8 +2,8 @@
 use crate::spans::{asked, two_versions};
 use dom_index::PointList;
 use page_disk::{Area, Disk, Failed, MemDisk, Torn};
-use page_ports::{Page, blank_page};
 use page_space::OpenFault;
+use ports::{Page, blank_page};
 use span_planes::{Derived, Spans, derive};
 use std::alloc::Global;
 use std::test::Fail;

@@ -5,7 +5,7 @@ use crate::forest::{Entered, ask, empty, object_of, params_of, put_all, query_of
 use crate::random_boxes::{drawn_box, drawn_life};
 use bw_types::{Kind, Params};
 use corner_forest::{Entry, Forest};
-use page_ports::{FailingStage, MemStage, StageFault};
+use ports::{FailingStage, MemStage, StageFault};
 use std::alloc::{AllocError, Global};
 use std::test::Fail;
 

@@ -7,7 +7,7 @@ use arrayvec::ArrayVec;
 use bw_types::{Dated, Object, Tree};
 use object_table::{enter, find, mark_withdrawn, walk};
 use page_layout::{LifeEntry, LifeNode, read_page};
-use page_ports::{
+use ports::{
     FREE_PAGE, FailingStage, MemStage, Page, PageFault, Pages, Stage, StageFault, blank_page,
 };
 use std::alloc::Global;

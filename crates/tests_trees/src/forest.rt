@@ -8,7 +8,7 @@ ghost use Rattle.corner_forest.specs.Entries.{root_count as count_of_roots};
 use bw_types::{Kind, Object, Params, Query, object_fits, query_fits};
 use corner_forest::{Entry, Forest, below, count, enter, integral, root_count, sum};
 use dom_index::PointList;
-use page_ports::{MemStage, Stage, StageFault};
+use ports::{MemStage, Stage, StageFault};
 use std::alloc::Global;
 use std::test::Fail;
 

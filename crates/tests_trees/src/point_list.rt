@@ -4,7 +4,7 @@ ghost use Rattle.dom_index.specs.Points.{AreKeysBelow};
 
 use bw_types::{Point, Tree};
 use dom_index::{DomIndex, PointList};
-use page_ports::{MemStage, PageFault, StageFault};
+use ports::{MemStage, PageFault, StageFault};
 use std::test::Fail;
 
 // The greatest keys that a sum may ask for.

@@ -3,7 +3,7 @@ use arrayvec::ArrayVec;
 use bw_types::{Dated, Object, Tree};
 use object_table::{find, find_old, free_old, walk, walk_leaf, walk_old};
 use page_layout::{LifeEntry, LifeNode, TableEntry, TableNode, TreePage, make_page};
-use page_ports::{MemStage, PageFault, Stage, StageFault};
+use ports::{MemStage, PageFault, Stage, StageFault};
 use std::test::Fail;
 
 // A life that was added in version 1, and withdrawn in version 2 where it is told so.

@@ -3,7 +3,7 @@ use arrayvec::ArrayVec;
 use bw_types::{Dated, Object, Tree};
 use object_table::{renew, walk};
 use page_layout::{Spelled, TableEntry, TableNode, make_page};
-use page_ports::{FREE_PAGE, MemStage, PageFault, Pages, Stage, StageFault};
+use ports::{FREE_PAGE, MemStage, PageFault, Pages, Stage, StageFault};
 use std::test::Fail;
 
 // The object of this place in a table. Every other one was withdrawn.

@@ -1,6 +1,6 @@
 //! Corners of boxes and of queries.
-use box_corners::{integral_corner, meet_corner, object_corner, sign};
 use bw_types::{Kind, Object, Query};
+use corner_weights::{integral_corner, meet_corner, object_corner, sign};
 use std::test::Fail;
 
 #[test]

@@ -2,9 +2,8 @@
 ghost use Rattle.std.specs.Prelude.{◌≡◌, ◌≤◌, ◌<◌, ◌^◌, IsTrue, IsSome};
 ghost use Rattle.bw_types.specs.Fits.{IsInRange, object_fits};
 
-use box_corners::{object_corner, sign};
 use bw_types::{Object, Params, object_fits, res_add, res_signed};
-use poly_moments::{eval, plane_count, plane_weight};
+use corner_weights::{eval, object_corner, plane_count, plane_weight, sign};
 use std::test::Fail;
 
 // Six times the integral for each dimension, by the signed values of the planes at the corners of the query.

@@ -2,7 +2,7 @@
 ghost use Rattle.bw_types.specs.Fits.{IsInRange};
 
 use bw_types::{Object, Params, object_fits};
-use poly_moments::mass;
+use corner_weights::mass;
 use std::test::Fail;
 
 fn parabola(high: u32, middle: i64, last: i64) -> Object {

@@ -8,7 +8,7 @@ ghost use Rattle.session_book.specs.Told.{life_in};
 
 use crate::fitting::rows_fit;
 use bw_types::{Change, Object, Params, Reason, Refusal, Row};
-use page_ports::PageFault;
+use ports::PageFault;
 use session_book::{BookFault, Life, Seen, Sessions, StageRow, first_refusal};
 use std::alloc::Global;
 use std::test::Fail;

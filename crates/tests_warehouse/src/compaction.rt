@@ -2,9 +2,9 @@
 use crate::plain_houses::{Stored, made, object, opened, put};
 use bw_types::{Object, Row};
 use compact_store::{Compacted, compact};
-use history_list::{Event, gather};
 use page_disk::PlainDisk;
 use page_space::OpenFault;
+use page_warehouse::{Event, gather};
 use std::alloc::Global;
 use std::test::Fail;
 use warehouse::House;

@@ -1,8 +1,8 @@
 //! A warehouse in memory, and the events that are gathered from it.
 use crate::plain_houses::{Stored, made, object, put};
 use bw_types::{Object, Row};
-use history_list::{Event, gather};
 use page_space::OpenFault;
+use page_warehouse::{Event, gather};
 use std::alloc::Global;
 use std::test::Fail;
 use warehouse::House;

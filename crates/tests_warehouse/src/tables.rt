@@ -4,12 +4,12 @@ ghost use Rattle.page_layout.specs.Dated.{by_life_fits};
 
 use arrayvec::ArrayVec;
 use bw_types::{Dated, Object, Params, Tree};
-use history_list::Event;
+use image_check::{Told, are_lives, is_lawful, judge, numbers_hold, read_table, told_events};
 use object_table::{Form, enter};
 use page_layout::{Meta, Spelled, TableEntry, TableNode, make_page};
-use page_ports::{MemStage, Pages, Stage, StageFault, blank_page};
+use page_warehouse::Event;
+use ports::{MemStage, Pages, Stage, StageFault, blank_page};
 use std::test::Fail;
-use table_check::{Told, are_lives, is_lawful, judge, numbers_hold, read_table, told_events};
 
 fn point(id: u64) -> Object {
     Object {

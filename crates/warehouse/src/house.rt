@@ -8,7 +8,7 @@ ghost use Rattle.bw_types.specs.declared.params.Params.{Params};
 ghost use Rattle.bw_types.specs.declared.query.Query.{Query};
 ghost use Rattle.bw_types.specs.declared.refusal.Refusal.{Refusal};
 ghost use Rattle.bw_types.specs.declared.row.Row.{Row};
-ghost use Rattle.counts.specs.Count.{Rose};
+ghost use Rattle.ports.specs.Count.{Rose};
 ghost use Rattle.warehouse.specs.Committed.{Answers, IfDone, IfKept, IfPageLimit, IsCommitCause, after_commit, device_out};
 ghost use Rattle.warehouse.specs.Left.{CrashLeavesEither, DeviceGoesOn, IsAsBefore, IsPutLast};
 

@@ -9,7 +9,7 @@ ghost use Rattle.bw_types.specs.Fits.{IsInRange, coordinate, coefficient_count};
 ghost use Rattle.bw_types.specs.Integral.{exponent_lists, moment, common_low, common_high, common_moment, integral_of_degree, integral_over};
 
 use bw_types::{Object, Params, Query, coefficient_count};
-use poly_moments::exponent;
+use corner_weights::exponent;
 
 /// What one object gives to an integral over the query's box, times 6 for each dimension, modulo
 /// `2^128`; 0 without a degree.

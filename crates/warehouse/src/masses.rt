@@ -7,7 +7,7 @@ ghost use Rattle.bw_types.specs.Mass.{mass_limit};
 ghost use Rattle.bw_types.specs.Refusals.{total_mass};
 
 use bw_types::{Params, Row};
-use poly_moments::mass;
+use corner_weights::mass;
 
 /// This mass and the masses of the objects that the rows add.
 pub fn mass_after(mass: u128, params: &Params, rows: &[Row]) -> u128

@@ -4,7 +4,7 @@ ghost use Rattle.warehouse.specs.Told.{life_of_state};
 ghost use Rattle.warehouse.specs.Kept.{state_in};
 
 use crate::life::State;
-use page_ports::PageFault;
+use ports::PageFault;
 use session_book::{Life, Seen};
 use std::collections::BTreeMap;
 

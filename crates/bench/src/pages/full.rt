@@ -1,5 +1,5 @@
 //! Full pages, byte by byte.
-use page_ports::{Page, blank_page};
+use ports::{Page, blank_page};
 
 fn fronted(kind: u8, level: u8, count: u8) -> Page {
     let mut page = blank_page();

@@ -6,7 +6,7 @@ use page_layout::{
     CutPage, FreePage, JournalHead, LifeNode, Meta, MvNode, PointLeaf, SbNode, Spelled, Super,
     TableNode, View,
 };
-use page_ports::{Page, blank_page};
+use ports::{Page, blank_page};
 use std::io;
 use std::rt::Clock;
 use std::time::Instant;

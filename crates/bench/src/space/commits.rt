@@ -2,8 +2,8 @@
 
 use crate::space::made::meta_of;
 use page_disk::Disk;
-use page_ports::{Pages, Stage, StageFault, blank_page};
 use page_space::{Space, Staged};
+use ports::{Pages, Stage, StageFault, blank_page};
 
 // Gives out so many pages, and puts their numbers into the list.
 fn allot_all<D: Disk>(

@@ -7,8 +7,8 @@ use arrayvec::ArrayVec;
 use bw_types::{Params, Tree};
 use page_disk::Disk;
 use page_layout::{Meta, Spelled, Super};
-use page_ports::blank_page;
 use page_space::Space;
+use ports::blank_page;
 use redo_journal::{Gate, create, ready};
 use std::alloc::Global;
 

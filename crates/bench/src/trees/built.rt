@@ -6,13 +6,10 @@ use crate::trees::draws::Draws;
 use crate::trees::measured::{hundredths, rate};
 use crate::trees::put_count::{ByKind, PutCount};
 use anyhow::{Result, bail};
-use ba_tree::{KeyTree, PlaneTree};
+use ba_tree::{KeyTree, PlaneTree, build, collect, drop_tree, tree_sum};
 use bw_types::{Point, Tree};
-use cut_build::{build, collect, drop_tree};
-use cut_parts::BorderTree;
-use cut_points::may_be_built;
-use cut_query::tree_sum;
-use page_ports::{MemStage, PageFault, Pages, Stage, blank_page};
+use cut_parts::{BorderTree, may_be_built};
+use ports::{MemStage, PageFault, Pages, Stage, blank_page};
 use std::alloc::{AllocError, Global};
 use std::time::Instant;
 

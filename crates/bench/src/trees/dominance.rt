@@ -3,10 +3,9 @@
 use crate::trees::built::build_cuts;
 use crate::trees::draws::Draws;
 use anyhow::Result;
-use ba_tree::KeyTree;
+use ba_tree::{KeyTree, tree_sum};
 use bw_types::{Point, Tree, point_key, query_key};
-use cut_query::tree_sum;
-use page_ports::{MemStage, PageFault};
+use ports::{MemStage, PageFault};
 use std::alloc::{AllocError, Global};
 use std::time::Instant;
 

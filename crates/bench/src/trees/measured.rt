@@ -3,7 +3,7 @@
 use crate::trees::draws::Draws;
 use anyhow::Result;
 use bw_types::Tree;
-use page_ports::{MemStage, PageFault, StageFault};
+use ports::{MemStage, PageFault, StageFault};
 use sb_tree::{sb_add, sb_value};
 use std::time::Instant;
 

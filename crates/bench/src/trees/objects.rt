@@ -7,7 +7,7 @@ use crate::trees::measured::rate;
 use anyhow::Result;
 use bw_types::{Dated, Object, Tree};
 use object_table::{enter, find};
-use page_ports::{MemStage, PageFault, StageFault};
+use ports::{MemStage, PageFault, StageFault};
 use std::time::Instant;
 
 const QUERIES: u32 = 100_000;

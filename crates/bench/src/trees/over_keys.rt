@@ -7,7 +7,7 @@ use crate::trees::put_count::{ByKind, PutCount};
 use anyhow::{Result, bail};
 use bw_types::Tree;
 use mvsb_tree::{mv_add, mv_value};
-use page_ports::{MemStage, PageFault, StageFault};
+use ports::{MemStage, PageFault, StageFault};
 use std::alloc::{AllocError, Global};
 use std::time::Instant;
 

@@ -5,7 +5,7 @@ use crate::trees::draws::Draws;
 use anyhow::Result;
 use bw_types::Tree;
 use mvsb_tree::{mv_add, mv_value};
-use page_ports::{MemStage, StageFault};
+use ports::{MemStage, StageFault};
 use sb_tree::{sb_add, sb_value};
 
 const VERSIONS: usize = 100;

@@ -1,8 +1,7 @@
 //! A stage that counts its puts.
 ghost use Rattle.std.specs.Prelude.{◌≡◌, IsTrue};
 
-use counts::raised;
-use page_ports::{Page, PageFault, Pages, Stage, StageFault};
+use ports::{Page, PageFault, Pages, Stage, StageFault, raised};
 
 /// How many pages, by what they hold.
 #[derive(Clone, Copy, Default)]

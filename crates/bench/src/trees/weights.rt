@@ -4,7 +4,7 @@ ghost use Rattle.bw_types.specs.Fits.{IsInRange};
 
 use anyhow::Result;
 use bw_types::{Object, Params, coefficient_count};
-use poly_moments::{box_powers, plane_count, plane_weight_by};
+use corner_weights::{box_powers, plane_count, plane_weight_by};
 use std::time::Instant;
 
 fn params_of(dims: u8, degree: u8) -> Params

@@ -8,8 +8,8 @@ ghost use Rattle.line_reader.specs.Skip.{SkipsTo};
 
 use super::intake::{Intake, LONGEST_HELD, Stop};
 use super::{LONGEST_LINE, Line};
-use byte_ports::Source;
 use memchr::memchr;
+use ports::Source;
 
 const LINE_FEED: u8 = b'\n';
 

@@ -1,8 +1,8 @@
 //! The buffer between a source and its lines.
 ghost use Rattle.std.specs.Prelude.{◌≡◌, ◌+◌, ◌<◌, ◌≤◌, [], ◌++◌, IsTrue, length, take, drop, IfOk, IfErr, OnOk, OnErr};
-ghost use Rattle.counts.specs.Count.{Rose};
+ghost use Rattle.ports.specs.Count.{Rose};
 
-use byte_ports::{Failed, Source};
+use ports::{Failed, Source};
 use std::marker::Model;
 
 /// The most bytes that are held where more are taken: a line that is not too long, without its line feed.

@@ -1,7 +1,7 @@
 //! Line after line is answered, and the replies are put.
 ghost use Rattle.std.specs.Prelude.{◌≡◌, ◌≢◌, ◌⊎◌, ℕ, ◌+◌, ◌<◌, ◌≤◌, ◌++◌, ◌^◌, [], IsTrue, IfErr, OnOk, OnErr, None, Some, Err, length};
-ghost use Rattle.counts.specs.Count.{Rose};
-ghost use Rattle.byte_ports.specs.Written.{WritesPart};
+ghost use Rattle.ports.specs.Count.{Rose};
+ghost use Rattle.ports.specs.Written.{WritesPart};
 ghost use Rattle.line_reader.specs.Lines.{PassesNoLineFeed};
 ghost use Rattle.line_reader.specs.Reader.{to_come};
 ghost use Rattle.line_reader.specs.declared.lines.Line.TheVariants as answered;
@@ -15,9 +15,9 @@ use super::{RespondFault, Responder};
 use crate::ending::Ending;
 use crate::outbox::Outbox;
 use crate::serving::{INPUT_LIMIT, put_due};
-use byte_ports::{Sink, Source};
 use csv_rows::Reply;
 use line_reader::{Line, LineReader, lines_join, whole_joins, whole_part_of_passed};
+use ports::{Sink, Source};
 use std::alloc::Global;
 
 // Answers the next line, which has this number, or ends the run. A line that is longer than a line may be is bad, whatever its bytes.

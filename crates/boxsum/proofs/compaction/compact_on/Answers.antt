@@ -1,8 +1,8 @@
 use Rattle.std.proofs.Common.{◌≡◌, ◌≤◌, ℕ, IsTrue, List, true, false, ◌++◌, refl, sym, ◌∙◌, ap, ap₂, subst, inl, inr, arith}
-use Rattle.counts.specs.Count.{Rose}
+use Rattle.ports.specs.Count.{Rose}
 use Rattle.bw_types.specs.History.{History, last_version}
 use Rattle.bw_types.specs.declared.params.Params.{Params}
-use Rattle.history_list.specs.Told.{HasNumbersOf}
+use Rattle.page_warehouse.specs.Told.{HasNumbersOf}
 use Rattle.compact_store.specs.Compacted.{LeavesPart, second_out}
 use Rattle.compact_store.specs.Kept.{kept}
 use Rattle.compact_store.specs.declared.compacting.Compacted.{Compacted as CompactedName}

@@ -4,7 +4,7 @@ use Rattle.history_text.specs.Rebuilt.{Rebuilds}
 use Rattle.history_text.specs.Rows.{rows_of}
 use Rattle.page_layout.specs.declared.meta.Meta.{Meta}
 use Rattle.page_warehouse.specs.Shown.{disk_in, meta_in}
-use Rattle.byte_ports.specs.Written.{WritesPart}
+use Rattle.ports.specs.Written.{WritesPart}
 use Rattle.boxsum.specs.Ran.{Exports, PrintsSome}
 use Rattle.boxsum.specs.declared.status.Status.TheVariants as status
 use Rattle.boxsum.proofs.Endings.{no_fault}

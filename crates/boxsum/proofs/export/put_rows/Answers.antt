@@ -1,9 +1,9 @@
 use Rattle.std.proofs.Common.{◌≡◌, List, true, ◌++◌, sym, ◌∙◌, subst}
 use Rattle.bw_types.specs.Fits.{IsInRange}
 use Rattle.bw_types.specs.declared.params.Params.{Params}
-use Rattle.byte_ports.specs.Written.{WritesPart}
-use Rattle.history_list.specs.Events.{AreEventsOf}
-use Rattle.history_list.specs.declared.event.Event.{Event}
+use Rattle.ports.specs.Written.{WritesPart}
+use Rattle.page_warehouse.specs.Events.{AreEventsOf}
+use Rattle.page_warehouse.specs.declared.event.Event.{Event}
 use Rattle.history_text.specs.Rows.{rows_of}
 use Rattle.page_warehouse.specs.Shown.{params_in}
 use Rattle.boxsum.proofs.Exported.{gathers_nothing, gathers_pages, gathers_undamaged, whole_is_part}

@@ -1,11 +1,11 @@
 use Rattle.std.proofs.Common.{◌≡◌, ◌≢◌, ℕ, ◌+◌, ◌≤◌, IsTrue, List, [], ◌++◌, inl, inr, refl, sym, ◌∙◌, ap, ap₂, subst}
 use Rattle.std.specs.Int.{int_wrap, w128}
-use Rattle.byte_ports.specs.Memory.{SinkState, SourceState}
+use Rattle.ports.specs.Memory.{SinkState, SourceState}
 use Rattle.page_disk.specs.Since.{LeavesOnly}
 use Rattle.csv_rows.specs.Machine.{after, begun, text}
 use Rattle.line_reader.specs.Lines.{lines}
 use Rattle.page_warehouse.specs.Needs.{batch_need, pages_charge}
-use Rattle.byte_ports.specs.Written.{WritesPart}
+use Rattle.ports.specs.Written.{WritesPart}
 use Rattle.row_machine.specs.Serving.{lines_need}
 use Rattle.sample_rows.specs.Summary.{answers_in, sample_params, summary_with}
 use Rattle.boxsum.specs.Ends.{ends_sample}

@@ -1,5 +1,5 @@
 use Rattle.std.proofs.Common.{rules, ◌≡◌, ℕ, List, ◌∙◌, ap, subst}
-use Rattle.byte_ports.specs.Written.{WritesPart}
+use Rattle.ports.specs.Written.{WritesPart}
 use Rattle.row_machine.proofs.Parts.{writes_front}
 use Rattle.sample_rows.specs.Summary.{summary_with}
 use Rattle.boxsum.proofs.sample.put_summary.Goals as goal

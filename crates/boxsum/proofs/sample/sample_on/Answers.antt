@@ -8,7 +8,7 @@ use Rattle.line_reader.specs.Lines.{lines}
 use Rattle.page_warehouse.specs.Created.{IsNew}
 use Rattle.page_warehouse.specs.Needs.{batch_need, pages_charge}
 use Rattle.row_machine.specs.Serving.{lines_need}
-use Rattle.byte_ports.specs.Written.{WritesPart}
+use Rattle.ports.specs.Written.{WritesPart}
 use Rattle.sample_rows.specs.Generator.{rows}
 use Rattle.sample_rows.specs.Summary.{answers_in, sample_params, summary, summary_with}
 use Rattle.boxsum.specs.Runs.{LacksPagesAmid}

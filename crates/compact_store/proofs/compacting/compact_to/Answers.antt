@@ -1,7 +1,7 @@
 use Rattle.std.proofs.Common.{◌≡◌, ℕ, ◌≤◌, Err, List, drop, length, sym, ◌∙◌, ap, subst, arith}
 use Rattle.bw_types.specs.History.{History, last_version}
 use Rattle.bw_types.specs.Lawful.{IsLawful}
-use Rattle.history_list.specs.declared.event.Event.{Event}
+use Rattle.page_warehouse.specs.declared.event.Event.{Event}
 use Rattle.page_warehouse.specs.Shown.{meta_in, params_in}
 use Rattle.compact_store.specs.Compacted.{LeavesPart, LeavesSome}
 use Rattle.compact_store.specs.Cuts.{batches_of, count_to}

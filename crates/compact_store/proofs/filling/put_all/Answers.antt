@@ -1,5 +1,5 @@
 use Rattle.std.proofs.Common.{◌+◌, ◌-◌, subst}
-use Rattle.history_list.specs.Batches.{batches_from}
+use Rattle.page_warehouse.specs.Batches.{batches_from}
 use Rattle.compact_store.specs.Cuts.{batches_by_size}
 use Rattle.compact_store.specs.Putting.{Puts}
 use Rattle.compact_store.proofs.Steps.{puts_stop, puts_then}

@@ -1,7 +1,7 @@
 use Rattle.std.proofs.Common.{◌≡◌, ◌+◌, ◌++◌, drop, map, sym, ◌∙◌, ap, subst}
 use Rattle.bw_types.specs.declared.change.Change.TheVariants.{Add}
 use Rattle.history_laws.specs.Living.{objects_at}
-use Rattle.history_list.specs.Events.{change_in}
+use Rattle.page_warehouse.specs.Events.{change_in}
 use Rattle.compact_store.proofs.LiveAdds.{adds_all, adds_on, adds_stay}
 use Rattle.compact_store.proofs.keeping.adds_at.Goals.{then-is_live_at+in_ok-push, else-is_live_at}
 use Rattle.compact_store.proofs.keeping.adds_at.Goals as goal

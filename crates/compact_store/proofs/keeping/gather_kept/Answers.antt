@@ -2,9 +2,9 @@ use Rattle.std.proofs.Common.{◌≡◌, true, false, List, sym, ◌∙◌, subs
 use Rattle.bw_types.specs.History.{History, live}
 use Rattle.bw_types.specs.Lives.{lives}
 use Rattle.page_warehouse.specs.Shown.{HoldsHistory, disk_in, params_in}
-use Rattle.history_list.specs.declared.event.Event.{Event}
-use Rattle.history_list.specs.declared.gathering.GatherFault.TheVariants.{Damaged}
-use Rattle.history_list.proofs.Houses.{holds_now}
+use Rattle.page_warehouse.specs.declared.event.Event.{Event}
+use Rattle.page_warehouse.specs.declared.gathering.GatherFault.TheVariants.{Damaged}
+use Rattle.page_warehouse.proofs.Houses.{holds_now}
 use Rattle.compact_store.specs.Keeping.{HaveRoom, IsKept}
 use Rattle.compact_store.proofs.Cutting.{has_room}
 use Rattle.compact_store.proofs.Filled.{same_fault}

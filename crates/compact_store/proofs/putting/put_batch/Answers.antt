@@ -1,5 +1,5 @@
 use Rattle.std.proofs.Common.{◌∷◌, [], map, sym, ◌∙◌, subst, Err}
-use Rattle.history_list.specs.Events.{change_in}
+use Rattle.page_warehouse.specs.Events.{change_in}
 use Rattle.compact_store.specs.Putting.{Puts}
 use Rattle.compact_store.specs.declared.compacting.Compacted.TheVariants.{NoMemory}
 use Rattle.compact_store.proofs.Steps.{no_rows_puts}

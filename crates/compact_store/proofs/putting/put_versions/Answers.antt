@@ -1,7 +1,7 @@
 use Rattle.std.proofs.Common.{◌≡◌, ℕ, suc, ◌+◌, ◌-◌, subst, arith, Ok}
-use Rattle.history_list.specs.Batches.{batches_from}
+use Rattle.page_warehouse.specs.Batches.{batches_from}
 use Rattle.compact_store.specs.Putting.{Puts}
-use Rattle.history_list.proofs.CutByVersion.{next_batch}
+use Rattle.page_warehouse.proofs.CutByVersion.{next_batch}
 use Rattle.compact_store.proofs.Steps.{ends_there, goes_on, puts_none}
 use Rattle.compact_store.proofs.putting.put_versions.Goals as goal
 

@@ -1,6 +1,6 @@
 use Rattle.std.proofs.Common.{◌-◌, ◌+◌, Result}
 use Rattle.page_warehouse.specs.declared.state.Warehouse.{Warehouse}
-use Rattle.history_list.specs.Batches.{batches_from}
+use Rattle.page_warehouse.specs.Batches.{batches_from}
 use Rattle.compact_store.specs.Putting.{Puts}
 use Rattle.compact_store.specs.declared.compacting.Compacted.{Compacted}
 use Rattle.compact_store.proofs.putting.put_versions.Given as goal

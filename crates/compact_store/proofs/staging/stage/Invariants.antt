@@ -1,6 +1,6 @@
 use Rattle.std.proofs.Common.{◌≡◌, ◌++◌, length, map}
 use Rattle.bw_types.specs.Lawful.{staged_rows}
-use Rattle.history_list.specs.Events.{change_in}
+use Rattle.page_warehouse.specs.Events.{change_in}
 use Rattle.compact_store.proofs.staging.stage.Given as goal
 
 abbrev pub invariant-loop-later : goal.invariant-loop-later

@@ -1,7 +1,7 @@
 use Rattle.std.proofs.Common.{◌⊎◌, Err, List, ap, sym, subst}
 use Rattle.std.proofs.lemmas.Result.{err_from_is_err_and}
 use Rattle.bw_types.specs.declared.tree.Tree.{Tree}
-use Rattle.page_ports.specs.declared.page.StageFault.TheVariants.{Damaged}
+use Rattle.ports.specs.declared.page.StageFault.TheVariants.{Damaged}
 use Rattle.corner_forest.specs.BatchDamage.{IsDamagedForBatch}
 use Rattle.corner_forest.specs.Enters.{MayEnter, all_entered_at}
 use Rattle.corner_forest.specs.Stands.{AreBalanced}

@@ -5,8 +5,8 @@ use Rattle.std.proofs.lemmas.List.Elements.{All-push}
 use Rattle.bw_types.specs.Empty.{empty_tree}
 use Rattle.bw_types.specs.declared.point.Point.{Point}
 use Rattle.bw_types.specs.declared.tree.Tree.{Tree}
-use Rattle.page_ports.specs.Calls.{WentOn}
-use Rattle.page_ports.specs.declared.page.StageFault.TheVariants.{Damaged}
+use Rattle.ports.specs.Calls.{WentOn}
+use Rattle.ports.specs.declared.page.StageFault.TheVariants.{Damaged}
 use Rattle.page_layout.specs.TreeValue.{tree_fits}
 use Rattle.dom_index.specs.Adding.{AreNewInTurn, TreeTakes}
 use Rattle.dom_index.specs.AddingDamage.{AdditionsMayLeave, IsDamagedForPoints}

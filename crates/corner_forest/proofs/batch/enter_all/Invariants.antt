@@ -1,8 +1,8 @@
 use Rattle.std.proofs.Common.{◌≡◌, ◌+◌, ◌≤◌, IsTrue, List, ◌++◌, drop, length}
 use Rattle.std.specs.List.{All}
-use Rattle.page_ports.specs.Calls.{WentOn}
+use Rattle.ports.specs.Calls.{WentOn}
 use Rattle.page_layout.specs.TreeValue.{tree_fits}
-use Rattle.poly_moments.specs.PlaneSums.{Entered}
+use Rattle.corner_weights.specs.PlaneSums.{Entered}
 use Rattle.dom_index.specs.Growth.{sum_below}
 use Rattle.corner_forest.specs.BatchDamage.{TreesMayLeave}
 use Rattle.corner_forest.specs.Enters.{HaveRoom, IsEntering, MayEnter, all_entered_at, first_page}

@@ -1,8 +1,8 @@
 use Rattle.std.proofs.Common.{◌<◌, Err, length, refl, rules, ap, ◌∙◌, arith}
 use Rattle.std.proofs.lemmas.Result.{err_from_is_err_and}
-use Rattle.page_ports.specs.declared.page.PageFault.TheVariants.{Damaged}
+use Rattle.ports.specs.declared.page.PageFault.TheVariants.{Damaged}
 use Rattle.bw_types.specs.Empty.{empty_tree}
-use Rattle.box_corners.specs.Subsets.{residue_signed_by}
+use Rattle.corner_weights.specs.Subsets.{residue_signed_by}
 use Rattle.corner_forest.specs.Corners.{value_at}
 use Rattle.corner_forest.specs.Entries.{corner_count}
 use Rattle.corner_forest.proofs.Exits.{exit_error}

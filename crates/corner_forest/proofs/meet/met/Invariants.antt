@@ -1,8 +1,8 @@
 use Rattle.std.proofs.Common.{◌≡◌, ℕ, ◌+◌, ◌*◌, ◌<◌, ◌≤◌, IsTrue, List, length}
 use Rattle.bw_types.specs.declared.point.Point.{Point}
-use Rattle.page_ports.specs.Calls.{WasRead}
-use Rattle.box_corners.specs.Subsets.{residue_signed_by}
-use Rattle.box_corners.specs.Sums.{residue_sum_below}
+use Rattle.ports.specs.Calls.{WasRead}
+use Rattle.corner_weights.specs.Subsets.{residue_signed_by}
+use Rattle.corner_weights.specs.Sums.{residue_sum_below}
 use Rattle.corner_forest.specs.Corners.{value_at}
 use Rattle.corner_forest.specs.Entries.{corner_count}
 use Rattle.corner_forest.specs.Stands.{AreBalanced}

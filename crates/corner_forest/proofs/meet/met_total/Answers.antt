@@ -2,7 +2,7 @@ use Rattle.std.proofs.Common.{◌≡◌, Err, length, to_z, of_z, rules, ap, ◌
 use Rattle.std.specs.Int.{w128}
 use Rattle.std.proofs.lemmas.Result.{err_from_is_err_and}
 use Rattle.bw_types.specs.Residues.{signed_of}
-use Rattle.page_ports.specs.declared.page.PageFault.TheVariants.{Damaged}
+use Rattle.ports.specs.declared.page.PageFault.TheVariants.{Damaged}
 use Rattle.corner_forest.specs.Answers.{count_of, sum_of}
 use Rattle.corner_forest.specs.Entries.{root_points, sum_and_count}
 use Rattle.corner_forest.proofs.Exits.{exit_error}

@@ -4,10 +4,10 @@ use Rattle.bw_types.specs.Residues.{residue}
 use Rattle.bw_types.specs.declared.point.Point.{Point}
 use Rattle.bw_types.specs.declared.query.Query.{Query}
 use Rattle.bw_types.specs.declared.query.Kind.TheVariants.{Integral}
-use Rattle.box_corners.specs.Corners.{integral_corner}
-use Rattle.poly_moments.specs.Integrals.{query_corner}
-use Rattle.poly_moments.specs.Planes.{planes_value}
-use Rattle.poly_moments.specs.PlaneSums.{Entered, entered_below}
+use Rattle.corner_weights.specs.Corners.{integral_corner}
+use Rattle.corner_weights.specs.Integrals.{query_corner}
+use Rattle.corner_weights.specs.Planes.{planes_value}
+use Rattle.corner_weights.specs.PlaneSums.{Entered, entered_below}
 use Rattle.corner_forest.specs.Corners.{planes_at}
 use Rattle.corner_forest.specs.Entries.{corner_count, root_points}
 use Rattle.corner_forest.specs.Stands.{ForestStands}

@@ -2,13 +2,13 @@ use Rattle.std.proofs.Common.{◌≡◌, ℕ, ◌+◌, ◌*◌, ◌<◌, ◌≤�
 use Rattle.std.specs.Int.{w128}
 use Rattle.std.proofs.lemmas.Result.{err_from_is_err_and}
 use Rattle.bw_types.specs.Residues.{residue, signed_of}
-use Rattle.box_corners.specs.Corners.{integral_corner}
-use Rattle.box_corners.specs.Subsets.{residue_signed_by}
-use Rattle.poly_moments.specs.Integrals.{query_corner}
-use Rattle.poly_moments.specs.Planes.{plane_count, planes_value}
-use Rattle.poly_moments.specs.PlaneSums.{integral_at}
-use Rattle.page_ports.specs.Pages.{PageMap}
-use Rattle.page_ports.specs.declared.page.PageFault.TheVariants.{Damaged}
+use Rattle.corner_weights.specs.Corners.{integral_corner}
+use Rattle.corner_weights.specs.Subsets.{residue_signed_by}
+use Rattle.corner_weights.specs.Integrals.{query_corner}
+use Rattle.corner_weights.specs.Planes.{plane_count, planes_value}
+use Rattle.corner_weights.specs.PlaneSums.{integral_at}
+use Rattle.ports.specs.Pages.{PageMap}
+use Rattle.ports.specs.declared.page.PageFault.TheVariants.{Damaged}
 use Rattle.corner_forest.specs.Damage.{IsDamagedInPlanes}
 use Rattle.corner_forest.specs.Stands.{AreBalanced}
 use Rattle.corner_forest.specs.Trees.{EachStands}

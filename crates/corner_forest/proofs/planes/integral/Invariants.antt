@@ -1,12 +1,12 @@
 use Rattle.std.proofs.Common.{◌≡◌, ℕ, ◌+◌, ◌*◌, ◌<◌, ◌≤◌, IsTrue, List, length}
 use Rattle.bw_types.specs.Residues.{residue}
 use Rattle.bw_types.specs.declared.point.Point.{Point}
-use Rattle.page_ports.specs.Calls.{WasRead}
-use Rattle.box_corners.specs.Corners.{integral_corner}
-use Rattle.box_corners.specs.Subsets.{residue_signed_by}
-use Rattle.box_corners.specs.Sums.{residue_sum_below}
-use Rattle.poly_moments.specs.Integrals.{query_corner}
-use Rattle.poly_moments.specs.Planes.{plane_count, planes_value}
+use Rattle.ports.specs.Calls.{WasRead}
+use Rattle.corner_weights.specs.Corners.{integral_corner}
+use Rattle.corner_weights.specs.Subsets.{residue_signed_by}
+use Rattle.corner_weights.specs.Sums.{residue_sum_below}
+use Rattle.corner_weights.specs.Integrals.{query_corner}
+use Rattle.corner_weights.specs.Planes.{plane_count, planes_value}
 use Rattle.corner_forest.specs.Corners.{planes_at}
 use Rattle.corner_forest.specs.Entries.{corner_count}
 use Rattle.corner_forest.specs.Stands.{AreBalanced}

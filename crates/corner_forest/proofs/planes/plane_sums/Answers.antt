@@ -1,9 +1,9 @@
 use Rattle.std.proofs.Common.{◌+◌, ◌<◌, Err, length, rules, ap, arith}
 use Rattle.std.proofs.lemmas.Result.{err_from_is_err_and}
-use Rattle.page_ports.specs.declared.page.PageFault.TheVariants.{Damaged}
+use Rattle.ports.specs.declared.page.PageFault.TheVariants.{Damaged}
 use Rattle.bw_types.specs.Dominance.{dominance_sum}
 use Rattle.bw_types.specs.Empty.{empty_tree}
-use Rattle.poly_moments.specs.Planes.{plane_count}
+use Rattle.corner_weights.specs.Planes.{plane_count}
 use Rattle.corner_forest.specs.Entries.{corner_count}
 use Rattle.corner_forest.proofs.Exits.{exit_error}
 use Rattle.corner_forest.proofs.Places.{balanced_here, cost_here, damaged_there, more_cost, most_cost, push_sum, stands_here}

@@ -2,8 +2,8 @@ use Rattle.std.proofs.Common.{◌≡◌, ℕ, ◌+◌, ◌*◌, ◌<◌, ◌≤�
 use Rattle.std.specs.List.{range_with_len}
 use Rattle.bw_types.specs.Dominance.{dominance_sum}
 use Rattle.bw_types.specs.declared.point.Point.{Point}
-use Rattle.page_ports.specs.Calls.{WasRead}
-use Rattle.poly_moments.specs.Planes.{plane_count}
+use Rattle.ports.specs.Calls.{WasRead}
+use Rattle.corner_weights.specs.Planes.{plane_count}
 use Rattle.corner_forest.specs.Entries.{corner_count}
 use Rattle.corner_forest.specs.Stands.{AreBalanced}
 use Rattle.corner_forest.specs.Trees.{EachStands}

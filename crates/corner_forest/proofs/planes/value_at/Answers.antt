@@ -1,6 +1,6 @@
 use Rattle.std.proofs.Common.{ℕ, Err, List, ap, sym, subst}
 use Rattle.std.proofs.lemmas.Result.{err_from_is_err_and}
-use Rattle.page_ports.specs.declared.page.PageFault.TheVariants.{Damaged}
+use Rattle.ports.specs.declared.page.PageFault.TheVariants.{Damaged}
 use Rattle.dom_index.specs.Points.{AreKeysBelow}
 use Rattle.corner_forest.specs.Damage.{IsDamagedInPlanes}
 use Rattle.corner_forest.proofs.Exits.{exit_error}

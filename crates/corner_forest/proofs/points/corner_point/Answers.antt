@@ -1,5 +1,5 @@
 use Rattle.std.proofs.Common.{◌≡◌, ℕ, ◌^◌, ◌<◌, List, [], ◌∷◌, rules, sym, subst}
-use Rattle.box_corners.specs.Corners.{corner_keys}
+use Rattle.corner_weights.specs.Corners.{corner_keys}
 use Rattle.dom_index.specs.Points.{AreKeysBelow}
 use Rattle.corner_forest.proofs.KeyBounds.{corner_keys_below}
 use Rattle.corner_forest.proofs.points.corner_point.Goals as goal

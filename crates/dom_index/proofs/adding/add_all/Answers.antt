@@ -2,8 +2,8 @@ use Rattle.std.proofs.Common.{◌≡◌, ℕ, ◌+◌, ◌-◌, ◌<◌, ◌≤�
 use Rattle.std.proofs.lemmas.Result.{err_from_is_err_and}
 use Rattle.bw_types.specs.declared.point.Point.{Point}
 use Rattle.bw_types.specs.declared.tree.Tree.{Tree}
-use Rattle.page_ports.specs.Calls.{Changes, WentOn}
-use Rattle.page_ports.specs.declared.page.StageFault.TheVariants.{Damaged}
+use Rattle.ports.specs.Calls.{Changes, WentOn}
+use Rattle.ports.specs.declared.page.StageFault.TheVariants.{Damaged}
 use Rattle.dom_index.specs.AddingDamage.{MayLeave}
 use Rattle.dom_index.specs.Growth.{step_growth, sum_below, tree_growth}
 use Rattle.dom_index.proofs.Additions.{damaged_here, damaged_next, leaves_all, leaves_next, new_next, none_point, small_growth, step_within, sum_grows, sum_next, taken_all, taken_first, taken_next}

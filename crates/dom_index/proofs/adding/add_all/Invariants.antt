@@ -1,8 +1,8 @@
 use Rattle.std.proofs.Common.{◌≡◌, ℕ, ◌+◌, ◌≤◌, IsTrue, List, drop}
 use Rattle.bw_types.specs.declared.point.Point.{Point}
 use Rattle.bw_types.specs.declared.tree.Tree.{Tree}
-use Rattle.page_ports.specs.Calls.{WentOn}
-use Rattle.page_ports.specs.Pages.{PageMap}
+use Rattle.ports.specs.Calls.{WentOn}
+use Rattle.ports.specs.Pages.{PageMap}
 use Rattle.page_layout.specs.TreeValue.{IsTreeTyped, tree_fits}
 use Rattle.dom_index.specs.Adding.{AreNewInTurn}
 use Rattle.dom_index.specs.AddingDamage.{AdditionsMayLeave, IsDamagedForPoints}

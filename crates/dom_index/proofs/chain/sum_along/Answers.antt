@@ -1,6 +1,6 @@
 use Rattle.std.proofs.Common.{◌≡◌, ℕ, ◌+◌, ◌-◌, ◌%◌, ◌^◌, ◌≤◌, Err, rules, ap, sym, subst, arith}
 use Rattle.std.proofs.lemmas.Result.{err_from_is_err_and}
-use Rattle.page_ports.specs.declared.page.PageFault.TheVariants.{Damaged}
+use Rattle.ports.specs.declared.page.PageFault.TheVariants.{Damaged}
 use Rattle.dom_index.proofs.Chains.{sum_step}
 use Rattle.dom_index.proofs.Exits.{exit_error}
 use Rattle.dom_index.proofs.Walking.{damaged_at, damaged_next, damaged_past, found_on, sum_end}

@@ -1,6 +1,6 @@
 use Rattle.std.proofs.Common.{◌≡◌, ◌≢◌, ◌<◌, ◌≤◌, ℕ, IsTrue, ◌+◌, ◌-◌, ◌%◌, ◌^◌}
 use Rattle.bw_types.specs.Dominance.{dominance_sum, dominated_weight}
-use Rattle.page_ports.specs.Calls.{WasRead}
+use Rattle.ports.specs.Calls.{WasRead}
 use Rattle.dom_index.specs.Chain.{IsDamagedAlong, IsDamagedOn, chain_points}
 use Rattle.dom_index.proofs.chain.sum_along.Given as goal
 

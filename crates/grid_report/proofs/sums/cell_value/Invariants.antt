@@ -1,6 +1,6 @@
 use Rattle.std.proofs.Common.{◌≡◌, slice_index}
-use Rattle.box_corners.specs.Subsets.{residue_signed_by}
-use Rattle.box_corners.specs.Sums.{residue_sum_below}
+use Rattle.corner_weights.specs.Subsets.{residue_signed_by}
+use Rattle.corner_weights.specs.Sums.{residue_sum_below}
 use Rattle.grid_report.specs.Corners.{corner_line}
 use Rattle.grid_report.specs.Indexes.{number_of}
 use Rattle.grid_report.proofs.sums.cell_value.Given as goal

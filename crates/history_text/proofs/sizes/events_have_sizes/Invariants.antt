@@ -1,6 +1,6 @@
 use Rattle.std.proofs.Common.{take}
 use Rattle.std.specs.List.{All}
-use Rattle.history_list.specs.declared.event.Event.{Event}
+use Rattle.page_warehouse.specs.declared.event.Event.{Event}
 use Rattle.history_text.specs.Rebuilt.{HasSizes}
 use Rattle.history_text.proofs.sizes.events_have_sizes.Given as goal
 

@@ -1,8 +1,8 @@
 -- One row after the other, and then the commit.
 use Rattle.std.proofs.Common.{List, codes, drop, map, ap, sym}
 use Rattle.std.proofs.lemmas.List.{take_rest}
-use Rattle.history_list.specs.Events.{change_in}
-use Rattle.history_list.specs.declared.event.Event.{Event}
+use Rattle.page_warehouse.specs.Events.{change_in}
+use Rattle.page_warehouse.specs.declared.event.Event.{Event}
 use Rattle.history_text.specs.Rows.{batch_text, row_text}
 use Rattle.history_text.proofs.FieldSteps.{none_left, texts_first}
 use Rattle.history_text.proofs.Gathered.{amid_gives, amid_same, amid_step, amid_stopped, failed_gives}

@@ -1,5 +1,5 @@
 use Rattle.std.proofs.Common.{length, map}
-use Rattle.history_list.specs.Events.{change_in}
+use Rattle.page_warehouse.specs.Events.{change_in}
 use Rattle.history_text.specs.Given.{standing}
 use Rattle.history_text.specs.Rows.{batch_text}
 use Rattle.history_text.proofs.Gathered.{Amid}

@@ -1,6 +1,6 @@
 -- One batch after the other.
 use Rattle.std.proofs.Common.{◌≡◌, ℕ, suc, ◌+◌, ◌-◌, ap, arith}
-use Rattle.history_list.specs.Batches.{batches_from}
+use Rattle.page_warehouse.specs.Batches.{batches_from}
 use Rattle.history_text.specs.Rows.{rows_of}
 use Rattle.history_text.proofs.BatchCuts.{rows_step}
 use Rattle.history_text.proofs.Gathered.{amid_start, amid_step, amid_stopped, failed_gives}

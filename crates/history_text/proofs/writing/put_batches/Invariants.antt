@@ -1,5 +1,5 @@
 use Rattle.std.proofs.Common.{◌+◌, ◌-◌}
-use Rattle.history_list.specs.Batches.{batches_from}
+use Rattle.page_warehouse.specs.Batches.{batches_from}
 use Rattle.history_text.specs.Given.{standing}
 use Rattle.history_text.specs.Rows.{rows_of}
 use Rattle.history_text.proofs.Gathered.{Amid}

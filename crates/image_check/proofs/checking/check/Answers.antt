@@ -3,7 +3,7 @@ use Rattle.std.proofs.lemmas.Bool.{cases_Bool}
 use Rattle.bw_types.specs.declared.params.Params.{Params}
 use Rattle.page_disk.specs.Image.{Image, page_at}
 use Rattle.page_layout.specs.declared.meta.Meta.{Meta}
-use Rattle.page_ports.specs.Pages.{PageMap}
+use Rattle.ports.specs.Pages.{PageMap}
 use Rattle.redo_journal.specs.Gates.{is_empty}
 use Rattle.page_space.specs.InUse.{pages_in_use}
 use Rattle.page_space.specs.Space.{HoldsSpace}
@@ -12,7 +12,7 @@ use Rattle.settled_pages.specs.Looked.{disk_of}
 use Rattle.settled_pages.specs.Shown.{pages_shown}
 use Rattle.image_check.specs.Parts.{HasJournal, HasRoots, IsBrokenAt}
 use Rattle.image_check.proofs.Faults.{bad_is_made, bad_is_no_other}
-use Rattle.image_check.proofs.Same.{as_found}
+use Rattle.image_check.proofs.SameSpace.{as_found}
 use Rattle.image_check.proofs.Verdicts.{same_part}
 use Rattle.image_check.proofs.checking.check.Goals as goal
 

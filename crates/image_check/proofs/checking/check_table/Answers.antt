@@ -6,22 +6,22 @@ use Rattle.bw_types.specs.declared.dated.Dated.{Dated}
 use Rattle.page_disk.specs.Image.{Image, page_at}
 use Rattle.page_layout.specs.declared.meta.Meta.{Meta}
 use Rattle.page_space.specs.Chain.{FreeInOrder}
-use Rattle.page_ports.specs.Pages.{PageMap}
+use Rattle.ports.specs.Pages.{PageMap}
 use Rattle.object_table.specs.Stands.{TableStands}
 use Rattle.object_table.specs.declared.form.Form.{Form}
 use Rattle.history_laws.specs.Entries.{entries_of}
 use Rattle.page_warehouse.specs.Holds.{table_form}
 use Rattle.settled_pages.specs.Looked.{IsInOrder, disk_of, map_of, pages_of}
 use Rattle.settled_pages.specs.Shown.{pages_shown}
-use Rattle.table_check.specs.Judging.{IsKept}
-use Rattle.table_check.specs.Telling.{IsToldBy}
-use Rattle.table_check.specs.declared.reading.FoundTable.{FoundTable}
+use Rattle.image_check.specs.Judging.{IsKept}
+use Rattle.image_check.specs.Telling.{IsToldBy}
+use Rattle.image_check.specs.declared.reading.FoundTable.{FoundTable}
 use Rattle.image_check.specs.Parts.{HasHistory, HasTable, HoldsOne, IsBrokenAt}
 use Rattle.image_check.specs.Trees.{TreesAreSound}
 use Rattle.image_check.proofs.Finding.{has_history, has_roots, has_table, holds_by, holds_none, no_history, no_other_list, no_table}
 use Rattle.image_check.proofs.Naming.{kept_is_told}
 use Rattle.image_check.proofs.Ordered.{AreOrdered}
-use Rattle.image_check.proofs.Seen.{as_told, sound_there}
+use Rattle.image_check.proofs.SeenPages.{as_told, sound_there}
 use Rattle.image_check.proofs.Verdicts.{same_good, same_part}
 use Rattle.image_check.proofs.checking.check_table.Goals.{else-meta-eq0-via-else-meta-eq0, else-meta-eq0-via-then-meta-eq0+else-not-are_first}
 use Rattle.image_check.proofs.checking.check_table.Goals as goal

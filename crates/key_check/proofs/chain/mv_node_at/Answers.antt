@@ -1,5 +1,5 @@
 use Rattle.std.proofs.Common.{◌≡◌, Ok, Some, Result, Option, subst}
-use Rattle.page_ports.specs.Pages.{PageMap}
+use Rattle.ports.specs.Pages.{PageMap}
 use Rattle.page_layout.specs.declared.mv_node.MvNode.{MvNode}
 use Rattle.key_check.specs.Chains.{HoldsThis}
 use Rattle.page_checks.specs.declared.fault.CheckFault.{CheckFault}

@@ -1,6 +1,6 @@
 use Rattle.std.proofs.Common.{rules, ◌≡◌, List, Bool, IsTrue, Ok, ap, sym, ◌∙◌, subst}
 use Rattle.bw_types.specs.declared.point.Point.{Point}
-use Rattle.page_ports.specs.Pages.{PageMap}
+use Rattle.ports.specs.Pages.{PageMap}
 use Rattle.mvsb_tree.specs.Steps.{node_on}
 use Rattle.key_check.specs.Chains.{PlaceKeeps}
 use Rattle.key_check.specs.Marks.{AreMarksOf}

@@ -1,7 +1,7 @@
 use Rattle.std.proofs.Common.{◌^◌, ◌≡◌, List, Ok, Some, Result, Option, ap, sym, ◌∙◌, subst}
 use Rattle.std.proofs.lemmas.Bool.{false≢true}
 use Rattle.page_layout.specs.Footprint.{NamesNoneTwice}
-use Rattle.page_ports.specs.Pages.{PageMap}
+use Rattle.ports.specs.Pages.{PageMap}
 use Rattle.key_check.specs.Changes.{AreMade, StandsForChanges}
 use Rattle.key_check.specs.Steps.{AscendFrom}
 use Rattle.key_check.specs.Walks.{IsWalk}

@@ -2,7 +2,7 @@ use Rattle.std.proofs.Common.{◌≡◌, ◌↔◌, ◌++◌, ◌^◌, ℕ, Bool
 use Rattle.std.proofs.lemmas.Bool.{false≢true}
 use Rattle.bw_types.specs.declared.point.Point.{Point}
 use Rattle.bw_types.specs.declared.tree.Tree.{Tree}
-use Rattle.page_ports.specs.Pages.{PageMap}
+use Rattle.ports.specs.Pages.{PageMap}
 use Rattle.page_layout.specs.Footprint.{NamesNoneTwice}
 use Rattle.mvsb_tree.specs.Steps.{directory, node_pages}
 use Rattle.key_check.specs.Changes.{StandsForChanges}

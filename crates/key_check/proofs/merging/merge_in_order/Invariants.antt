@@ -1,5 +1,5 @@
 use Rattle.std.proofs.Common.{ℕ, List, [], take}
-use Rattle.page_ports.specs.Pages.{PageMap}
+use Rattle.ports.specs.Pages.{PageMap}
 use Rattle.key_check.specs.Levels.{AreWhole, PiecesStand, Pushes, pieces_total}
 use Rattle.key_check.proofs.merging.merge_in_order.Given as goal
 

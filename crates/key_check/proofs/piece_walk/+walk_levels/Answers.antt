@@ -1,6 +1,6 @@
 use Rattle.std.proofs.Common.{◌≡◌, ℕ, false, length, List, [], Ok, ap, sym, ◌∙◌, subst}
 use Rattle.std.proofs.lemmas.Bool.{eq-eqb, false≢true}
-use Rattle.page_ports.specs.Pages.{PageMap}
+use Rattle.ports.specs.Pages.{PageMap}
 use Rattle.key_check.specs.Cells.{Adds}
 use Rattle.key_check.specs.Levels.{AreWhole, PiecesStand, pieces_total}
 use Rattle.key_check.specs.declared.leveled.Leveled.{Leveled}

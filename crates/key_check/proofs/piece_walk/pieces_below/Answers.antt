@@ -1,7 +1,7 @@
 use Rattle.std.proofs.Common.{◌≡◌, List, [], Ok, ap, sym, subst}
 use Rattle.std.specs.Global.{Vec}
 use Rattle.std.proofs.lemmas.List.Elements.{All-nil}
-use Rattle.page_ports.specs.Pages.{PageMap}
+use Rattle.ports.specs.Pages.{PageMap}
 use Rattle.key_check.specs.Levels.{Leaves, PiecesStand, StandsThere, pieces_total}
 use Rattle.key_check.specs.declared.leveled.Leveled.{Leveled}
 use Rattle.key_check.proofs.Descending.{leaves_merged}

@@ -1,6 +1,6 @@
 use Rattle.std.proofs.Common.{rules, Ok, None, get_or, ap, sym, ◌∙◌, subst}
 use Rattle.std.proofs.lemmas.List.Elements.{All-get_or}
-use Rattle.page_ports.specs.Pages.{PageMap}
+use Rattle.ports.specs.Pages.{PageMap}
 use Rattle.key_check.specs.Levels.{Leaves, StandsThere, total_there}
 use Rattle.key_check.specs.declared.leveled.Leveled.{Leveled}
 use Rattle.key_check.proofs.Descending.{leaves_all, leaves_more}

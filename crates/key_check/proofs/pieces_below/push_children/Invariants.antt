@@ -1,5 +1,5 @@
 use Rattle.std.proofs.Common.{ℕ, ◌-◌, List, drop, length}
-use Rattle.page_ports.specs.Pages.{PageMap}
+use Rattle.ports.specs.Pages.{PageMap}
 use Rattle.key_check.specs.Levels.{AreWhole}
 use Rattle.key_check.proofs.Descending.{Goes}
 use Rattle.key_check.proofs.pieces_below.push_children.Given as goal

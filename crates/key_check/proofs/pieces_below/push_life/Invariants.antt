@@ -1,5 +1,5 @@
 use Rattle.std.proofs.Common.{◌≡◌, ℕ, ◌-◌, ◌≤◌, ◌⊎◌, List}
-use Rattle.page_ports.specs.Pages.{PageMap}
+use Rattle.ports.specs.Pages.{PageMap}
 use Rattle.key_check.specs.Cells.{CellStands, cell_total}
 use Rattle.key_check.specs.Levels.{AreWhole, Pushes}
 use Rattle.key_check.proofs.pieces_below.push_life.Given as goal

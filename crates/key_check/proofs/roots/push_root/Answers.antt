@@ -1,5 +1,5 @@
 use Rattle.std.proofs.Common.{◌≡◌, ℕ, [], ◌∷◌, ◌++◌, Ok, ap, sym, ◌∙◌, subst, arith}
-use Rattle.page_ports.specs.Pages.{PageMap}
+use Rattle.ports.specs.Pages.{PageMap}
 use Rattle.key_check.specs.Chains.{HoldsNode}
 use Rattle.key_check.proofs.RootPieces.{level_of, no_root, root_piece, some_root}
 use Rattle.key_check.proofs.RootSteps.{lasts_holds}

@@ -1,7 +1,7 @@
 use Rattle.std.proofs.Common.{rules, ◌≡◌, ◌^◌, ℕ, List, Ok, get_or, ap, sym, ◌∙◌, subst}
 use Rattle.std.specs.Global.{Vec}
 use Rattle.std.proofs.lemmas.List.{drop_all}
-use Rattle.page_ports.specs.Pages.{PageMap}
+use Rattle.ports.specs.Pages.{PageMap}
 use Rattle.key_check.specs.KeyTrees.{RootLasts, first_step, stretch_total}
 use Rattle.key_check.specs.Levels.{Pushes}
 use Rattle.key_check.specs.declared.leveled.Leveled.{Leveled}

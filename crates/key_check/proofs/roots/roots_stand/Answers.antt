@@ -2,7 +2,7 @@ use Rattle.std.proofs.Common.{◌^◌, List, [], IsPermutation, Ok, ap, sym, sub
 use Rattle.std.specs.List.Sorted.{IsNonDecreasing}
 use Rattle.std.proofs.lemmas.Bool.{false≢true}
 use Rattle.std.proofs.lemmas.List.Sorted.{IsNonDecreasingBy-from_sort, IsPermutation-sym}
-use Rattle.page_ports.specs.Pages.{PageMap}
+use Rattle.ports.specs.Pages.{PageMap}
 use Rattle.key_check.specs.declared.corner.Corner.{Corner}
 use Rattle.key_check.specs.KeyTrees.{AddsRoots, RootsKeep}
 use Rattle.key_check.proofs.Moving.{keeps_moved}

@@ -1,5 +1,5 @@
 use Rattle.std.proofs.Common.{Ok, ap, sym, ◌∙◌, subst}
-use Rattle.page_ports.specs.Pages.{PageMap}
+use Rattle.ports.specs.Pages.{PageMap}
 use Rattle.key_check.specs.Cells.{Adds}
 use Rattle.key_check.specs.Levels.{PiecesStand, pieces_total}
 use Rattle.key_check.proofs.RootPieces.{roots_add, roots_found}

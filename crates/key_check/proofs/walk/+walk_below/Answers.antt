@@ -1,5 +1,5 @@
 use Rattle.std.proofs.Common.{rules, arith, ℕ, ◌≡◌, ◌-◌, ◌+◌, ◌%◌, ◌^◌, Bool, IsTrue, List, get_or, ap, sym, ◌∙◌, subst, refl, Ok}
-use Rattle.page_ports.specs.Pages.{PageMap}
+use Rattle.ports.specs.Pages.{PageMap}
 use Rattle.page_layout.specs.declared.sb_node.SbEntry.{SbEntry}
 use Rattle.sb_tree.specs.Stands.{StandsBelow}
 use Rattle.sb_tree.specs.Steps.{entries_on}

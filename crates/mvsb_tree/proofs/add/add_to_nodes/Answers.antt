@@ -2,8 +2,8 @@ use Rattle.std.proofs.Common.{◌≡◌, ◌⊎◌, ◌^◌, ◌<◌, ◌≤◌,
 use Rattle.std.proofs.lemmas.Result.{err_from_is_err_and}
 use Rattle.bw_types.specs.declared.point.Point.{Point}
 use Rattle.bw_types.specs.declared.tree.Tree.{Tree}
-use Rattle.page_ports.specs.Pages.{PageMap}
-use Rattle.page_ports.specs.declared.page.StageFault.TheVariants.{Damaged}
+use Rattle.ports.specs.Pages.{PageMap}
+use Rattle.ports.specs.declared.page.StageFault.TheVariants.{Damaged}
 use Rattle.mvsb_tree.specs.AddDamage.{IsDamagedAtRoot, IsDamagedForRoot, IsRootClosed, IsWholeFromRoot, KeepsDirectories}
 use Rattle.mvsb_tree.specs.Damage.{IsWholeToRoot}
 use Rattle.mvsb_tree.specs.Grown.{NodesHold}

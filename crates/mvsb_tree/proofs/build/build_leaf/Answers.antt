@@ -3,8 +3,8 @@ use Rattle.std.proofs.lemmas.List.{get_or_default}
 use Rattle.std.proofs.lemmas.Result.{err_from_is_err_and}
 use Rattle.bw_types.specs.declared.point.Point.{Point}
 use Rattle.bw_types.specs.declared.tree.Tree.{Tree}
-use Rattle.page_ports.specs.Pages.{PageMap}
-use Rattle.page_ports.specs.declared.page.StageFault.TheVariants.{Damaged}
+use Rattle.ports.specs.Pages.{PageMap}
+use Rattle.ports.specs.declared.page.StageFault.TheVariants.{Damaged}
 use Rattle.mvsb_tree.specs.Built.{IsBuilt, with_last}
 use Rattle.mvsb_tree.proofs.Building.{last_spells, leaf_built, no_point}
 use Rattle.mvsb_tree.proofs.Exits.{exit_error, read_damaged}

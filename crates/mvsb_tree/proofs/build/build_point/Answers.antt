@@ -5,8 +5,8 @@ use Rattle.std.proofs.lemmas.Result.{err_from_is_err_and}
 use Rattle.bw_types.specs.Empty.{empty_tree}
 use Rattle.bw_types.specs.declared.point.Point.{Point}
 use Rattle.bw_types.specs.declared.tree.Tree.{Tree}
-use Rattle.page_ports.specs.Pages.{PageMap}
-use Rattle.page_ports.specs.declared.page.StageFault.TheVariants.{Damaged}
+use Rattle.ports.specs.Pages.{PageMap}
+use Rattle.ports.specs.declared.page.StageFault.TheVariants.{Damaged}
 use Rattle.mvsb_tree.specs.Laws.{EmptyTreeIsBalanced, EmptyTreeStands}
 use Rattle.mvsb_tree.specs.Stands.{IsBalanced, IsEmptyTree, MvStands}
 use Rattle.mvsb_tree.proofs.Building.{first_built, no_point}

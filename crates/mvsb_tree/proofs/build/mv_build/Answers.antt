@@ -1,8 +1,8 @@
 use Rattle.std.proofs.Common.{ℕ, ◌*◌, Err, List, get_or, length, refl, rules, arith, ap, take}
 use Rattle.std.proofs.lemmas.Result.{err_from_is_err_and}
 use Rattle.bw_types.specs.declared.point.Point.{Point}
-use Rattle.page_ports.specs.Pages.{PageMap}
-use Rattle.page_ports.specs.declared.page.StageFault.TheVariants.{Damaged}
+use Rattle.ports.specs.Pages.{PageMap}
+use Rattle.ports.specs.declared.page.StageFault.TheVariants.{Damaged}
 use Rattle.mvsb_tree.proofs.Building.{built_more, few_taken, no_point, none_later}
 use Rattle.mvsb_tree.proofs.Exits.{exit_error}
 use Rattle.mvsb_tree.proofs.Going.{grown_further, told}

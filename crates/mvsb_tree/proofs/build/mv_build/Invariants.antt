@@ -1,6 +1,6 @@
 use Rattle.std.proofs.Common.{◌≡◌, ◌+◌, ◌*◌, ◌≤◌, IsTrue, take}
-use Rattle.page_ports.specs.Calls.{WentOn}
-use Rattle.page_ports.specs.Frame.{KeepsPages}
+use Rattle.ports.specs.Calls.{WentOn}
+use Rattle.ports.specs.Frame.{KeepsPages}
 use Rattle.page_layout.specs.TreeValue.{IsTreeTyped, tree_fits}
 use Rattle.mvsb_tree.specs.Built.{IsBuilt}
 use Rattle.mvsb_tree.proofs.build.mv_build.Given as goal

@@ -1,6 +1,6 @@
 use Rattle.std.proofs.Common.{◌≡◌, ℕ, ◌-◌, ◌<◌, true, IsTrue, []}
-use Rattle.page_ports.specs.Calls.{WentOn}
-use Rattle.page_ports.specs.Frame.{AreInMap, Replaces, names_page}
+use Rattle.ports.specs.Calls.{WentOn}
+use Rattle.ports.specs.Frame.{AreInMap, Replaces, names_page}
 use Rattle.mvsb_tree.specs.Damage.{IsDamagedInChain}
 use Rattle.mvsb_tree.specs.Steps.{chain_from, node_on}
 use Rattle.mvsb_tree.proofs.Chains.{back}

@@ -1,7 +1,7 @@
 use Rattle.std.proofs.Common.{◌≡◌, ◌-◌, ℕ, None, Option, Err, rules, arith, subst, ap}
 use Rattle.std.proofs.lemmas.Result.{err_from_is_err_and}
-use Rattle.page_ports.specs.Pages.{PageMap}
-use Rattle.page_ports.specs.declared.page.PageFault.TheVariants.{Damaged}
+use Rattle.ports.specs.Pages.{PageMap}
+use Rattle.ports.specs.declared.page.PageFault.TheVariants.{Damaged}
 use Rattle.page_layout.specs.Damage.{IsDamagedBelow, NothingBeside}
 use Rattle.page_layout.specs.DamageLaws as laws
 use Rattle.mv_pages.specs.Alive.{child_of}

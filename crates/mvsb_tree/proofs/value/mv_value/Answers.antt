@@ -1,8 +1,8 @@
 use Rattle.std.proofs.Common.{◌≡◌, ◌≤◌, ℕ, Err, inr, arith, sym, subst, ap, ◌∙◌}
 use Rattle.std.proofs.lemmas.Result.{err_from_is_err_and}
 use Rattle.bw_types.specs.Digits.{digit_count}
-use Rattle.page_ports.specs.Pages.{PageMap}
-use Rattle.page_ports.specs.declared.page.PageFault.TheVariants.{Damaged}
+use Rattle.ports.specs.Pages.{PageMap}
+use Rattle.ports.specs.declared.page.PageFault.TheVariants.{Damaged}
 use Rattle.mvsb_tree.specs.declared.place.Place.{Place}
 use Rattle.mvsb_tree.specs.Damage.{IsDamagedFromRoot, root_place}
 use Rattle.mvsb_tree.specs.Stands.{RootStands}

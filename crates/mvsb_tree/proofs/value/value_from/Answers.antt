@@ -1,8 +1,8 @@
 use Rattle.std.proofs.Common.{◌≡◌, ◌-◌, ◌%◌, ◌^◌, ℕ, None, Option, Err, inl, refl, rules, arith, sym, subst, ap, ◌∙◌}
 use Rattle.std.proofs.lemmas.Result.{err_from_is_err_and}
 use Rattle.page_layout.specs.Damage.{IsDamagedBelow, NothingBeside}
-use Rattle.page_ports.specs.Pages.{PageMap}
-use Rattle.page_ports.specs.declared.page.PageFault.TheVariants.{Damaged}
+use Rattle.ports.specs.Pages.{PageMap}
+use Rattle.ports.specs.declared.page.PageFault.TheVariants.{Damaged}
 use Rattle.mv_pages.specs.Alive.{child_of}
 use Rattle.mvsb_tree.specs.declared.place.Place.{Place}
 use Rattle.mvsb_tree.specs.declared.step.Step.{Step}

@@ -1,7 +1,7 @@
 use Rattle.std.proofs.Common.{◌-◌, IsTrue, [], ◌∷◌, take}
 use Rattle.std.specs.List.{flat_map}
-use Rattle.page_ports.specs.Calls.{WentOn}
-use Rattle.page_ports.specs.Frame.{AreInMap, Replaces}
+use Rattle.ports.specs.Calls.{WentOn}
+use Rattle.ports.specs.Frame.{AreInMap, Replaces}
 use Rattle.object_table.proofs.Clearing.{own_pages}
 use Rattle.object_table.proofs.freeing.+free_below.Given as goal
 

@@ -1,6 +1,6 @@
 use Rattle.std.proofs.Common.{◌≡◌, ◌+◌, ◌*◌, ◌^◌, ◌<◌, ◌≤◌, IsTrue, List, length}
 use Rattle.bw_types.specs.declared.dated.Dated.{Dated}
-use Rattle.page_ports.specs.Calls.{WentOn}
+use Rattle.ports.specs.Calls.{WentOn}
 use Rattle.page_layout.specs.TreeValue.{IsTreeTyped, plain_tree_fits}
 use Rattle.object_table.specs.declared.form.Form.TheVariants.{ByIds}
 use Rattle.object_table.specs.Stands.{TableStands}

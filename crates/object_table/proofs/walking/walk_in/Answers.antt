@@ -1,7 +1,7 @@
 use Rattle.std.proofs.Common.{ℕ, List, Err, subst, ap}
 use Rattle.std.proofs.lemmas.Result.{err_from_is_err_and}
 use Rattle.bw_types.specs.declared.dated.Dated.{Dated}
-use Rattle.page_ports.specs.declared.page.PageFault.TheVariants.{Damaged}
+use Rattle.ports.specs.declared.page.PageFault.TheVariants.{Damaged}
 use Rattle.page_layout.specs.Damage.{IsDamagedBelow, NothingBeside}
 use Rattle.object_table.specs.declared.place.Place.{Place}
 use Rattle.object_table.specs.Damage.{FitsPlace, LeadsOn}

@@ -1,4 +1,4 @@
-use Rattle.page_ports.specs.FrameLaws.{names_page-append}
+use Rattle.ports.specs.FrameLaws.{names_page-append}
 use Rattle.page_layout.specs.FootprintLaws.{apart_append, apart_parts, apart_sym, names_permuted, not_twice, once_apart, once_each, once_join, once_left, once_permuted, once_right, times_append}
 use Rattle.page_layout.proofs.footprint.footprint_laws.Goals as goal
 

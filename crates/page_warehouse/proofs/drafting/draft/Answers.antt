@@ -1,10 +1,10 @@
 use Rattle.std.proofs.Common.{rules, ℕ, ◌+◌, ◌*◌, length, if◌then◌else◌, sym, subst, arith}
 use Rattle.std.proofs.lemmas.Result.{err_from_is_err_and}
 use Rattle.bw_types.specs.History.{changes, flat}
-use Rattle.page_ports.specs.Pages.{PageMap}
+use Rattle.ports.specs.Pages.{PageMap}
 use Rattle.page_space.specs.Shown.{staged_map}
 use Rattle.corner_forest.specs.Enters.{first_pages}
-use Rattle.change_laws.specs.Begun.{with_changes}
+use Rattle.page_warehouse.specs.Begun.{with_changes}
 use Rattle.page_warehouse.specs.Entering.{PagesKeep}
 use Rattle.page_warehouse.specs.Needs.{changes_need}
 use Rattle.page_warehouse.proofs.Stages.{changes_then, not_damaged, ok_anyway, refused}

@@ -5,8 +5,8 @@ use Rattle.bw_types.specs.History.{History, changes, flat}
 use Rattle.bw_types.specs.declared.change.Change.{Change}
 use Rattle.corner_forest.specs.declared.forest.Forest.{Forest}
 use Rattle.corner_forest.specs.Enters.{first_pages}
-use Rattle.change_laws.specs.Begun.{with_changes}
-use Rattle.change_laws.specs.Growth.{most_growth}
+use Rattle.page_warehouse.specs.Begun.{with_changes}
+use Rattle.page_warehouse.specs.Growth.{most_growth}
 use Rattle.page_warehouse.specs.Entering.{PagesKeep, PagesWait}
 use Rattle.page_warehouse.specs.Needs.{StayOnePage}
 use Rattle.page_warehouse.specs.Waiting.{CanWait}

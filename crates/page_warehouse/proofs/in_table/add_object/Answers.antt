@@ -2,12 +2,12 @@ use Rattle.std.proofs.Common.{rules, ◌≡◌, ◌+◌, ◌^◌, ◌<◌, [], �
 use Rattle.std.proofs.lemmas.Result.{err_from_is_err_and}
 use Rattle.std.specs.List.{All}
 use Rattle.bw_types.specs.declared.change.Change.TheVariants as change
-use Rattle.page_ports.specs.Pages.{PageMap}
-use Rattle.page_ports.specs.declared.page.StageFault.TheVariants.{Damaged}
+use Rattle.ports.specs.Pages.{PageMap}
+use Rattle.ports.specs.declared.page.StageFault.TheVariants.{Damaged}
 use Rattle.object_table.specs.Lives.{last_life}
 use Rattle.object_table.specs.declared.form.Form.TheVariants.{ByLives}
 use Rattle.history_laws.specs.Entries.{history_entries}
-use Rattle.change_laws.specs.Begun.{with_changes}
+use Rattle.page_warehouse.specs.Begun.{with_changes}
 use Rattle.page_warehouse.specs.declared.roots.Roots.{Roots}
 use Rattle.page_warehouse.specs.Entering.{PagesTell, PagesWait}
 use Rattle.page_warehouse.specs.Waiting.{CanWait}

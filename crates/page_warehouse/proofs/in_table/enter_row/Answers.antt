@@ -4,7 +4,7 @@ use Rattle.bw_types.specs.History.{flat_row}
 use Rattle.bw_types.specs.Lawful.{IsLawfulBatch}
 use Rattle.bw_types.specs.declared.change.Change.{Change}
 use Rattle.bw_types.specs.declared.change.Change.TheVariants as change
-use Rattle.change_laws.specs.Begun.{with_changes}
+use Rattle.page_warehouse.specs.Begun.{with_changes}
 use Rattle.page_warehouse.specs.Entering.{KeepsOn, PagesWait}
 use Rattle.page_warehouse.proofs.Steps.{batch_on, event_on, keeps_ok, keeps_refused, keeps_then, waits_on}
 use Rattle.page_warehouse.proofs.in_table.enter_row.Goals as goal

@@ -7,8 +7,8 @@ use Rattle.bw_types.specs.declared.change.Change.{Change}
 use Rattle.bw_types.specs.declared.params.Params.{Params}
 use Rattle.bw_types.specs.declared.row.Row.{Row}
 use Rattle.corner_forest.specs.declared.forest.Forest.{Forest}
-use Rattle.page_ports.specs.Calls.{WentOn}
-use Rattle.change_laws.specs.Begun.{with_changes}
+use Rattle.ports.specs.Calls.{WentOn}
+use Rattle.page_warehouse.specs.Begun.{with_changes}
 use Rattle.page_warehouse.specs.Entering.{PagesWait}
 use Rattle.page_warehouse.specs.Waiting.{CanWait}
 use Rattle.page_warehouse.proofs.Rows.{batch-at, blank_row, flat-more, length-at, length-more}

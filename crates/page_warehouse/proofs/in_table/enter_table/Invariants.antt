@@ -2,8 +2,8 @@ use Rattle.std.proofs.Common.{◌≡◌, ◌+◌, length, IsTrue, take}
 use Rattle.std.specs.List.{All}
 use Rattle.bw_types.specs.History.{History, changes, flat}
 use Rattle.bw_types.specs.Lawful.{IsLawful, IsLawfulBatch}
-use Rattle.page_ports.specs.Calls.{WentOn}
-use Rattle.change_laws.specs.Begun.{next_version}
+use Rattle.ports.specs.Calls.{WentOn}
+use Rattle.page_warehouse.specs.Begun.{next_version}
 use Rattle.page_warehouse.specs.Entering.{PagesKeep, RootsFit}
 use Rattle.page_warehouse.specs.Waiting.{CanWait}
 use Rattle.page_warehouse.proofs.Rows.{ToldSoFar}

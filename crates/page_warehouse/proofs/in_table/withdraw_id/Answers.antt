@@ -1,11 +1,11 @@
 use Rattle.std.proofs.Common.{rules, ◌≡◌, [], ◌∷◌, ◌++◌, true, IsTrue, Err, sym, ◌∙◌, ap, subst, arith}
 use Rattle.std.proofs.lemmas.Result.{err_from_is_err_and}
 use Rattle.bw_types.specs.declared.change.Change.TheVariants as change
-use Rattle.page_ports.specs.Calls.{Changes}
-use Rattle.page_ports.specs.Pages.{PageMap}
-use Rattle.page_ports.specs.declared.page.StageFault.TheVariants.{Damaged}
+use Rattle.ports.specs.Calls.{Changes}
+use Rattle.ports.specs.Pages.{PageMap}
+use Rattle.ports.specs.declared.page.StageFault.TheVariants.{Damaged}
 use Rattle.history_laws.specs.Entries.{history_entries}
-use Rattle.change_laws.specs.Begun.{with_changes}
+use Rattle.page_warehouse.specs.Begun.{with_changes}
 use Rattle.page_warehouse.specs.Entering.{PagesTell, PagesWait}
 use Rattle.corner_forest.specs.declared.entry.Entry.{Entry as Waiting}
 use Rattle.page_warehouse.proofs.Exits.{exit_error, read_damaged}

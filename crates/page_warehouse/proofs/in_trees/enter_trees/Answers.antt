@@ -1,10 +1,10 @@
 use Rattle.std.proofs.Common.{◌≡◌, ◌+◌, ◌*◌, List, length, IsTrue, refl, arith}
 use Rattle.bw_types.specs.declared.tree.Tree.{Tree}
-use Rattle.poly_moments.specs.PlaneSums.{Entered}
+use Rattle.corner_weights.specs.PlaneSums.{Entered}
 use Rattle.corner_forest.specs.Enters.{ForestEnters, MayEnter, all_entered_at, batch_growth}
 use Rattle.corner_forest.specs.declared.entry.Entry.{Entry as Waiting}
 use Rattle.history_laws.specs.Entries.{history_entries}
-use Rattle.change_laws.specs.Growth.{most_growth}
+use Rattle.page_warehouse.specs.Growth.{most_growth}
 use Rattle.page_warehouse.specs.Entering.{PagesKeep}
 use Rattle.page_warehouse.specs.declared.roots.Roots.{Roots}
 use Rattle.page_warehouse.proofs.Leads.{all_led, are_next, batch_bounded}

@@ -3,10 +3,10 @@ use Rattle.bw_types.specs.History.{changes, flat}
 use Rattle.bw_types.specs.Lawful.{IsLawful, IsLawfulBatch}
 use Rattle.bw_types.specs.declared.params.Params.{Params}
 use Rattle.bw_types.specs.declared.tree.Tree.{Tree}
-use Rattle.page_ports.specs.Calls.{Changes}
+use Rattle.ports.specs.Calls.{Changes}
 use Rattle.corner_forest.specs.Enters.{first_pages}
 use Rattle.corner_forest.specs.declared.forest.Forest.{Forest}
-use Rattle.change_laws.specs.Begun.{with_changes}
+use Rattle.page_warehouse.specs.Begun.{with_changes}
 use Rattle.page_warehouse.specs.Entering.{FormKeeps, PagesKeep}
 use Rattle.page_warehouse.specs.Needs.{StayOnePage, changes_need}
 use Rattle.page_warehouse.proofs.Stages.{changes_then}

@@ -1,7 +1,7 @@
 use Rattle.std.proofs.Common.{◌*◌, ◌<◌, ◌^◌, length, Err, rules, refl, ap}
 use Rattle.std.proofs.lemmas.Result.{err_from_is_err_and}
 use Rattle.bw_types.specs.Lives.{lives}
-use Rattle.page_ports.specs.declared.page.StageFault.TheVariants.{Damaged}
+use Rattle.ports.specs.declared.page.StageFault.TheVariants.{Damaged}
 use Rattle.object_table.specs.declared.form.Form.TheVariants.{ByIds, ByLives}
 use Rattle.object_table.specs.Lives.{table_pages}
 use Rattle.corner_forest.specs.Stands.{forest_pages}

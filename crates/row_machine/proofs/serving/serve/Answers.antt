@@ -1,8 +1,8 @@
 use Rattle.std.proofs.Common.{◌≡◌, ◌∙◌, ℕ, List, ◌++◌, inr, ap, subst, sym, true, Ok, Err, arith}
-use Rattle.counts.specs.Count.{Rose}
+use Rattle.ports.specs.Count.{Rose}
 use Rattle.bw_types.specs.declared.params.Params.{Params}
 use Rattle.row_machine.specs.Outbox.{gathered}
-use Rattle.byte_ports.specs.Written.{WritesPart}
+use Rattle.ports.specs.Written.{WritesPart}
 use Rattle.row_machine.specs.Serving.{LastsBeyond}
 use Rattle.row_machine.specs.declared.desk.Desk.{Desk}
 use Rattle.row_machine.specs.declared.ending.Ending.{Ending}

@@ -1,5 +1,5 @@
 use Rattle.sb_tree.proofs.Common.{ℕ, inl, inr, Err, rules, arith, ap, refl, err_from_is_err_and, IfOk-weaker}
-use Rattle.page_ports.specs.declared.page.StageFault.TheVariants.{Damaged}
+use Rattle.ports.specs.declared.page.StageFault.TheVariants.{Damaged}
 use Rattle.sb_tree.proofs.Exits.{exit_error}
 use Rattle.sb_tree.proofs.Values.{damaged_further}
 use Rattle.sb_tree.proofs.Values.{some_at_cut}

@@ -1,5 +1,5 @@
 use Rattle.sb_tree.proofs.Common.{Some, ◌≡◌, ◌<◌, ◌^◌, inl, inr, IsTrue, List, [], ◌∷◌, Err, arith, sym, ap, ◌∙◌, refl, rules, err_from_is_err_and, Point, PageMap, IsRaised, SecondFits, SbStands, tree_pages}
-use Rattle.page_ports.specs.declared.page.StageFault.TheVariants.{Damaged}
+use Rattle.ports.specs.declared.page.StageFault.TheVariants.{Damaged}
 use Rattle.sb_tree.proofs.Exits.{exit_error, same_damaged}
 use Rattle.sb_tree.proofs.Sound.{tree_undamaged}
 use Rattle.sb_tree.proofs.Growing.{grown_stands, grown_none, grown_split, grown_leaf, raised_of_tree, second_of_tree, root_spelled, few_levels, balanced_whole, balanced_first, balanced_split, full_there, full_root, bytes_of, Grown}

@@ -1,5 +1,5 @@
 use Rattle.sb_tree.proofs.Common.{◌-◌, Err, rules, arith, ap, take_all, err_from_is_err_and, PageMap}
-use Rattle.page_ports.specs.declared.page.StageFault.TheVariants.{Damaged}
+use Rattle.ports.specs.declared.page.StageFault.TheVariants.{Damaged}
 use Rattle.sb_tree.proofs.Exits.{exit_error, read_damaged}
 use Rattle.sb_tree.proofs.Freeing.{pages-spelled, free_step, there_step, damaged_child, damaged_itself}
 use Rattle.sb_tree.proofs.free.+free_below.Goals as goal

@@ -1,5 +1,5 @@
 use Rattle.sb_tree.proofs.Common.{ℕ, Err, rules, arith, refl, ap, err_from_is_err_and, LeadsTo}
-use Rattle.page_ports.specs.declared.page.PageFault.TheVariants.{Damaged}
+use Rattle.ports.specs.declared.page.PageFault.TheVariants.{Damaged}
 use Rattle.sb_tree.proofs.Exits.{exit_error}
 use Rattle.sb_tree.proofs.Values.{leaf_value, index_value, damaged_here, damaged_further, leads_at_cut, some_at_cut, whole_further, whole_leaf}
 use Rattle.sb_tree.proofs.value.+value_below.Given

@@ -7,7 +7,7 @@ use Rattle.bw_types.specs.Empty.{empty_tree}
 use Rattle.bw_types.specs.declared.point.Point.{Point}
 use Rattle.bw_types.specs.declared.tree.Tree.{Tree}
 use Rattle.page_layout.specs.TreeValue.{tree_fits}
-use Rattle.page_ports.specs.declared.page.StageFault.TheVariants.{Damaged}
+use Rattle.ports.specs.declared.page.StageFault.TheVariants.{Damaged}
 use Rattle.dom_index.specs.Growth.{tree_growth}
 use Rattle.corner_forest.proofs.Exits.{exit_error}
 use Rattle.corner_forest.proofs.Stages.{changes_then, refused, went_then}

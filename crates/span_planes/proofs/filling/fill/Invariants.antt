@@ -2,7 +2,7 @@ use Rattle.std.proofs.Common.{◌≡◌, ◌+◌, ◌*◌, IsTrue, length}
 use Rattle.std.specs.List.{All}
 use Rattle.bw_types.specs.Depths.{added_pages}
 use Rattle.page_layout.specs.TreeValue.{tree_fits}
-use Rattle.page_ports.specs.Calls.{WentOn}
+use Rattle.ports.specs.Calls.{WentOn}
 use Rattle.span_planes.specs.Filled.{ComeInTurn, FilledTrees, entries_in}
 use Rattle.span_planes.proofs.filling.fill.Given as goal
 

@@ -3,7 +3,7 @@ use Rattle.std.specs.List.{All}
 use Rattle.bw_types.specs.Fits.{IsInRange}
 use Rattle.bw_types.specs.History.{History}
 use Rattle.bw_types.specs.declared.params.Params.{Params}
-use Rattle.history_list.specs.declared.event.Event.{Event}
+use Rattle.page_warehouse.specs.declared.event.Event.{Event}
 use Rattle.page_disk.specs.Image.{Image}
 use Rattle.page_disk.specs.SinceLaws.{LeavesOnly-same}
 use Rattle.page_space.specs.Shown.{IsInOrder, disk_of, map_of, meta_of, params_of}

@@ -1,6 +1,6 @@
 use Rattle.std.proofs.Common.{◌≡◌, ◌≤◌, sym, ◌∙◌, ap, subst}
 use Rattle.std.specs.Bool.{MatchBool}
-use Rattle.counts.specs.Count.{Rose}
+use Rattle.ports.specs.Count.{Rose}
 use Rattle.page_disk.specs.Since.{LeavesOnly}
 use Rattle.page_space.specs.Faults.{is_disk}
 use Rattle.page_space.specs.declared.refusal.OpenFault.{OpenFault}

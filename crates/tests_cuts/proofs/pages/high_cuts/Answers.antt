@@ -3,7 +3,7 @@ use Rattle.bw_types.specs.Empty.{empty_tree}
 use Rattle.page_layout.specs.CutPage.{entry_count}
 use Rattle.page_layout.specs.declared.cut_page.CutNode.{CutNode}
 use Rattle.page_layout.specs.declared.cut_page.CutNode.TheVariants.{Entry, Cut}
-use Rattle.cut_pages.specs.Nodes.{AreNodes}
+use Rattle.cut_parts.specs.Nodes.{AreNodes}
 use Rattle.tests_cuts.proofs.ByHand.{cut_keeps, entry_keeps, nodes_by_hand}
 use Rattle.tests_cuts.proofs.pages.high_cuts.Goals as goal
 

@@ -2,7 +2,7 @@ use Rattle.std.proofs.Common.{◌*◌, ◌<◌, ◌≤◌, ◌^◌, ℕ, rules, 
 use Rattle.std.proofs.lemmas.List.Sorted.{All-permutation, IsNonDecreasingBy-from_sort_by_key, IsPermutation-sym, length_permutation}
 use Rattle.std.proofs.lemmas.Result.{IfOk-weaker}
 use Rattle.bw_types.specs.declared.point.Point.{Point}
-use Rattle.page_ports.specs.Calls.{Grows}
+use Rattle.ports.specs.Calls.{Grows}
 use Rattle.ba_tree.proofs.key_tree.KeyTreeBorderTree.build.Goals as goal
 
 pub mv_build-requires-clause-few : goal.mv_build-requires-clause-few

@@ -1,7 +1,7 @@
 use Rattle.std.proofs.Common.{Err, Ok, refl, ap, inl, inr, sym, subst, ℕ}
 use Rattle.std.proofs.lemmas.Result.{err_from_is_err_and}
-use Rattle.page_ports.specs.Calls.{Changes}
-use Rattle.page_ports.specs.declared.page.StageFault.TheVariants.{Damaged}
+use Rattle.ports.specs.Calls.{Changes}
+use Rattle.ports.specs.declared.page.StageFault.TheVariants.{Damaged}
 use Rattle.dom_index.proofs.Exits.{exit_error}
 use Rattle.dom_index.proofs.FirstPages.{not_missing}
 use Rattle.dom_index.proofs.Outcomes.{changes_to_end, changes_to_refusal}

@@ -1,6 +1,6 @@
 use Rattle.std.proofs.Common.{◌≡◌, IsTrue, ap, arith, refl, rules}
 use Rattle.std.proofs.lemmas.Result.{err_from_is_err_and}
-use Rattle.page_ports.specs.Pages.{blank_bytes}
+use Rattle.ports.specs.Pages.{blank_bytes}
 use Rattle.page_layout.specs.declared.meta.Meta.{Meta}
 use Rattle.redo_journal.specs.Images.{image_map}
 use Rattle.redo_journal.specs.Placing.{placed_at}

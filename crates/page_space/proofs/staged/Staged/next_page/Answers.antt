@@ -1,6 +1,6 @@
 use Rattle.std.proofs.Common.{[], Err, ap, ◌∙◌, arith}
 use Rattle.std.proofs.lemmas.Result.{err_from_is_err_and}
-use Rattle.page_ports.specs.Pages.{blank_bytes}
+use Rattle.ports.specs.Pages.{blank_bytes}
 use Rattle.page_space.specs.Bytes.{bytes_with}
 use Rattle.page_space.specs.ChainLaws.{order_taken}
 use Rattle.page_space.specs.Shown.{staged_bytes}

@@ -6,7 +6,7 @@ use Rattle.bw_types.specs.Lawful.{IsLawfulBatch}
 use Rattle.bw_types.specs.Refusals.{first_refusal, total_mass}
 use Rattle.bw_types.specs.declared.params.Params.{Params}
 use Rattle.bw_types.specs.declared.refusal.Refusal.{Refusal}
-use Rattle.counts.specs.Count.{Rose}
+use Rattle.ports.specs.Count.{Rose}
 use Rattle.page_disk.specs.Image.{Image, PageList}
 use Rattle.page_disk.specs.Moment.{Moment, MayBeLeftNow}
 use Rattle.page_disk.specs.Since.{LeavesNow, LeavesOnly}

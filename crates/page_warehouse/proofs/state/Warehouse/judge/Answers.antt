@@ -5,7 +5,7 @@ use Rattle.bw_types.specs.History.{History, flat}
 use Rattle.bw_types.specs.Refusals.{first_refusal, total_mass}
 use Rattle.bw_types.specs.declared.params.Params.{Params}
 use Rattle.bw_types.specs.declared.refusal.Refusal.{Refusal}
-use Rattle.change_laws.specs.Ids.{life_told}
+use Rattle.page_warehouse.specs.Ids.{life_told}
 use Rattle.object_table.specs.Lives.{last_life, table_lives}
 use Rattle.page_layout.specs.declared.meta.Meta.{Meta}
 use Rattle.page_space.specs.Shown.{IsInOrder, disk_of, map_of, meta_of, params_of}

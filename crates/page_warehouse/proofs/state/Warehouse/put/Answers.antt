@@ -8,18 +8,18 @@ use Rattle.bw_types.specs.declared.params.Params.{Params}
 use Rattle.page_disk.specs.Image.{Image}
 use Rattle.page_disk.specs.Since.{LeavesOnly}
 use Rattle.page_layout.specs.declared.meta.Meta.{Meta}
-use Rattle.page_ports.specs.Pages.{PageMap}
+use Rattle.ports.specs.Pages.{PageMap}
 use Rattle.page_space.specs.Begun.{Begun, OrderedUnder, map_under}
 use Rattle.page_space.specs.Shown.{IsInOrder, IsStagedInOrder, base_of, begun_of, disk_of, disk_under, map_of, meta_of, params_of, staged_map, staged_meta}
 use Rattle.page_space.specs.Space.{HoldsSpace}
 use Rattle.page_space.specs.declared.space.Space.{Space}
-use Rattle.page_ports.specs.declared.page.StageFault.{StageFault}
-use Rattle.page_ports.specs.declared.page.StageFault.TheVariants as fault
+use Rattle.ports.specs.declared.page.StageFault.{StageFault}
+use Rattle.ports.specs.declared.page.StageFault.TheVariants as fault
 use Rattle.bw_types.specs.declared.tree.Tree.{Tree}
 use Rattle.redo_journal.specs.Settled.{SettlesTo}
 use Rattle.corner_forest.specs.Entries.{root_count}
 use Rattle.corner_forest.specs.Enters.{first_pages}
-use Rattle.change_laws.specs.Begun.{with_changes}
+use Rattle.page_warehouse.specs.Begun.{with_changes}
 use Rattle.page_warehouse.specs.Entering.{FormKeeps}
 use Rattle.page_warehouse.specs.Holds.{Holds}
 use Rattle.page_warehouse.specs.Needs.{LacksPagesIn, StayOnePage, batch_need, changes_need, meta_charge}

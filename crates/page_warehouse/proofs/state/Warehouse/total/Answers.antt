@@ -3,7 +3,7 @@ use Rattle.bw_types.specs.Answers.{sum_at, count_at, integral_at}
 use Rattle.bw_types.specs.declared.query.Kind.TheVariants.{Sum, Count, Integral}
 use Rattle.corner_forest.specs.Answers.{count_of, sum_of}
 use Rattle.history_laws.specs.Entries.{history_entries}
-use Rattle.poly_moments.specs.PlaneSums.{integral_at as entered_integral_at}
+use Rattle.corner_weights.specs.PlaneSums.{integral_at as entered_integral_at}
 use Rattle.page_space.specs.Shown.{disk_of, map_of, meta_of, params_of, IsInOrder}
 use Rattle.page_warehouse.proofs.Answered.{integral_given}
 use Rattle.page_warehouse.proofs.Opened.{trees_here}

@@ -1,5 +1,5 @@
 use Rattle.std.proofs.Common.{◌≡◌, ◌∙◌, ℕ, List, ◌++◌, ap, subst, true, Err}
-use Rattle.byte_ports.specs.Written.{WritesPart}
+use Rattle.ports.specs.Written.{WritesPart}
 use Rattle.row_machine.proofs.Going.{input_passes}
 use Rattle.row_machine.proofs.LineAfterLine.{AnswerLaws, answering_ends, answering_first, answering_on, answering_put, answering_sound, answering_stops}
 use Rattle.row_machine.proofs.Served.{LineLaws}

@@ -1,5 +1,5 @@
 use Rattle.std.proofs.Common.{ℕ, List, subst}
-use Rattle.byte_ports.specs.Written.{WritesPart}
+use Rattle.ports.specs.Written.{WritesPart}
 use Rattle.row_machine.proofs.Parts.{writes_front}
 use Rattle.row_machine.proofs.outbox.Outbox.put.Goals as goal
 

@@ -2,7 +2,7 @@ use Rattle.std.proofs.Common.{◌≡◌, Err, to_z, of_z, rules, ap, sym, ◌∙
 use Rattle.std.proofs.lemmas.Result.{err_from_is_err_and}
 use Rattle.std.specs.Int.{w128}
 use Rattle.bw_types.specs.Residues.{residue}
-use Rattle.page_ports.specs.declared.page.PageFault.TheVariants.{Damaged}
+use Rattle.ports.specs.declared.page.PageFault.TheVariants.{Damaged}
 use Rattle.span_planes.proofs.OpenSpans.{few_events}
 use Rattle.span_planes.proofs.SameSpans.{still_holds}
 use Rattle.span_planes.proofs.SpanReads.{exit_error}

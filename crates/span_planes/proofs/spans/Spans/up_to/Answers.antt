@@ -4,7 +4,7 @@ use Rattle.bw_types.specs.Fits.{ends_fit}
 use Rattle.bw_types.specs.History.{changes}
 use Rattle.bw_types.specs.declared.params.Params.{Params}
 use Rattle.history_laws.specs.Entries.{history_entries}
-use Rattle.page_ports.specs.declared.page.PageFault.TheVariants.{Damaged}
+use Rattle.ports.specs.declared.page.PageFault.TheVariants.{Damaged}
 use Rattle.page_space.specs.Shown.{map_of}
 use Rattle.span_planes.specs.Shown.{space_in}
 use Rattle.span_planes.specs.SpanHolds.{without_degree}

@@ -1,7 +1,0 @@
-use Rattle.std.proofs.Common.{◌≡◌, true}
-use Rattle.bw_types.specs.Tally.{each_below}
-use Rattle.box_corners.specs.Corners.{has_bound}
-use Rattle.box_corners.proofs.corners.meet_corner.Given as goal
-
-abbrev pub invariant-loop-i : goal.invariant-loop-i
-invariant-loop-i l = each_below l.i (has_bound l.query l.subset) ≡ true

@@ -1,4 +1,0 @@
-pub mod Begun
-pub mod Growth
-pub mod Ids
-pub mod Next

@@ -1,0 +1,15 @@
+mod Bounds
+mod Digits
+mod Capped
+mod Steps
+mod Signed
+mod Whole
+mod ListSums
+mod OneDimension
+mod SubsetSums
+mod ObjectLaw
+mod ResidueSums
+mod ListLaw
+mod CornerSums
+mod BelowCorner
+mod CornerDifferences

@@ -1,0 +1,13 @@
+pub mod Planes
+pub mod Integrals
+pub mod PlaneSums
+pub mod Powers
+pub mod Subsets
+pub mod Sums
+pub mod Corners
+pub mod Meeting
+pub mod Expansion
+pub mod SumLaws
+pub mod MeetingLaws
+pub mod Entries
+pub mod EntryLaws

@@ -1,5 +1,0 @@
-use Rattle.std.proofs.Common.{length}
-use Rattle.cut_build.proofs.sides.+after_part.Given as goal
-
-abbrev pub decreases-after_part : goal.decreases-after_part
-decreases-after_part l = length l.nodes.now

@@ -1,4 +1,0 @@
-pub mod Cuts
-pub mod Walks
-pub mod InOrder
-pub mod WholeParts

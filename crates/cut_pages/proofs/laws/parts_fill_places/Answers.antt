@@ -1,8 +1,0 @@
-use Rattle.cut_pages.proofs.Places.{after_part, fills_place}
-use Rattle.cut_pages.proofs.laws.parts_fill_places.Goals as goal
-
-pub returns-clause-filled : goal.returns-clause-filled
-returns-clause-filled c = fills_place
-
-pub returns-clause-skipped : goal.returns-clause-skipped
-returns-clause-skipped c = after_part

@@ -1,5 +1,0 @@
-use Rattle.std.proofs.Common.{length}
-use Rattle.cut_pages.proofs.searching.+region_in.Given as goal
-
-abbrev pub decreases-region_in : goal.decreases-region_in
-decreases-region_in l = length l.nodes.now

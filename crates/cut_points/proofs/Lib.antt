@@ -1,4 +1,0 @@
-pub mod Ordering
-pub mod Apart
-pub mod Spreads
-pub mod Halving

@@ -1,4 +1,0 @@
-pub mod Sums
-pub mod Costs
-pub mod Damaging
-pub mod Keys

@@ -1,5 +1,0 @@
-pub mod Events
-pub mod Batches
-pub mod Faults
-pub mod Numbering
-pub mod Told

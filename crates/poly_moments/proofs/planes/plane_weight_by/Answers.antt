@@ -1,9 +1,0 @@
-use Rattle.std.proofs.Common.{refl}
-use Rattle.box_corners.specs.Corners.{object_corner}
-use Rattle.poly_moments.proofs.Signed.{plane_weight_is}
-use Rattle.poly_moments.proofs.planes.plane_weight_by.Goals as goal
-
-pub returns : goal.returns
-returns c =
-    plane_weight_is c.args.params.now c.args.object.now c.in-Some.degree c.args.subset c.args.plane (object_corner c.args.object.now c.args.subset) c.from.result c.corner_sum.result c.sign.result
-    c.in-Some.is refl c.from.ensures c.corner_sum.ensures c.sign.ensures

@@ -1,4 +1,0 @@
-pub mod Planes
-pub mod Integrals
-pub mod PlaneSums
-pub mod Powers

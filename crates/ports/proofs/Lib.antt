@@ -1,0 +1,2 @@
+mod Forgotten
+pub mod Known

@@ -1,0 +1,15 @@
+pub mod Calls
+pub mod Chain
+pub mod Failing
+pub mod Faults
+pub mod Frame
+pub mod FrameLaws
+pub mod Kept
+pub mod KeptLaws
+pub mod MemStage
+pub mod Pages
+pub mod Spare
+pub mod SpareLaws
+pub mod Memory
+pub mod Written
+pub mod Count

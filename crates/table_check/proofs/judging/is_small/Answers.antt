@@ -1,5 +1,0 @@
-use Rattle.std.specs.Int.Signed.{nat_abs-le}
-use Rattle.table_check.proofs.judging.is_small.Goals as goal
-
-pub returns : goal.returns
-returns c = nat_abs-le c.args.weight c.ranges.weight.sfits

@@ -1,7 +1,0 @@
-use Rattle.std.proofs.Common.{map, take}
-use Rattle.history_list.specs.Events.{numbered_in}
-use Rattle.table_check.specs.Rebuilding.{CountsAdds}
-use Rattle.table_check.proofs.lives.add_counts.Given as goal
-
-abbrev pub invariant-loop-event : goal.invariant-loop-event
-invariant-loop-event l = CountsAdds l.counts (map numbered_in (take l.event-index l.events))

@@ -1,7 +1,0 @@
-pub mod Keeping
-pub mod Passing
-pub mod Reading
-pub mod Telling
-pub mod Fitting
-pub mod Rebuilding
-pub mod Judging
