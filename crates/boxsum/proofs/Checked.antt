@@ -1,5 +1,5 @@
 -- How a check ends, by what it found, and where there is no memory to read the words.
-use Rattle.std.proofs.Common.{◌≡◌, ◌≢◌, ◌⊎◌, ℕ, true, IsTrue, List, length, Result, Ok, Err, inl, inr, refl, sym, ◌∙◌, ap, subst}
+use Rattle.std.proofs.Common.{◌≡◌, ◌≢◌, ◌≤◌, ◌⊎◌, ℕ, true, IsTrue, List, length, Result, Ok, Err, inl, inr, refl, sym, ◌∙◌, ap, subst}
 use Rattle.ports.specs.Count.{Rose}
 use Rattle.bw_types.specs.History.{History, changes, last_version}
 use Rattle.ports.specs.declared.Source.{Ghosts as SourceGhosts}
@@ -29,6 +29,7 @@ module _ {D K X : Type 0} (d : DiskGhosts D) (k : SinkGhosts K) (i : IndexGhosts
     empty = λ told none. inr (inr refl);
     empty_only = λ e. cc;
     says = λ why. elim why [ inl e ↦ cc | inr e ↦ cc ];
+    form = λ why. elim why [ inl e ↦ cc | inr e ↦ cc ];
     silent = λ fine write. refl;
     good = λ params h held why. elim why [ inl e ↦ cc | inr e ↦ cc ];
     complete = λ calm other. inr (inr refl);
@@ -94,6 +95,7 @@ module _ {D K X : Type 0} (d : DiskGhosts D) (k : SinkGhosts K) (i : IndexGhosts
       good = subst (λ (x : Image). IsGood i x version rows) (sym image) (good told);
       line = record { fine = puts.fine; part = puts.part };
     });
+    form = λ why. inl (version, rows, record { fine = puts.fine; part = puts.part });
     silent = still k sink sink' (good_line version rows) s puts;
     good = λ params h held why.
         let found = good held.0 in
@@ -105,10 +107,10 @@ module _ {D K X : Type 0} (d : DiskGhosts D) (k : SinkGhosts K) (i : IndexGhosts
   }
 
   -- A part of it was found to be broken.
-  pub checks_broken : ((x : Image) → BrokenIsNo i x) → (part : ℕ) (s : Status) → PutsLine k sink sink' (broken_line part) s
+  pub checks_broken : ((x : Image) → BrokenIsNo i x) → (part : ℕ) → (1 ≤ part) × (part ≤ 5) → (s : Status) → PutsLine k sink sink' (broken_line part) s
       → (IsTrue (d.tells disk) → is_empty (d.image disk) ≡ true → ⊥) → (IsTrue (d.tells disk) → IsBrokenAt i part (d.image disk))
       → Checks d k i disk sink sink' (record { status = s; disk = after })
-  checks_broken law part s puts full broken = record {
+  checks_broken law part five s puts full broken = record {
     image = image;
     moments = moments;
     empty = λ told none. absurd (full told none);
@@ -118,6 +120,7 @@ module _ {D K X : Type 0} (d : DiskGhosts D) (k : SinkGhosts K) (i : IndexGhosts
       broken = subst (λ (x : Image). IsBrokenAt i part x) (sym image) (broken told);
       line = record { fine = puts.fine; part = puts.part };
     });
+    form = λ why. inr (part, five.0, five.1, record { fine = puts.fine; part = puts.part });
     silent = still k sink sink' (broken_line part) s puts;
     good = λ params h held why. absurd ((law (d.image disk)).no part (broken held.0) (params, h, held.1));
     complete = λ calm other. whole k sink sink' (broken_line part) s puts calm;
@@ -131,6 +134,7 @@ module _ {D K X : Type 0} (d : DiskGhosts D) (k : SinkGhosts K) (i : IndexGhosts
     empty = λ told none. inl refl;
     empty_only = λ e told. empty told;
     says = λ why. elim why [ inl e ↦ cc | inr e ↦ cc ];
+    form = λ why. elim why [ inl e ↦ cc | inr e ↦ cc ];
     silent = λ fine write. refl;
     good = λ params h held why. elim why [ inl e ↦ cc | inr e ↦ cc ];
     complete = λ calm other. inr (inl refl);
@@ -144,6 +148,7 @@ module _ {D K X : Type 0} (d : DiskGhosts D) (k : SinkGhosts K) (i : IndexGhosts
     empty = λ told none. inr (inl refl);
     empty_only = λ e told. cc;
     says = λ why. elim why [ inl e ↦ cc | inr e ↦ cc ];
+    form = λ why. elim why [ inl e ↦ cc | inr e ↦ cc ];
     silent = λ fine write. refl;
     good = λ params h held why. elim why [ inl e ↦ cc | inr e ↦ cc ];
     complete = λ calm other. absurd (other refl);
@@ -157,6 +162,7 @@ module _ {D K X : Type 0} (d : DiskGhosts D) (k : SinkGhosts K) (i : IndexGhosts
     empty = λ told none. inr (inr refl);
     empty_only = λ e told. cc;
     says = λ why. elim why [ inl e ↦ cc | inr e ↦ cc ];
+    form = λ why. elim why [ inl e ↦ cc | inr e ↦ cc ];
     silent = λ fine write. refl;
     good = λ params h held why. elim why [ inl e ↦ cc | inr e ↦ cc ];
     complete = λ calm other. inr (inr refl);

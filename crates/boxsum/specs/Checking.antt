@@ -1,5 +1,5 @@
 -- What `check` prints of a disk on which nothing is known, and that it leaves the disk alone.
-use Rattle.std.specs.Prelude.{◌≡◌, ◌≢◌, ◌⊎◌, ℕ, true, IsTrue, List, ◌++◌, length, codes}
+use Rattle.std.specs.Prelude.{◌≡◌, ◌≢◌, ◌≤◌, ◌⊎◌, ℕ, true, IsTrue, List, ◌++◌, length, codes}
 use Rattle.std.specs.Fmt.{decimal}
 use Rattle.ports.specs.Count.{Rose}
 use Rattle.bw_types.specs.History.{History, changes, last_version}
@@ -41,6 +41,10 @@ module _ {D K X : Type 0} (d : DiskGhosts D) (k : SinkGhosts K) (i : IndexGhosts
     pub broken : IsBrokenAt i part (d.image ran.disk)
     pub line : Prints (broken_line part)
 
+  -- One line was printed, that of a good disk, or that of one of the five parts.
+  abbrev pub HasForm : Type 0
+  HasForm = ((version : ℕ) × (rows : ℕ) × Prints (good_line version rows)) ⊎ ((part : ℕ) × (1 ≤ part) × (part ≤ 5) × Prints (broken_line part))
+
   -- The disk was checked.
   pub record Checks : Type 0 where
     -- Nothing is written to it, and no sync is made.
@@ -52,6 +56,8 @@ module _ {D K X : Type 0} (d : DiskGhosts D) (k : SinkGhosts K) (i : IndexGhosts
     pub empty_only : ran.status ≡ status.NoWarehouse → IsTrue (d.tells disk) → is_empty (d.image disk) ≡ true
     -- One line is printed, and that is right; where the check ends otherwise, nothing is.
     pub says : (ran.status ≡ status.Fine) ⊎ (ran.status ≡ status.WriteFault) → IsTrue (d.tells disk) → SaysGood ⊎ SaysBroken
+    -- It has this form, whatever the disk tells.
+    pub form : (ran.status ≡ status.Fine) ⊎ (ran.status ≡ status.WriteFault) → HasForm
     pub silent : ran.status ≢ status.Fine → ran.status ≢ status.WriteFault → sink' ≡ sink
     -- Of a disk that holds a history its line is printed.
     pub good : (params : Params) (h : History) → HoldsHistory d i true disk params h → (ran.status ≡ status.Fine) ⊎ (ran.status ≡ status.WriteFault)

@@ -1,12 +1,13 @@
 //! The check of a disk, part by part.
-ghost use Rattle.std.specs.Prelude.{◌≡◌, ◌⊎◌, ◌↔◌, ℕ, true, Ok, Err, IsTrue};
+ghost use Rattle.std.specs.Prelude.{◌≡◌, ◌≤◌, ◌⊎◌, ◌↔◌, ℕ, true, Ok, Err, IsTrue};
 ghost use Rattle.std.specs.List.{All};
 ghost use Rattle.bw_types.specs.Fits.{IsInRange};
-ghost use Rattle.redo_journal.specs.Gates.{is_empty};
+ghost use Rattle.redo_journal.specs.Gates.{gate_of, is_empty};
+ghost use Rattle.redo_journal.specs.declared.gate.Gate.TheVariants.{Armed};
 ghost use Rattle.settled_pages.specs.Looked.{disk_of, looked_at, meta_of, params_of};
 ghost use Rattle.page_warehouse.specs.Holds.{table_form};
 ghost use Rattle.image_check.specs.Looks.{OnlyLooks};
-ghost use Rattle.image_check.specs.Parts.{IsBrokenAt, IsGood};
+ghost use Rattle.image_check.specs.Parts.{HasRoots, IsBrokenAt, IsGood};
 ghost use Rattle.image_check.specs.Shown.{IsShown};
 
 use crate::checked_index::CheckedIndex;
@@ -45,6 +46,11 @@ pub fn check<X: CheckedIndex, D: Disk>(alloc: Global, disk: &mut D) -> Result<Ve
         → (result ≡ Ok Verdict.Empty) ⊎ (result ≡ Err CheckFault.Disk) }
     ensures broken { (part : ℕ) → result ≡ Ok (Verdict.Broken part) → IsTrue (D.tells disk.old)
         → IsBrokenAt X.DomIndex part (D.image disk.old) }
+    // The parts are five, whatever the disk tells.
+    ensures parts { (part : ℕ) → result ≡ Ok (Verdict.Broken part) → (1 ≤ part) × (part ≤ 5) }
+    // Memory is asked for the images of an open journal, and else only once the first two parts are there.
+    ensures no_memory { result ≡ Err CheckFault.NoMemory → IsTrue (D.tells disk.old)
+        → (gate_of (D.image disk.old) ≡ Armed) ⊎ HasRoots (D.image disk.old) }
     ensures looks { OnlyLooks D.Disk disk.old disk.new result }
 {
     holds_one();
@@ -94,6 +100,7 @@ fn check_table<X: CheckedIndex, D: Disk>(
     ensures empty { result ≡ Ok Verdict.Empty → ⊥ }
     ensures broken { (part : ℕ) → result ≡ Ok (Verdict.Broken part) → IsTrue (D.tells (disk_of space.old))
         → IsBrokenAt X.DomIndex part (D.image (disk_of space.old)) }
+    ensures parts { (part : ℕ) → result ≡ Ok (Verdict.Broken part) → (1 ≤ part) × (part ≤ 5) }
     ensures looked { looked_at space.new ≡ looked_at space.old }
     ensures looks { OnlyLooks D.Disk (disk_of space.old) (disk_of space.new) result }
 {

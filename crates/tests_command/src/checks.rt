@@ -133,6 +133,38 @@ fn each_page_in_use_counts(rt: HostRuntime) -> Result<(), Fail> {
     Ok(())
 }
 
+// The page with the last byte of its first point's weight changed: a leaf of points begins with 16 bytes, and a weight ends an entry
+// of 44.
+fn with_another_weight(page: &Page) -> Page {
+    let mut changed = *page;
+    changed[59] ^= 1;
+    changed
+}
+
+#[test]
+fn a_weight_that_is_changed(rt: HostRuntime) -> Result<(), Fail> {
+    let alloc = rt.alloc();
+    let mut disk = many_boxes(alloc)?;
+    let pages = pages_of(alloc, &mut disk, Area::Pages)?;
+    let journal = pages_of(alloc, &mut disk, Area::Journal)?;
+    let mut tried = 0u32;
+    for (place, page) in pages.iter().enumerate() {
+        if page[0] == 5 {
+            let changed = with_page(
+                alloc,
+                pages.as_slice(),
+                journal.as_slice(),
+                place,
+                &with_another_weight(page),
+            )?;
+            assert!(rt; says(alloc, changed, "broken,5\n")?);
+            tried = tried.saturating_add(1);
+        }
+    }
+    assert!(rt; tried > 0);
+    Ok(())
+}
+
 #[test]
 fn an_earlier_table_is_good(rt: HostRuntime) -> Result<(), Fail> {
     let alloc = rt.alloc();

@@ -16,7 +16,8 @@ returns-clause-checks g c = elim c.match-check.branch [
   | in-Ok-Broken w ↦
       subst (λ (t : g.row.K.Denot). Checks g.D.Disk g.K.Sink g.X.DomIndex c.args.disk c.args.sink.now t (record { status = c.match-check.status; disk = c.check.new.disk })) (sym w.sink-is)
       (subst (λ (s : Status). Checks g.D.Disk g.K.Sink g.X.DomIndex c.args.disk c.args.sink.now w.put_broken-status.new.sink (record { status = s; disk = c.check.new.disk })) (sym w.status-is)
-      (checks_broken g.D.Disk g.K.Sink g.X.DomIndex c.args.disk c.check.new.disk c.args.sink.now w.put_broken-status.new.sink c.check.ensures.looks.image c.check.ensures.looks.moments c.verdicts_are_right.ensures.broken w.in-Ok-Broken.part w.put_broken-status.result w.put_broken-status.ensures
+      (checks_broken g.D.Disk g.K.Sink g.X.DomIndex c.args.disk c.check.new.disk c.args.sink.now w.put_broken-status.new.sink c.check.ensures.looks.image c.check.ensures.looks.moments c.verdicts_are_right.ensures.broken w.in-Ok-Broken.part
+      (w.in-Ok-Broken.ensures.parts w.in-Ok-Broken.part (ap Ok w.in-Ok-Broken.field-0-is)) w.put_broken-status.result w.put_broken-status.ensures
       (λ tells none. broken_is_full w.in-Ok-Broken.field-0 w.in-Ok-Broken.part w.in-Ok-Broken.field-0-is (w.in-Ok-Broken.ensures.always_empty tells none))
       (w.in-Ok-Broken.ensures.broken w.in-Ok-Broken.part (ap Ok w.in-Ok-Broken.field-0-is))))
   | in-Ok-Empty w ↦

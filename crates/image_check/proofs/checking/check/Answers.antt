@@ -63,3 +63,17 @@ returns-clause-broken g c = λ part is tells.
     let same : g.D.Disk.image (disk_of c.new-space.result) ≡ g.D.Disk.image c.args.disk.now =
     ap (λ d. g.D.Disk.image d) c.new-space.ensures.disk ∙ c.roots.ensures.reads.image ∙ c.find.ensures.reads.image in
     subst (λ (x : Image). IsBrokenAt g.X.DomIndex part x) same (c.check_table.ensures.broken part is tells_on)
+
+pub returns-in-Err-NoMemory-clause-no_memory : goal.returns-in-Err-NoMemory-clause-no_memory
+returns-in-Err-NoMemory-clause-no_memory g c = λ is tells. inl ((rw c.in-Err-NoMemory.field-0-is at c.in-Err-NoMemory.ensures.no_memory) tells)
+
+pub returns-clause-no_memory : goal.returns-clause-no_memory
+returns-clause-no_memory g c = λ is tells.
+    let tells_on : IsTrue (g.D.Disk.tells c.find.new.disk) = subst IsTrue (sym c.find.ensures.reads.tells) tells in
+    let params : Params = c.in-Ok-Some.roots.0 in
+    let meta : Meta = c.in-Ok-Some.roots.1 in
+    let map : PageMap = pages_in_use (page_at (pages_shown (g.D.Disk.image c.find.new.disk) c.in-Ok.settled)) meta.allotted in
+    let space : HoldsSpace (g.D.Disk.image c.args.disk.now) params meta map ⊥ = subst (λ (y : Image). HoldsSpace y params meta map ⊥) c.find.ensures.reads.image
+    (subst (λ (o : Option (Params × Meta)). IfSome o (λ roots. IsTrue (g.D.Disk.tells c.find.new.disk) → HoldsSpace (g.D.Disk.image c.find.new.disk) roots.0 roots.1
+    (pages_in_use (page_at (pages_shown (g.D.Disk.image c.find.new.disk) c.in-Ok.settled)) roots.1.allotted) ⊥)) c.in-Ok-Some.field-0-is c.in-Ok-Some.ensures.some tells_on) in
+    inr (params, meta, map, record { space = space; roots = sym c.len.ensures.value ∙ c.if-len-root_count.false ∙ c.root_count.ensures.count })
