@@ -3,15 +3,12 @@ ghost use Rattle.std.specs.Prelude.{OnOk};
 ghost use Rattle.page_disk.specs.MemDisk.{image_of};
 ghost use Rattle.page_cache.specs.Cache.{Agrees, kept_pages};
 
+use crate::samples::full;
 use page_cache::Cache;
 use page_disk::{Area, Disk, Failed, MemDisk};
-use ports::{Page, PageFault};
+use ports::PageFault;
 use std::alloc::{AllocError, Global};
 use std::test::Fail;
-
-fn full(byte: u8) -> Page {
-    [byte; 4096]
-}
 
 // A disk of three pages of ones, twos and threes.
 fn three_pages(alloc: Global) -> Result<MemDisk, AllocError> {

@@ -1,13 +1,9 @@
 //! What the fakes and the files do, as the model of a disk says.
+use crate::samples::full;
 use page_disk::{Area, Disk, Failed, FileDisk, MemDisk, PlainDisk, Torn, crash_laws};
-use ports::Page;
 use std::alloc::{AllocError, Global};
 use std::fs;
 use std::test::Fail;
-
-fn full(byte: u8) -> Page {
-    [byte; 4096]
-}
 
 fn append<D: Disk>(disk: &mut D, area: Area, byte: u8) -> Result<u64, Failed> {
     let page = disk.len(area)?;

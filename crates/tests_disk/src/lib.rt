@@ -10,6 +10,8 @@ mod files;
 #[cfg(test)]
 mod journal;
 #[cfg(test)]
+mod samples;
+#[cfg(test)]
 mod settled;
 #[cfg(test)]
 mod space;

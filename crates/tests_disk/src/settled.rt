@@ -1,12 +1,11 @@
 //! Disks that are read and then opened, on a recording disk.
 ghost use Rattle.std.specs.Prelude.{◌≡◌, ◌≤◌, IsTrue, length};
 ghost use Rattle.page_disk.specs.MemDisk.{image_of};
-ghost use Rattle.page_layout.specs.Meta.{IsMeta};
-ghost use Rattle.page_space.specs.MetaSet.{FitsBesideCounts};
 ghost use Rattle.settled_pages.specs.Shown.{Finds, pages_shown};
 
+use crate::samples::{SEVENS, first_meta};
 use arrayvec::ArrayVec;
-use bw_types::{Params, Tree};
+use bw_types::Params;
 use page_disk::{Area, Disk, Failed, MemDisk, Torn};
 use page_layout::{FreePage, JournalHead, Meta, Spelled, Super};
 use page_space::{OpenFault, Space};
@@ -24,26 +23,7 @@ const PARAMS: Params = Params {
     origin: 0,
 };
 
-const SEVENS: Page = [7; 4096];
-
 const KINDS: [Torn; 3] = [Torn::Lost, Torn::Landed, Torn::Filled(255)];
-
-fn first_meta() -> Meta
-    ensures rules { IsMeta result }
-    ensures fits { FitsBesideCounts result }
-{
-    Meta {
-        lives: 1,
-        version: 0,
-        events: 0,
-        rows: 0,
-        allotted: 3,
-        free: 0,
-        mass: 0,
-        table: Tree::default(),
-        roots: ArrayVec::new(),
-    }
-}
 
 fn meta_of(allotted: u64, free: u64) -> Meta {
     Meta {

@@ -1,13 +1,11 @@
 //! Spaces on a recording disk, and a create and a commit that are stopped after each call.
 ghost use Rattle.std.specs.Prelude.{◌≡◌, IfOk};
-ghost use Rattle.page_layout.specs.Meta.{IsMeta};
-ghost use Rattle.page_space.specs.MetaSet.{FitsBesideCounts};
 ghost use Rattle.page_space.specs.Shown.{IsMetaSet};
 
-use arrayvec::ArrayVec;
-use bw_types::{Params, Tree};
+use crate::samples::{SEVENS, first_meta};
+use bw_types::Params;
 use page_disk::{Area, Disk, Failed, MemDisk, Torn};
-use page_layout::{Meta, Spelled, Super};
+use page_layout::{Spelled, Super};
 use page_space::{
     OpenFault, OpenRefused, Space, Staged, chain_is_free, created_holds, held_opens, holds_one,
 };
@@ -24,8 +22,6 @@ const PARAMS: Params = Params {
     origin: 0,
 };
 
-const SEVENS: Page = [7; 4096];
-
 const KINDS: [Torn; 5] = [
     Torn::Lost,
     Torn::Landed,
@@ -33,23 +29,6 @@ const KINDS: [Torn; 5] = [
     Torn::Filled(1),
     Torn::Filled(255),
 ];
-
-fn first_meta() -> Meta
-    ensures rules { IsMeta result }
-    ensures fits { FitsBesideCounts result }
-{
-    Meta {
-        lives: 1,
-        version: 0,
-        events: 0,
-        rows: 0,
-        allotted: 3,
-        free: 0,
-        mass: 0,
-        table: Tree::default(),
-        roots: ArrayVec::new(),
-    }
-}
 
 // A disk on which a space was made, which stopped after so many calls, and whether that was done.
 fn made(alloc: Global, calls: u64) -> (MemDisk, bool) {

@@ -20,4 +20,6 @@ mod spans;
 #[cfg(test)]
 mod stopped;
 #[cfg(test)]
+mod stored;
+#[cfg(test)]
 mod streams;

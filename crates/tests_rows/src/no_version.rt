@@ -1,8 +1,9 @@
 //! Derivations to disks that hold spans of no version, made by hand.
 ghost use Rattle.bw_types.specs.Fits.{IsInRange};
 
-use crate::spans::{LINE, asked, made, two_versions};
+use crate::spans::{LINE, asked, two_versions};
 use crate::stopped::pages_on;
+use crate::stored::made;
 use arrayvec::ArrayVec;
 use bw_types::{Params, Tree};
 use dom_index::PointList;

@@ -1,7 +1,8 @@
 //! Random histories, whose spans are set beside a sum over versions and objects, one after the other.
 ghost use Rattle.bw_types.specs.Fits.{IsInRange};
 
-use crate::spans::{Stored, asked_in, made, put, spans_of};
+use crate::spans::{asked_in, spans_of};
+use crate::stored::{Stored, made, put};
 use bw_types::{Kind, Object, Params, Query, Row, query_fits};
 use page_disk::PlainDisk;
 use std::alloc::{AllocError, Global};
